@@ -11,7 +11,7 @@ from pathlib import Path
 from typing import Iterator, List, Tuple
 
 import encapsulated
-from failing import EXAMPLES, PROGRAM, SECONDS
+from failing import EXAMPLES, PROGRAM, SECONDS, THIRD_LAYOUT
 from keyed import keyed
 from rows import FOLDER, TOUR, TOUR_WORDS
 
@@ -84,9 +84,8 @@ def damaged(checkpoint: bytes) -> Iterator[Tuple[str, bytes, Tuple[str, ...]]]:
         words = next((words for end, words in FIRST_REFUSALS if at < end), ("state", "length", ""))
         yield f"octet {at}", wrong, words
         yield f"the first {at} octets", checkpoint[:at], ("length",) if at < 96 else ("length", "state")
-    third = 6  # the layout with a signature file of version 3; of the others 2 may be gone on from
-    for layout in sorted({1, 2, 3, 4, 5, third, 7} - {checkpoint[11]}):
-        word = "state" if layout == 2 and checkpoint[11] != third else "version"
+    for layout in sorted({*range(1, THIRD_LAYOUT + 2)} - {checkpoint[11]}):
+        word = "state" if layout == 2 and checkpoint[11] != THIRD_LAYOUT else "version"
         yield f"layout {layout}", checkpoint[:11] + bytes([layout]) + checkpoint[12:], (word,)
     for most in (0, 4097):
         yield f"room for {most}", checkpoint[:80] + most.to_bytes(4, "big") + checkpoint[84:], ("state",)

@@ -1,5 +1,5 @@
-"""Requests whose body is an any or a TypeCode, made by a seed: of types that the file has and of others, in each other, and
-described in both byte orders. The file, DESCRIBED, is of version 3."""
+"""Requests of all versions with an any, a TypeCode or wide text, made by a seed: of types that the file has and of others, in
+each other, and described in both byte orders. The file, DESCRIBED, is of version 3."""
 
 from __future__ import annotations
 
@@ -20,14 +20,16 @@ struct One "IDL:One:1.0" {{ short x; }};
 struct Two "{LONG_ID}Two:1.0" {{ longlong first; string second; }};
 struct Deep "{LONG_ID}{LONG_ID[4:]}Deep:1.0" {{ One one; Two two; any more; sequence<One, 2> ones; }};
 union Either "{LONG_ID}Either{"r" * 40}:1.0" switch (Colour) {{ case red: long n; default: any value; }};
+struct Wide "IDL:Wide:1.0" {{ octet n; wstring text; wchar mark; }};
 operation void push(in any v);
 operation void typ(in TypeCode t, in octet o);
 operation void both(in octet a, in Deep d, in any v, in octet z);
 operation void held(in encapsulation<any> e, in octet z);
+operation void text(in octet a, in wchar c, in Wide w, in sequence<wstring<2>> s, in encapsulation<wchar> e, in octet z);
 """
 ID = {
     "Colour": "IDL:Colour:1.0", "One": "IDL:One:1.0", "Two": f"{LONG_ID}Two:1.0",
-    "Deep": f"{LONG_ID}{LONG_ID[4:]}Deep:1.0", "Either": f"{LONG_ID}Either{'r' * 40}:1.0",
+    "Deep": f"{LONG_ID}{LONG_ID[4:]}Deep:1.0", "Either": f"{LONG_ID}Either{'r' * 40}:1.0", "Wide": "IDL:Wide:1.0",
 }  # fmt: skip
 KINDS = {
     "null": 0, "void": 1, "short": 2, "long": 3, "ushort": 4, "ulong": 5, "float": 6, "double": 7, "boolean": 8,
@@ -71,7 +73,8 @@ DEEP = Named(
     STRUCT, ID["Deep"], (("one", ONE), ("two", TWO), ("more", Simple("any")), ("ones", Around(SEQUENCE, ONE, 2)))
 )
 EITHER = Named(UNION, ID["Either"], (("n", Simple("long")), ("value", Simple("any"))))
-KNOWN: Sequence[Described] = (COLOUR, ONE, TWO, DEEP, EITHER)
+WIDE = Named(STRUCT, ID["Wide"], (("n", Simple("octet")), ("text", Simple("wstring")), ("mark", Simple("wchar"))))
+KNOWN: Sequence[Described] = (COLOUR, ONE, TWO, DEEP, EITHER, WIDE)
 
 
 class Draw:
@@ -191,15 +194,27 @@ class Draw:
             into.put((word, draw.choice((0, 1, 7))))
         elif word == "Object":
             into.put(("string", ""), ("ulong", 0))
+        elif word in ("wchar", "wstring"):
+            into.put((word, b"w" * draw.choice((0, 1, 4, 32, 33))))
         elif word not in ("null", "void"):
-            into.sequence(b"wide")
+            into.sequence(b"more")
 
 
-def payload(draw: Draw, order: Order) -> bytes:
-    """What follows the header of a Request of 1.2."""
-    operation = draw.random.choice(("push", "push", "push", "typ", "both", "held"))
-    values = Values(order).request(5, operation, b"k")
-    values.align(8)
+def headed(order: Order, minor: int, operation: str) -> Values:
+    """The header of a Request, with the padding after it."""
+    if minor == 2:
+        values = Values(order).request(5, operation, b"k")
+        values.align(8)
+        return values
+    values = Values(order).put(("ulong", 0), ("ulong", 5), ("boolean", True))
+    values.octets += bytes(3 * minor)
+    return values.put(("octets", b"k"), ("string", operation), ("octets", b""))
+
+
+def payload(draw: Draw, order: Order, minor: int) -> bytes:
+    """What follows a message's header."""
+    operation = draw.random.choice(("push", "push", "push", "typ", "both", "held", "text"))
+    values = headed(order, minor, operation)
     if operation == "push":
         draw.any(values, 0)
     elif operation == "typ":
@@ -210,6 +225,12 @@ def payload(draw: Draw, order: Order) -> bytes:
         draw.value(values, DEEP, 1)
         draw.any(values, 0)
         values.put(("octet", 2))
+    elif operation == "text":
+        values.put(("octet", 1), ("wchar", b"cc"))
+        draw.value(values, WIDE, 1)
+        values.put(("ulong", 2), ("wstring", b""), ("wstring", b"longer"))
+        values.encapsulation(draw.inner().put(("wchar", b"c" * draw.random.choice((0, 2, 33)))))
+        values.put(("octet", 2))
     else:
         inner = draw.inner()
         draw.any(inner, 1)
@@ -219,8 +240,12 @@ def payload(draw: Draw, order: Order) -> bytes:
 
 
 def messages(count: int) -> List[bytes]:
-    """As many requests, by the seeds from 0."""
-    return [message(ORDERS[seed % 2], REQUEST, payload(Draw(seed), ORDERS[seed % 2])) for seed in range(count)]
+    """As many requests, by the seeds from 0: two in three of 1.2."""
+    made = []
+    for seed in range(count):
+        order, minor = ORDERS[seed % 2], (2, 2, 2, 2, 1, 0)[seed % 6]
+        made.append(message(order, REQUEST, payload(Draw(seed), order, minor), minor))
+    return made
 
 
 if __name__ == "__main__":

@@ -16,7 +16,7 @@ from reference.encoding import FRAGMENT, ORDERS, REPLY, REQUEST, Value, Values, 
 INTERFACES = ("IDL:shop.example/Shop/Orders:1.0", "IDL:A:1.0", "IDL:B:1.0", "of{1};//*", "i", "I" * 128)
 NAMES = ("get", "put", "_get_level", "n" * 128)
 OTHERS = ("none", "", "get it", "n" * 129)  # no operation of the file
-TYPES = ("octet", "boolean", "ulong", "ulonglong", "string", "sequence<octet>", "string<3>")
+TYPES = ("octet", "boolean", "ulong", "ulonglong", "string", "sequence<octet>", "string<3>", "wchar", "wstring<3>")
 LENGTHS = (1, 1, 2, 3, 31, 32, 33, 63, 64)  # of keys
 MOST_KEY = 64  # octets of one in a signature file
 LONGER = (1, 1, 2, 31, 64, 127, 128, 129, 130, 161, 200)  # of keys that begin as another
@@ -121,6 +121,8 @@ class Draw:
         draw = self.random
         if kind.startswith("string"):
             return "string", "s" * draw.choice((0, 1, 2, 33))
+        if kind.startswith("w"):
+            return kind, b"w" * draw.choice((0, 1, 32, 33))
         if kind == "sequence<octet>":
             return "octets", b"o" * draw.choice((0, 1, 32, 33))
         return kind, draw.randrange(2) if kind in ("octet", "boolean") else draw.randrange(1 << 16)

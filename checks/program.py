@@ -16,7 +16,7 @@ from dataclasses import dataclass
 from pathlib import Path
 from typing import Dict, List, Optional, Tuple
 
-from failing import EXAMPLES, GIOPCAP, PROGRAM, SECONDS
+from failing import EXAMPLES, GIOPCAP, PROGRAM, SECONDS, THIRD_LAYOUT
 
 LAB = "signatures 1;\noperation void set(in long v);\noperation long ask(in long a, out octet b);\n"
 
@@ -234,7 +234,7 @@ STEPS = [
     Case("--types third.sig --resume third.check", "set3.giop", lines=SET_3),
     Case("--types lab.sig --resume third.check", "set3.giop", 3, "third.check: checkpoint refused: version"),
     Case("--types third.sig --resume part.check", "set3.giop", 3, "part.check: checkpoint refused: version"),
-    Case("--types third.sig --save types.check", "empty.txt", saved="types.check", octets=fixed(version=6, counts=(0, 2, 0, 0))),
+    Case("--types third.sig --save types.check", "empty.txt", saved="types.check", octets=fixed(version=THIRD_LAYOUT, counts=(0, 2, 0, 0))),
     Case("--resume empty.txt", "empty.txt", 3, "empty.txt: checkpoint refused: length"),
     Case("--resume long.check", "empty.txt", 3, "long.check: checkpoint refused: length"),
     Case("--resume magic.check", "empty.txt", 3, "magic.check: checkpoint refused: magic"),
@@ -289,9 +289,9 @@ WORDS = [
     Case("--save counted.check --signatures lab.sig --requests lab.req", "empty.txt", saved="counted.check",
          octets=fixed(counts=(0, 2, 0, 1))),
     Case("--signatures naming.sig --save naming.check", "empty.txt", saved="naming.check", octets=fixed(counts=(4, 18, 6, 0))),
-    Case("--types event.sig --save event.check", "empty.txt", saved="event.check", octets=fixed(version=6, counts=(2, 9, 1, 0))),
+    Case("--types event.sig --save event.check", "empty.txt", saved="event.check", octets=fixed(version=THIRD_LAYOUT, counts=(2, 9, 1, 0))),
     Case("--types notification.sig --save notification.check", "empty.txt", saved="notification.check",
-         octets=fixed(version=6, counts=(18, 122, 21, 0))),
+         octets=fixed(version=THIRD_LAYOUT, counts=(18, 122, 21, 0))),
     Case("--open 1 --save one.check", "empty.txt", saved="one.check", octets=fixed(most="00000001 ffffffff")),
     Case("empty.txt --open=4096 --save many.check", saved="many.check", octets=fixed(most="00001000 ffffffff")),
     Case("--resume one.check --open 2 --save one.check", "empty.txt", saved="one.check", octets=fixed(most="00000001 ffffffff")),

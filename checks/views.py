@@ -131,7 +131,7 @@ def values_of(lines: Sequence[str]) -> List[Leaf]:
         path, kind, text = [*(line if not line.startswith("rest ") else "rest " + line).split(" ", 2), ""][:3]
         if kind in ("count", "encapsulation", "order"):
             continue
-        if kind in ("string", "octets", "rest"):
+        if kind in ("string", "octets", "wstring", "wchar", "rest"):
             offset, _, piece = text.partition(" ")
             piece = piece[:-5] if piece.endswith(" more") else "" if piece == "more" else piece
             piece = piece[1:-1] if kind == "string" else piece

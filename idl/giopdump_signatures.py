@@ -9,7 +9,7 @@ shown as rest, never as wrong values. What has no type at all is left out. Comme
 error what is whole, what is by half and what is left out.
 
 -Wbonly=Module::Interface takes one interface and what it inherits; it may be given more than once.
--Wbversion=1 and -Wbversion=2 write a file of that version of the language, which has no form for an any.
+-Wbversion=1 and -Wbversion=2 write a file of that version of the language, which has no form for an any or wide text.
 
 The work is done in three steps, in the modules of `giopdump_idl`: `Translator` turns omniidl's declarations into the
 types of `model` or refuses them, `Selection` decides which operations and exceptions are written, and `Sheet` names the
@@ -38,7 +38,7 @@ VERSIONS = ("1", "2", "3")  # of the signature language
 
 WORDS = """\
   -Wbonly=<Module::Interface>  Write one interface and what it inherits (may be given more than once)
-  -Wbversion=<1, 2 or 3>       Write this version of the language (3 if it isn't given; any and TypeCode want it)"""
+  -Wbversion=<1, 2 or 3>       Write this version of the language (3 if it isn't given; any, TypeCode and wide text want it)"""
 usage_string = f"{PROGRAM} {VERSION}\n\n{WORDS}"  # what omniidl -u prints
 
 

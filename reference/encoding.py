@@ -58,7 +58,9 @@ class Values:
     def put(self, *values: Tuple[str, Value]) -> Values:
         """Values by the words of a signature file, or `octets`; a str is a string but for a `char`."""
         for word, value in values:
-            if isinstance(value, bytes):
+            if isinstance(value, bytes) and word == "wchar":
+                self.octets += bytes([len(value)]) + value
+            elif isinstance(value, bytes):
                 self.sequence(value)
             elif isinstance(value, str) and word == "string":
                 self.string(value)

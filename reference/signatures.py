@@ -10,6 +10,7 @@ from typing import Callable, Dict, List, NamedTuple, Optional, Set, Tuple, TypeV
 from .types import (
     BASE,
     IOR,
+    WIDE,
     Any,
     Array,
     Encapsulation,
@@ -239,6 +240,10 @@ class Parser:
         if self.table.version == 3 and word in ("any", "TypeCode"):
             code = TypeCode(self.table.identified)
             return Any(code) if word == "any" else code
+        if self.table.version == 3 and word in WIDE:
+            if word == "wstring":
+                self.bound("<", ">")  # counts characters, which octets don't tell
+            return WIDE[word]
         return IOR if word == "Object" else BASE.get(word) or self._declared[word]
 
     def bound(self, begin: str, end: str) -> Optional[int]:

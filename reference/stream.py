@@ -290,7 +290,7 @@ class Reading:
         self._message = message
         self._known = known
         self._closed = closed
-        self._reader = Reader(bytes(message.octets), message.header.order, self._tell)
+        self._reader = Reader(bytes(message.octets), message.header.order, message.header.minor < 2, self._tell)
         self.lines: List[Tuple[int, int, str]] = []
         self.header_ends: List[HeaderEnd] = []
         self.raised: List[Raised] = []
@@ -359,8 +359,9 @@ class Reading:
         return ("exception", String()) if status == USER_EXCEPTION else ("body", BODY_OF_STATUS[status])
 
     def _body(self, path: str, body: Optional[Type]) -> None:
-        """A body, after the padding that it has in 1.2."""
+        """A body, after the padding that it has in 1.2; one without room is rest."""
         reader = self._reader
+        body = body if body and reader.has_room(body) else None
         if self._message.header.minor == 2:
             begin = reader.at + -reader.at % 8
             is_empty = body is None or isinstance(body, Struct) and not body.members
@@ -376,7 +377,7 @@ class Reading:
         if path == "exception" and isinstance(value, bytes):
             self._raise(value)
             exception = self._known.table.exceptions.get(value)
-            if exception:
+            if exception and reader.has_room(exception):
                 reader.value(exception, "body")
 
     def _located(self, status: Read) -> None:

@@ -43,11 +43,13 @@ def behind(text: str) -> str:
 
 class Reader:
     """Reads the octets of one joined message, its header included; `at` is how many were read. What is complete goes to
-    `tell`, with the number of the octets up to its last."""
+    `tell`, with the number of the octets up to its last. In a message of 1.0 or 1.1, which is `narrow`, wide text has no
+    room."""
 
-    def __init__(self, octets: bytes, order: Order, tell: Callable[[int, str], None]) -> None:
+    def __init__(self, octets: bytes, order: Order, narrow: bool, tell: Callable[[int, str], None]) -> None:
         self.octets = octets
         self.order = order
+        self.narrow = narrow
         self.tell = tell
         self.at = HEADER
         self.parts = 0  # that have begun and not ended
@@ -94,6 +96,10 @@ class Reader:
             octets = self.take(min(PIECE, end - self.at))
             self.tell(self.at, f"{path} rest @{offset} {octets.hex()}")
 
+    def has_room(self, of: Type) -> bool:
+        """Whether a value of a type may begin."""
+        return self.parts + of.depth <= ROOM and not (self.narrow and of.is_wide)
+
     def value(self, of: Type, path: str) -> Read:
         """A value of a type, which is one part more until it ends."""
         self.parts += 1
@@ -126,14 +132,24 @@ class Reader:
 
 
 class Type:
-    """A type. `read` reads a value, whose lines have this path; `depth` is how many of its parts may be in each other."""
+    """A type. `read` reads a value, whose lines have this path; `depth` is how many of its parts may be in each other;
+    `within` are the types of its parts, but not of what an any has."""
 
     def read(self, reader: Reader, path: str) -> Read:
         raise NotImplementedError
 
+    @property
+    def within(self) -> Sequence[Type]:
+        return ()
+
     @cached_property
     def depth(self) -> int:
-        return 1
+        return 1 + max((part.depth for part in self.within), default=0)
+
+    @cached_property
+    def is_wide(self) -> bool:
+        """Whether it is wide text, or has a part that is."""
+        return any(part.is_wide for part in self.within)
 
 
 @dataclass(frozen=True)
@@ -223,6 +239,18 @@ class Octets(Type):
 
 
 @dataclass(frozen=True)
+class Wide(Type):
+    """A wide character or string by its word: a number of so many octets, and as many octets as it says."""
+
+    word: str
+    size: int
+    is_wide = True
+
+    def read(self, reader: Reader, path: str) -> None:
+        reader.pieces(f"{path} {self.word}", reader.number(self.size), lambda octets: behind(octets.hex()))
+
+
+@dataclass(frozen=True)
 class Series(Type):
     """A sequence of anything else."""
 
@@ -236,9 +264,9 @@ class Series(Type):
             reader.value(self.element, f"{path}[{place}]")
         return count
 
-    @cached_property
-    def depth(self) -> int:
-        return 1 + self.element.depth
+    @property
+    def within(self) -> Sequence[Type]:
+        return (self.element,)
 
 
 def counted(reader: Reader, bound: Optional[int]) -> int:
@@ -260,9 +288,9 @@ class Array(Type):
         for place in range(self.count):
             reader.value(self.element, f"{path}[{place}]")
 
-    @cached_property
-    def depth(self) -> int:
-        return 1 + self.element.depth
+    @property
+    def within(self) -> Sequence[Type]:
+        return (self.element,)
 
 
 Members = Sequence[Tuple[str, Type]]
@@ -278,9 +306,9 @@ class Struct(Type):
         for name, member in self.members:
             reader.value(member, f"{path}.{name}")
 
-    @cached_property
-    def depth(self) -> int:
-        return 1 + max((member.depth for _, member in self.members), default=0)
+    @property
+    def within(self) -> Sequence[Type]:
+        return [member for _, member in self.members]
 
 
 @dataclass(frozen=True)
@@ -312,10 +340,10 @@ class Union(Type):
         case = self.cases.get(value, self.default)
         return None if case is None else reader.value(case[1], f"{path}.{case[0]}")
 
-    @cached_property
-    def depth(self) -> int:
+    @property
+    def within(self) -> Sequence[Type]:
         cases = [*self.cases.values(), *([self.default] if self.default else [])]
-        return 1 + max((case.depth for _, case in cases), default=1)
+        return [self.switch, *(case for _, case in cases)]
 
 
 @dataclass(frozen=True)
@@ -327,9 +355,9 @@ class Encapsulation(Type):
     def read(self, reader: Reader, path: str) -> Read:
         return reader.encapsulation(path, self.value)
 
-    @cached_property
-    def depth(self) -> int:
-        return 1 + self.value.depth
+    @property
+    def within(self) -> Sequence[Type]:
+        return (self.value,)
 
 
 @dataclass(frozen=True)
@@ -346,9 +374,9 @@ class Tagged(Type):
         data = Encapsulation(self.value) if number == self.known else Octets()
         reader.value(data, f"{path}.{self.data}")
 
-    @cached_property
-    def depth(self) -> int:
-        return 2 + self.value.depth
+    @property
+    def within(self) -> Sequence[Type]:
+        return (Encapsulation(self.value),)
 
 
 OCTET, SHORT = Integer("octet", 1, False), Integer("short", 2, True)
@@ -378,11 +406,12 @@ KINDS = (
 INDIRECTION = 0xFFFFFFFF
 ANY, TYPECODE, PRINCIPAL, OBJREF, STRUCT, UNION, ENUM, STRING, SEQUENCE, ARRAY, ALIAS, EXCEPT = range(11, 23)
 WSTRING, FIXED, VALUE, VALUE_BOX, EVENT = 27, 28, 29, 30, 36
+WIDE: Dict[str, Type] = {"wchar": Wide("wchar", 1), "wstring": Wide("wstring", 4)}
 NOTHING = Struct([])  # the value of the kinds null and void
 # The kinds that tell a type or none without parameters.
 BY_KIND: Dict[int, Optional[Type]] = {
     **{kind: BASE[word] for kind, word in enumerate(KINDS) if word in BASE},
-    0: NOTHING, 1: NOTHING, PRINCIPAL: Octets(), 25: None, 26: None,
+    0: NOTHING, 1: NOTHING, PRINCIPAL: Octets(), 25: None, 26: WIDE["wchar"],
 }  # fmt: skip
 IDENTIFIED = {STRUCT: Struct, UNION: Union, ENUM: Enum}
 
@@ -405,7 +434,7 @@ class TypeCode(Type):
             return Any(self) if kind == ANY else self
         if kind in (STRING, WSTRING):
             ULONG.read(reader, f"{path}.bound")
-            return String() if kind == STRING else None
+            return String() if kind == STRING else WIDE["wstring"]
         if kind == INDIRECTION:
             LONG.read(reader, f"{path}.offset")
             return None
@@ -483,7 +512,7 @@ class Any(Type):
         named = reader.value(self.code, f"{path}.type")
         if named is NOTHING:
             return
-        if not isinstance(named, Type) or reader.parts + named.depth > ROOM:
+        if not isinstance(named, Type) or not reader.has_room(named):
             raise Untyped
         reader.value(named, f"{path}.value")
 

@@ -73,7 +73,7 @@ class Place:
 
 @dataclass(frozen=True)
 class Scalar:
-    """A base type of the signature language, by its word."""
+    """A base type of the signature language, or a wide character, by its word."""
 
     word: str
     depth: int = field(default=1, init=False)
@@ -92,9 +92,10 @@ class Described:
 
 @dataclass(frozen=True)
 class Text:
-    """A string; a bound of 0 is none."""
+    """A string, or a wide one by its word; a bound of 0 is none."""
 
     bound: int
+    word: str = "string"
     depth: int = field(default=1, init=False)
 
 

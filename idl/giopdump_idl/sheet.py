@@ -104,7 +104,7 @@ class Sheet:
         if isinstance(made, (Scalar, Described)):
             return made.word
         if isinstance(made, Text):
-            return f"string<{made.bound}>" if made.bound else "string"
+            return f"{made.word}<{made.bound}>" if made.bound else made.word
         if isinstance(made, Reference):
             return "Object"
         if isinstance(made, Series):

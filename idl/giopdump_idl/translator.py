@@ -27,15 +27,14 @@ SCALARS: Dict[int, str] = {
     idltype.tk_double: "double",
 }
 
-# Types whose values say of which type they are, or describe one.
+# What has a form in version 3 alone: types whose values say of which type they are, or describe one, and wide text.
 DESCRIBED: Dict[int, str] = {idltype.tk_any: "any", idltype.tk_TypeCode: "TypeCode"}
+WIDE: Dict[int, str] = {idltype.tk_wchar: "wchar", idltype.tk_wstring: "wstring"}
 
 # What the signature language has no form for, in IDL's words.
 FORMLESS: Dict[int, str] = {
     idltype.tk_Principal: "Principal",
     idltype.tk_longdouble: "long double",
-    idltype.tk_wchar: "wchar",
-    idltype.tk_wstring: "wstring",
     idltype.tk_fixed: "fixed",
     idltype.tk_value: "value type",
     idltype.tk_value_box: "value type",
@@ -53,7 +52,7 @@ class Translator:
     """Turns omniidl's types and declarations into ours of a version of the language, each declaration once."""
 
     def __init__(self, version: int) -> None:
-        self._version = version
+        self._formless = FORMLESS if version == 3 else {**FORMLESS, **DESCRIBED, **WIDE}
         self.refused: Dict[Tuple[str, ...], Tuple[Place, Unsayable]] = {}
         self._made: Dict[Tuple[str, ...], Type] = {}
         self._begun: Set[Tuple[str, ...]] = set()
@@ -88,14 +87,14 @@ class Translator:
         kind = idl.kind()
         if kind in SCALARS:
             return Scalar(SCALARS[kind])
-        if kind in DESCRIBED and self._version == 3:
-            return Described(DESCRIBED[kind])
+        if kind in self._formless:
+            raise Unsayable(self._formless[kind])
         if kind in DESCRIBED:
-            raise Unsayable(DESCRIBED[kind])
-        if kind in FORMLESS:
-            raise Unsayable(FORMLESS[kind])
-        if kind == idltype.tk_string:
-            return Text(unsigned(idl.bound()))
+            return Described(DESCRIBED[kind])
+        if kind == idltype.tk_wchar:
+            return Scalar(WIDE[kind])
+        if kind in (idltype.tk_string, idltype.tk_wstring):
+            return Text(unsigned(idl.bound()), WIDE.get(kind, "string"))
         if kind == idltype.tk_objref:
             return Reference()
         if kind == idltype.tk_sequence:
@@ -266,10 +265,8 @@ def written_id(decl: idlast.Decl) -> str:
 
 def word_of(made: Type) -> str:
     """A word for a type, which the name of a struct of ours begins with."""
-    if isinstance(made, (Scalar, Described)):
+    if isinstance(made, (Scalar, Described, Text)):
         return made.word
-    if isinstance(made, Text):
-        return "string"
     if isinstance(made, Reference):
         return "Object"
     if isinstance(made, (Series, Array)):

@@ -1,4 +1,4 @@
-"""Conversations encoded by hand over six of the IDL texts, with the lines of their bodies."""
+"""Conversations encoded by hand over seven of the IDL texts, with the lines of their bodies."""
 
 from __future__ import annotations
 
@@ -192,7 +192,7 @@ m8 end
 """,
 )
 
-# What stands here for a wstring are any octets: they have no form, and are rest, padding and all.
+# What stands here for a long double are any octets: they have no form, and are rest, padding and all.
 HALF = Conversation(
     "half",
     [
@@ -398,4 +398,55 @@ key "73746f636b2f*" of "IDL:warehouse.example/Stock:2.1";
 """,
 )
 
-CONVERSATIONS = [UNIONS, ARRAYS, ATTRIBUTES, HALF, HALF_EQUAL, INTERFACES]
+WIDE = Conversation(
+    "wide",
+    [
+        request(1, "greet", ("octet", 1), ("wstring", b"\0A\0d\0a"), ("wchar", b"\xfe\xff\0G"), ("short", -2)),
+        reply(1, ("wstring", b"")),
+        reply(1, ("string", "IDL:W/Odd:1.0"), ("wstring", b"no"), status=1),
+        request(
+            2, "fill", ("wstring", b"a"), ("wstring", b"b" * 33), ("wstring", b""), ("wchar", b"c"), order="little"
+        ),
+        reply(2, ("wstring", b"d"), *[("wstring", b"e")] * 3, ("wchar", b""), ("ulong", 1), ("wchar", b"fgh")),
+        request(3, "choose", ("short", 1), ("wchar", b"i")),
+        request(4, "_set_title", ("wstring", b"longer than three")),
+    ],
+    "1 greet\n2 fill\n",
+    """\
+m1 call 1 greet
+m1 body.n octet 1
+m1 body.who wstring @0 004100640061
+m1 body.mark wchar @0 feff0047
+m1 body.m short -2
+m1 end
+m2 body.return wstring @0
+m2 end
+m3 exception string @0 "IDL:W/Odd:1.0"
+m3 body.why wstring @0 6e6f
+m3 end
+m4 call 2 fill
+m4 body.one.first wstring @0 61
+m4 body.one.others[0] wstring @0 6262626262626262626262626262626262626262626262626262626262626262 more
+m4 body.one.others[0] wstring @32 62
+m4 body.one.others[1] wstring @0
+m4 body.one.last wchar @0 63
+m4 end
+m5 body.return wstring @0 64
+m5 body.one.first wstring @0 65
+m5 body.one.others[0] wstring @0 65
+m5 body.one.others[1] wstring @0 65
+m5 body.one.last wchar @0
+m5 body.some count 1
+m5 body.some[0] wchar @0 666768
+m5 end
+m6 call 3 choose
+m6 body.one.switch short 1
+m6 body.one.mark wchar @0 69
+m6 end
+m7 call 4 _set_title
+m7 body.value wstring @0 6c6f6e676572207468616e207468726565
+m7 end
+""",
+)
+
+CONVERSATIONS = [UNIONS, ARRAYS, ATTRIBUTES, HALF, HALF_EQUAL, INTERFACES, WIDE]

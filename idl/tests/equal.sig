@@ -28,7 +28,7 @@ operation void unequal(in long a, in long b) of "IDL:E/Second:1.0";
 struct Other "IDL:E/Other:1.0" { long n; };
 operation void declared(in Other o) of "IDL:E/Second:1.0";
 operation void direction(inout long a) of "IDL:E/Second:1.0";
-// left out: E::Second::poisoned (equal.idl:18): parameter a: wstring
+// left out: E::Second::poisoned (equal.idl:18): parameter a: long double
 // _get_size (equal.idl:19) travels like E::First::_get_size (equal.idl:11)
 operation void _set_size(in long value);
 

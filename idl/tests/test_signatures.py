@@ -20,7 +20,8 @@ sys.path.insert(0, str(HERE))
 from conversations import CONVERSATIONS  # noqa: E402
 
 ARGUMENTS: Dict[str, List[str]] = {"first": ["-Wbversion=1"], "only": ["-Wbonly=O::Wanted"]}
-OLDER = "half_equal"  # the text that is written in version 2 too, in which operations have no interfaces
+# The texts that are written in version 2 too, in which operations have no interfaces, and wide text no form.
+OLDER = ("half_equal", "wide")
 
 
 def omniidl(*words: str, cwd: Path = HERE) -> subprocess.CompletedProcess[str]:
@@ -66,9 +67,11 @@ class Texts(unittest.TestCase):
                 self.assertEqual(refusal_of(done.stdout), "")
 
     def test_version_2(self) -> None:
-        done = omniidl("-Wbversion=2", f"{OLDER}.idl")
-        self.assertEqual(done.stdout, (HERE / f"{OLDER}_2.sig").read_text())
-        self.assertEqual(refusal_of(done.stdout), "")
+        for text in OLDER:
+            with self.subTest(text):
+                done = omniidl("-Wbversion=2", f"{text}.idl")
+                self.assertEqual(done.stdout, (HERE / f"{text}_2.sig").read_text())
+                self.assertEqual(refusal_of(done.stdout), "")
 
     def test_several_files(self) -> None:
         files = {"one.idl": b"interface I { void o(in long n); };", "an other.idl": b"interface J { void p(); };"}
@@ -105,19 +108,19 @@ class Errors(unittest.TestCase):
             [
                 "giopdump_signatures: whole: 9 operations, 2 exceptions, 4 types",
                 "giopdump_signatures: by half: 0 operations",
-                "giopdump_signatures: left out: 8 operations, 0 exceptions (1 for abstract interface, 1 for fixed, "
-                "1 for long double, 1 for type within itself, 2 for value type, 1 for wchar, 1 for wstring)",
+                "giopdump_signatures: left out: 6 operations, 0 exceptions (1 for abstract interface, 1 for fixed, "
+                "1 for long double, 1 for type within itself, 2 for value type)",
             ],
         )
 
     def test_summary_by_half(self) -> None:
         self.assertEqual(
-            omniidl("-Wbversion=2", f"{OLDER}.idl").stderr.splitlines()[-3:],
+            omniidl("-Wbversion=2", f"{OLDER[0]}.idl").stderr.splitlines()[-3:],
             [
                 "giopdump_signatures: whole: 2 operations, 0 exceptions, 1 type",
-                "giopdump_signatures: by half: 16 operations (12 for equal names, unequal parameters, 4 for wstring)",
+                "giopdump_signatures: by half: 16 operations (12 for equal names, unequal parameters, 4 for long double)",
                 "giopdump_signatures: left out: 6 operations, 0 exceptions (4 for equal names, unequal "
-                "parameters, 2 for wstring)",
+                "parameters, 2 for long double)",
             ],
         )
 
@@ -236,7 +239,7 @@ class Limits(unittest.TestCase):
                 self.assertLess(len(text), 10000)
 
     def test_a_name_of_many_interfaces(self) -> None:
-        kinds = ("long", "string", "double", "wstring")
+        kinds = ("long", "string", "double", "long double")
         rows = [(f"I{n}", kinds[n % 4]) for n in range(146)]
         idl = " ".join(f"interface {name} {{ void f(in {kind} x); long g(in {kind} x); }};" for name, kind in rows)
         named = [f"I{n}::f (limits.idl:1)" for n in (1, 2, 3, 5, 6, 7, 9, 10)]

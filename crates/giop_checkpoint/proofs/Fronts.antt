@@ -4,7 +4,7 @@ use Rattle.std.proofs.lemmas.List.{length-append, take_at}
 use Rattle.giop_octets.specs.Fields.{four, eight}
 use Rattle.giop_octets.proofs.FieldLaws.{four_long, eight_long, behind}
 use Rattle.giop_checkpoint.specs.declared.layout.Layout.{Layout}
-use Rattle.giop_checkpoint.specs.declared.layout.Layout.TheVariants.{Second, Third, Sixth}
+use Rattle.giop_checkpoint.specs.declared.layout.Layout.TheVariants.{Second, Third, Latest}
 use Rattle.giop_checkpoint.specs.Layouts.{version_of, reads, number_or, owner_octet, limit_octets}
 use Rattle.giop_checkpoint.specs.declared.fixed.Counts.{Counts}
 use Rattle.giop_checkpoint.specs.declared.fixed.Fixed.{Fixed}
@@ -59,7 +59,7 @@ limits_long : (layout : Layout) (n : ℕ) (owner : Option ℕ) →
     length (limit_octets layout n owner) ≡ 16
 limits_long Second n owner = refl
 limits_long Third n owner = later_long n owner
-limits_long Sixth n owner = later_long n owner
+limits_long Latest n owner = later_long n owner
 
 pub state_long : (layout : Layout) (f : Fixed) → HasRange layout f →
     length (state_octets layout f) ≡ 68

@@ -10,7 +10,7 @@ use Rattle.giop_checkpoint.specs.declared.fixed.Place.{Place}
 use Rattle.giop_checkpoint.specs.Fixed.{HasRange, place_octets, state_octets}
 use Rattle.giop_checkpoint.specs.Layouts.{OpenHasRange, IsAmong, number_or, owner_octet, limit_octets}
 use Rattle.giop_checkpoint.specs.declared.layout.Layout.{Layout}
-use Rattle.giop_checkpoint.specs.declared.layout.Layout.TheVariants.{Second, Third, Sixth}
+use Rattle.giop_checkpoint.specs.declared.layout.Layout.TheVariants.{Second, Third, Latest}
 use Rattle.giop_checkpoint.proofs.Places.{parts_of, place_long}
 
 six : (a b c d e f : List ℕ) → a ++ b ++ c ++ d ++ e ++ f ≡ a ++ (b ++ (c ++ (d ++ (e ++ f))))
@@ -59,7 +59,7 @@ fields_of layout f octets h e =
 pub open_few : (layout : Layout) (n : ℕ) → OpenHasRange layout n → n ≤ 4096
 open_few Second n h = omega (arith, h)
 open_few Third n h = h.1
-open_few Sixth n h = h.1
+open_few Latest n h = h.1
 
 pub among_more : (records most : ℕ) (owner : Option ℕ) → records ≤ most → IsAmong records owner →
     IsAmong most owner

@@ -3,23 +3,23 @@ use Rattle.std.specs.Prelude.{◌≡◌, ℕ, ◌<◌, ◌≤◌, Bool, List, �
 use Rattle.giop_octets.specs.Fields.{four}
 use Rattle.giop_checkpoint.specs.declared.sizes.TheConstants.{MOST_OPEN, LAYOUT_2_MOST_OPEN}
 use Rattle.giop_checkpoint.specs.declared.layout.Layout.{Layout}
-use Rattle.giop_checkpoint.specs.declared.layout.Layout.TheVariants.{Second, Third, Sixth}
+use Rattle.giop_checkpoint.specs.declared.layout.Layout.TheVariants.{Second, Third, Latest}
 
 abbrev pub version_of : Layout → ℕ
 version_of Second = 2
 version_of Third = 3
-version_of Sixth = 6
+version_of Latest = 7
 
 -- ---- by the version of the signature file that a stream is read with, 1 if there is none
 
 -- the layout in which its checkpoints are written
 abbrev pub layout_of : ℕ → Layout
-layout_of version = if nat_le 3 version then Sixth else Third
+layout_of version = if nat_le 3 version then Latest else Third
 
--- Whether checkpoints in a layout are read: with a file of version 3 those in layout 6 alone, and
+-- Whether checkpoints in a layout are read: with a file of version 3 those in the latest alone, and
 -- those in the others with other files.
 abbrev pub reads : ℕ → Layout → Bool
-reads version Sixth = nat_le 3 version
+reads version Latest = nat_le 3 version
 reads version layout = nat_lt version 3
 
 -- ---- ranges

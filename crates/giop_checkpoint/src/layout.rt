@@ -11,15 +11,16 @@ use crate::state::same;
 use arrayvec::ArrayVec;
 use giop_octets::{put_four, put_zeros};
 
-/// How the octets of a checkpoint are arranged. All are read; the third and the sixth are written.
+/// How the octets of a checkpoint are arranged. All are read; the third and the latest are written.
 #[derive(Clone, Copy, Debug, PartialEq, Eq)]
 pub enum Layout {
     /// It doesn't store how many messages may be open at once: they are 16.
     Second = 2,
     /// It stores how many messages may be open at once.
     Third = 3,
-    /// As the third, of a stream that is read with a signature file of version 3.
-    Sixth = 6,
+    /// As the third, of a stream that is read with a signature file of version 3. Its version goes up if such files gain
+    /// types.
+    Latest = 7,
 }
 
 impl Layout {
@@ -31,7 +32,7 @@ impl Layout {
         match self {
             Layout::Second => [0, 0, 0, 2],
             Layout::Third => [0, 0, 0, 3],
-            Layout::Sixth => [0, 0, 0, 6],
+            Layout::Latest => [0, 0, 0, 7],
         }
     }
 
@@ -46,8 +47,8 @@ impl Layout {
         if same(octets, &Layout::Third.version()) {
             return Some(Layout::Third);
         }
-        if same(octets, &Layout::Sixth.version()) {
-            return Some(Layout::Sixth);
+        if same(octets, &Layout::Latest.version()) {
+            return Some(Layout::Latest);
         }
         None
     }
@@ -71,7 +72,7 @@ impl Layout {
     {
         match self {
             Layout::Second | Layout::Third => version < 3,
-            Layout::Sixth => version >= 3,
+            Layout::Latest => version >= 3,
         }
     }
 
@@ -81,7 +82,7 @@ impl Layout {
         ensures fits { (owner : Option ℕ) → OwnerFits result owner }
     {
         if version >= 3 {
-            Layout::Sixth
+            Layout::Latest
         } else {
             Layout::Third
         }
@@ -93,7 +94,7 @@ impl Layout {
     {
         match self {
             Layout::Second => most_open == LAYOUT_2_MOST_OPEN,
-            Layout::Third | Layout::Sixth => 1 <= most_open && most_open <= MOST_OPEN,
+            Layout::Third | Layout::Latest => 1 <= most_open && most_open <= MOST_OPEN,
         }
     }
 
@@ -107,7 +108,7 @@ impl Layout {
                 Some(record) => record as u8,
                 None => 255,
             },
-            Layout::Third | Layout::Sixth => 0,
+            Layout::Third | Layout::Latest => 0,
         }
     }
 
@@ -124,7 +125,7 @@ impl Layout {
     {
         match self {
             Layout::Second => put_zeros(out, 16),
-            Layout::Third | Layout::Sixth => {
+            Layout::Third | Layout::Latest => {
                 put_four(out, most_open);
                 put_four(out, owner.unwrap_or(4_294_967_295));
                 put_zeros(out, 8);

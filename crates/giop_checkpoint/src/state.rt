@@ -136,7 +136,7 @@ fn open_at(layout: Layout, octets: &[u8]) -> u32
 {
     match layout {
         Layout::Second => LAYOUT_2_MOST_OPEN,
-        Layout::Third | Layout::Sixth => four_at(octets, 0),
+        Layout::Third | Layout::Latest => four_at(octets, 0),
     }
 }
 
@@ -149,7 +149,7 @@ fn owner_at(layout: Layout, octet: u8, octets: &[u8]) -> Option<u32>
 {
     match layout {
         Layout::Second => owner_of(u32::from(octet), 255),
-        Layout::Third | Layout::Sixth => owner_of(four_at(octets, 4), 4_294_967_295),
+        Layout::Third | Layout::Latest => owner_of(four_at(octets, 4), 4_294_967_295),
     }
 }
 

@@ -128,7 +128,7 @@ fn a_checkpoint_of_layout_2_is_read_with_16_open(rt: HostRuntime) -> Result<(), 
 }
 
 #[test]
-fn with_a_file_of_version_3_the_layout_is_the_sixth(rt: HostRuntime) -> Result<(), Fail> {
+fn with_a_file_of_version_3_the_layout_is_the_latest(rt: HostRuntime) -> Result<(), Fail> {
     let counts = Counts {
         version: 3,
         ..BUILT_IN
@@ -136,17 +136,17 @@ fn with_a_file_of_version_3_the_layout_is_the_sixth(rt: HostRuntime) -> Result<(
     for third in [IN_HEADER, STOPPED] {
         let octets = octets_of(third)?;
         assert!(rt; fixed_part(&octets, counts).is_err_and(|why| why == LoadFault::Version));
-        let mut sixth = octets;
-        sixth[11] = 5;
-        assert!(rt; fixed_part(&sixth, counts).is_err_and(|why| why == LoadFault::Version));
-        sixth[11] = 6;
-        assert!(rt; fixed_part(&sixth, BUILT_IN).is_err_and(|why| why == LoadFault::Version));
-        let Ok((fixed, _)) = fixed_part(&sixth, counts) else {
-            return Err(Fail::from("layout 6 is read"));
+        let mut latest = octets;
+        latest[11] = 6;
+        assert!(rt; fixed_part(&latest, counts).is_err_and(|why| why == LoadFault::Version));
+        latest[11] = 7;
+        assert!(rt; fixed_part(&latest, BUILT_IN).is_err_and(|why| why == LoadFault::Version));
+        let Ok((fixed, _)) = fixed_part(&latest, counts) else {
+            return Err(Fail::from("layout 7 is read"));
         };
         let mut out: ArrayVec<u8, 96> = ArrayVec::new();
         fixed.write(&mut out);
-        assert!(rt; out.as_slice() == sixth.as_slice(), "{third}");
+        assert!(rt; out.as_slice() == latest.as_slice(), "{third}");
     }
     Ok(())
 }

@@ -24,7 +24,7 @@ use Rattle.giop_decode.specs.Fits.{FitsIn, OpenFrom, Sound, leaf_ty}
 use Rattle.giop_decode.specs.Transitions.{open_parts, has_ended, is_inside, leaf_of, leaf_type, after_transition, tree_in, AreKnown, HaveOctetsLeft, Link, IsClean, TransitionFits}
 use Rattle.giop_decode.specs.NameBuffer.{FitsName, string_offset}
 use Rattle.giop_decode.specs.Noted.{is_header_root, names_operation}
-use Rattle.giop_decode.specs.DecoderState.{AreOfRoot, Fits, GoesOn, CanStandAt, read_by_fields}
+use Rattle.giop_decode.specs.SeenState.{AreOfRoot, Fits, GoesOn, CanStandAt, read_by_fields}
 use Rattle.giop_decode.specs.DecoderSteps.{transition_result, decoder_step, stopped, Comes, IsGoing, IsProgress, IsNotRefused}
 use Rattle.giop_decode.proofs.Around.{fit_room, around-fault, around-front}
 use Rattle.giop_decode.proofs.Going.{length_places}
@@ -118,7 +118,8 @@ fits_in T end at C d lines leaf r sound is goes_on = search (arith)
 
 -- What a step leaves of a decoder that fits, fits as well.
 pub step_fits : (C : Table) (d new : Decoder) (f : Fits C d) (octet : ℕ)
-    (g : Goes C new (f.here + 1) (decoder_step C d f.here octet)) → CanStandAt new (f.here + 1) →
+    (g : Goes C new (f.here + 1) (decoder_step C d f.here octet)) → new.narrow ≡ C.narrow →
+    CanStandAt new (f.here + 1) →
     HaveOctetsLeft new.outer.items →
     new.inside ≡ is_inside new.outer.items → Link C f.root new.outer.items (leaf_type g.leaf) →
     AreKnown C new.outer.items → leaf_type g.leaf < length C.types →
@@ -126,7 +127,7 @@ pub step_fits : (C : Table) (d new : Decoder) (f : Fits C d) (octet : ℕ)
     AreOfRoot C new.head.root new.notes →
     FitsName new.head.root (string_offset (tree_in C new.outer.items (leaf_type g.leaf)) g.leaf)
     new.notes.buffer new.notes.name.items → Fits C new
-step_fits C d new f octet g here ahead inside link known_outer known clean of_root name =
+step_fits C d new f octet g narrow here ahead inside link known_outer known clean of_root name =
     search (arith, whole_step_keeps, surrounds, stands, fits_in)
 
 -- where a rule is broken, it is one

@@ -3,7 +3,7 @@ use Rattle.std.proofs.Common.{◌≡◌, ℕ, zero, suc, ◌<◌, ◌≤◌, ◌
 use Rattle.std.proofs.lemmas.Bool.{cases_lt, eqb-false}
 use Rattle.giop_decode.specs.declared.decoder.Decoder.{Decoder}
 use Rattle.giop_decode.specs.Fits.{FitsIn, HasParts, HasCase, IsEncapsulation, IsLed}
-use Rattle.giop_decode.specs.DecoderState.{Fits}
+use Rattle.giop_decode.specs.SeenState.{Fits}
 use Rattle.giop_decode.specs.ReadResult.{OpenPart, Part, Member, Inside, Leaf, Telling}
 use Rattle.giop_decode.specs.Transitions.{leaf_of, open_parts}
 use Rattle.giop_decode.proofs.Going.{length_places}

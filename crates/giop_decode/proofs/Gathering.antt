@@ -8,7 +8,7 @@ use Rattle.giop_decode.specs.declared.frame.Frame.{Frame}
 use Rattle.giop_decode.specs.declared.leaf.Leaf.{Leaf as Innermost}
 use Rattle.giop_decode.specs.declared.leaf.Leaf.TheVariants as innermost
 use Rattle.giop_decode.specs.declared.progress.Progress.TheVariants as progress
-use Rattle.giop_decode.specs.DecoderState.{Fits, CanStandAt}
+use Rattle.giop_decode.specs.SeenState.{Fits, CanStandAt}
 use Rattle.giop_decode.specs.Reading.{after_leading_number}
 use Rattle.giop_decode.specs.Runs.{added_lines_of_run, AllGathered}
 use Rattle.giop_decode.specs.Pieces.{tail}
@@ -30,6 +30,7 @@ use Rattle.giop_sig.specs.Types.{Ty}
 pub record IsFurther (d new : Decoder) (count : ℕ) (frames : List Frame) : Type 0 where
   pub order : new.order ≡ d.order
   pub head : new.head ≡ d.head
+  pub narrow : new.narrow ≡ d.narrow
   pub at : new.at ≡ (d.at + count) % 8
   pub outer : new.outer.items ≡ frames
   pub inside : new.inside ≡ d.inside
@@ -67,11 +68,13 @@ module _ (C : Table) (d new : Decoder) (leaf : Innermost) (b : ℕ) where
       Fits C new × AllGathered C d new (b ∷ [])
   one_gathered ahead on f e clean holds =
       let e' = on.leaf ∙ e in (
-        held_fits C d new leaf b ahead f e e' on.outer on.head on.notes on.inside on.at clean
+        held_fits C d new leaf b ahead f e e' on.outer on.head on.narrow on.notes on.inside
+            on.at clean
             (holds f.here f.stands),
         λ T order at message root s r. record {
           takes = takes_one C T order at message root new s b progress.More
               (takes_to C T order at message root d new s b progress.More f on.order on.head
+              on.narrow
               (λ here h. held_here C d new leaf b ahead f e e' on.outer here on.at h)
               (λ here h. held_comes C d new leaf b ahead f e e' on.outer here h (holds here h))
               (λ here front h old. held_keeps_noted C d new leaf b ahead f e e' on.outer here front
@@ -102,6 +105,7 @@ next_in d carry piece = record {
   order = d.order;
   head = d.head;
   at = (d.at + 1) % 8;
+  narrow = d.narrow;
   outer = record { items = ticked d.outer.items };
   inside = d.inside;
   leaf = d.leaf;

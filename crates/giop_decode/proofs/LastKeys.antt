@@ -8,7 +8,7 @@ use Rattle.giop_decode.specs.Noted.{Noted, is_key_path, key_ended, may_have_key,
 use Rattle.giop_decode.specs.NotedFromLines.{TextPiece, enum_of, enums, key_piece, key_pieces, last_content, piece, text_of, text_pieces}
 use Rattle.giop_decode.specs.ReadResult.{PathSegment, Value, Number, Piece, Line, line}
 use Rattle.giop_decode.proofs.Resuming.{noted-append}
-use Rattle.giop_sig.specs.Types.{Plain, Enum, Octets, Text}
+use Rattle.giop_sig.specs.Types.{Plain, Enum, Octets, Raw, Text}
 
 none_first : {A : Type 0} (o : Option A) (rest : List A) → cons_option o rest ≡ [] → o ≡ None
 none_first None rest e = refl
@@ -33,7 +33,7 @@ value_kept is_header h at path (Number (Plain prims.ULong) n) quiet other = refl
 value_kept is_header h at path (Number (Enum count names) n) quiet other = absurd cc
 value_kept is_header h at path (Piece (Text bound) offset octets true) quiet other = refl
 value_kept is_header h at path (Piece (Text bound) offset octets false) quiet other = refl
-value_kept is_header h at path (Piece (Octets bound) offset octets more) quiet other =
+value_kept is_header h at path (Piece (Octets (Raw bound)) offset octets more) quiet other =
     piece_kept (is_header && is_key_path path) h _ _ other
 value_kept is_header h at path value quiet other = refl
 
@@ -95,7 +95,7 @@ value_goes is_header h at path (Number (Plain prims.ULong) n) clean quiet silent
 value_goes is_header h at path (Number (Enum count names) n) clean quiet silent = absurd cc
 value_goes is_header h at path (Piece (Text bound) offset octets more) clean quiet silent =
     absurd cc
-value_goes is_header h at path (Piece (Octets bound) offset octets more) clean quiet silent =
+value_goes is_header h at path (Piece (Octets (Raw bound)) offset octets more) clean quiet silent =
     piece_goes (is_header && is_key_path path) _ more h offset octets clean (may_go h clean)
 value_goes is_header h at path value clean quiet silent = same_goes h _ _ clean
 

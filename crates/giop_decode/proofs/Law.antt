@@ -15,7 +15,7 @@ use Rattle.giop_decode.specs.ReadResult.{Coding, Done, Fault, Line, Member, Name
 use Rattle.giop_decode.specs.ReadingSteps.{advance, after, block_step, leading_width, inner_path, number_step, part_at, after_told}
 use Rattle.giop_sig.specs.Hearings.{hearing_in}
 use Rattle.giop_decode.specs.declared.progress.Kind.{Kind}
-use Rattle.giop_sig.specs.Types.{Choice, Enum, Plain, Scalar, Sequence, Ty, Union, part_of, width, Hearing, Told, Sequel, Then, Marked}
+use Rattle.giop_sig.specs.Types.{Choice, Enum, OctetKind, Plain, Scalar, Sequence, Ty, Union, part_of, width, Hearing, Told, Sequel, Then, Marked}
 use Rattle.giop_sig.specs.declared.types.Selected.{Selected}
 use Rattle.giop_sig.specs.declared.types.Selected.TheVariants.{Case}
 use Rattle.giop_cdr.specs.declared.prim.Primitive.TheVariants as prims
@@ -287,8 +287,8 @@ module _ (coding : Coding) (path : List PathSegment) where
   text_goes bound zero at s b = refl
   text_goes bound (suc n) at s b = search (arith, content_goes, unless_goes)
 
-  pub octets_goes : (bound : Option ℕ) (n : ℕ) → Goes coding path (octets bound path n)
-  octets_goes bound n at s b = search (arith, content_goes, unless_goes)
+  pub octets_goes : (kind : OctetKind) (n : ℕ) → Goes coding path (octets kind path n)
+  octets_goes kind n at s b = search (arith, content_goes, unless_goes)
 
 -- what begins with a number
 

@@ -1,3 +1,4 @@
+mod OctetKinds
 mod Law
 mod OctetResults
 mod Enclosing
@@ -42,6 +43,7 @@ mod LastNoted
 mod Taking
 mod Runs
 mod SoFar
+mod Versions
 mod Gathering
 mod Whole
 mod Passing

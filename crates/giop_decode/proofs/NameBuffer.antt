@@ -9,7 +9,7 @@ use Rattle.giop_decode.specs.declared.leaf.Output.TheVariants as outputs
 use Rattle.giop_decode.specs.declared.notes.Buffer.{Buffer}
 use Rattle.giop_decode.specs.declared.notes.Buffer.TheVariants as buffers
 use Rattle.giop_decode.specs.declared.notes.Notes.{Notes}
-use Rattle.giop_decode.specs.DecoderState.{AreOfRoot, HoldsNoKey, HoldsNoted, IsHeld, held_key, status_of}
+use Rattle.giop_decode.specs.SeenState.{AreOfRoot, HoldsNoKey, HoldsNoted, IsHeld, held_key, status_of}
 use Rattle.giop_decode.specs.DecoderSteps.{IsNotRefused}
 use Rattle.giop_decode.specs.NameBuffer.{FitsName, IsNotedOf}
 use Rattle.giop_decode.specs.Noted.{Noted, expects_after, note_key, note_value, noted, nothing_noted, with_expects, without_name_if, is_key_path, is_member}

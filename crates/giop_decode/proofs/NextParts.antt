@@ -25,7 +25,7 @@ use Rattle.giop_decode.specs.declared.notes.Notes.{Notes}
 use Rattle.giop_decode.specs.declared.parts.PartAhead.{PartAhead}
 use Rattle.giop_decode.specs.declared.progress.Progress.{Progress}
 use Rattle.giop_decode.specs.declared.progress.Progress.TheVariants as progress
-use Rattle.giop_decode.specs.DecoderState.{AreOfRoot, Fits, HoldsNoted}
+use Rattle.giop_decode.specs.SeenState.{AreOfRoot, Fits, HoldsNoted}
 use Rattle.giop_decode.specs.DecoderSteps.{emitted, transition_result}
 use Rattle.giop_decode.specs.Noted.{Noted, first_of, noted, is_header_root}
 use Rattle.giop_decode.specs.NextParts.{IsAtNext, IsNextNumber, IsPartAhead, frames_above, front_text, next_of}
@@ -217,7 +217,7 @@ module _ (C : Table) (d : Decoder) (part : PartAhead) (f : Fits C d)
       IsBehind C there (at_last d at d.outer) part.of.0 ended []
   part_behind at e =
       behind_last C d octets part.of part.count ended [] f there taken_together on
-      (at_last d at d.outer) refl refl (omega (arith, e, taken_together.some))
+      (at_last d at d.outer) refl refl refl (omega (arith, e, taken_together.some))
       (heard_free C d.outer.items part.of.0 (outputs.Number part.number) (d.piece.items ++ []) free
       f.known_outer) refl refl refl refl
 
@@ -365,6 +365,7 @@ module _ (C : Table) (d : Decoder) (part : PartAhead) (f : Fits C d)
         record {
           order = n.order;
           head = n.head;
+          narrow = n.narrow;
           here = λ here k. (
             let some = taken_together.some in omega (arith, k.0, n.at, some),
             stand_free (here + 1) new.outer.items new_free,

@@ -11,7 +11,7 @@ use Rattle.giop_decode.specs.declared.leaf.Output.TheVariants as outputs
 use Rattle.giop_decode.specs.declared.pieces.PieceAhead.{PieceAhead}
 use Rattle.giop_decode.specs.declared.progress.Progress.{Progress}
 use Rattle.giop_decode.specs.declared.progress.Progress.TheVariants as progress
-use Rattle.giop_decode.specs.DecoderState.{Fits, HoldsNoted}
+use Rattle.giop_decode.specs.SeenState.{Fits, HoldsNoted}
 use Rattle.giop_decode.specs.DecoderSteps.{emitted, transition_result}
 use Rattle.giop_decode.specs.NameBuffer.{string_offset}
 use Rattle.giop_decode.specs.NextPieces.{IsPieceAhead, IsQuiet, behind_piece}
@@ -40,7 +40,7 @@ use Rattle.giop_print.specs.Lines.{content_line, more_word, spaced_hex}
 use Rattle.giop_print.specs.Output.{OutLog, Wrote, WroteFront}
 use Rattle.giop_print.specs.Paths.{root_word}
 use Rattle.giop_sig.specs.Table.{Table}
-use Rattle.giop_sig.specs.Types.{Octets}
+use Rattle.giop_sig.specs.Types.{Octets, Raw}
 
 -- the line of a full piece after what it begins with
 pub line_is : (message offset : ℕ) (place octets rest : List ℕ) →
@@ -54,7 +54,7 @@ line_is message offset place octets rest e = search (arith, append-nil, headed_i
 -- the same line, as that of a value
 piece_text_is : (message offset : ℕ) (place octets : List ℕ) (bound : _) →
     content_line message place (codes " octets @") offset (spaced_hex octets) (more_word true)
-    ≡ value_text message place (Piece (Octets bound) offset octets true)
+    ≡ value_text message place (Piece (Octets (Raw bound)) offset octets true)
 unfolding content_line
 piece_text_is message offset place octets bound = refl
 
@@ -100,12 +100,12 @@ module _ (C : Table) (d : Decoder) (ahead : PieceAhead) (f : Fits C d)
   text = content_line d.head.message place (codes " octets @") ahead.offset (spaced_hex rest)
       (more_word true)
 
-  is_here : tree_in C d.outer.items ahead.of.0 ≡ Octets h.bound
+  is_here : tree_in C d.outer.items ahead.of.0 ≡ Octets (Raw h.bound)
   is_here = h.is (24 - length d.outer.items)
 
   given : (here at : ℕ) (lines : List Line) → Gives C there ahead.of.0 step rest here at lines →
       lines ≡ line at (path_in [] (open_parts C here d.outer.items))
-      (Piece (Octets h.bound) ahead.offset rest true) ∷ []
+      (Piece (Octets (Raw h.bound)) ahead.offset rest true) ∷ []
   given here at lines says = rw (is_here, h.none_held) at says
 
   piece_says : (Says : List ℕ → Type 0) → Says text → AllSay C d octets 31 Says
@@ -114,7 +114,7 @@ module _ (C : Table) (d : Decoder) (ahead : PieceAhead) (f : Fits C d)
       (λ here at lines says.
       subst Says (piece_text_is d.head.message ahead.offset place rest h.bound
       ∙ said_one d.head.message d.head.root at (path_in [] (open_parts C here d.outer.items)) place
-      (Piece (Octets h.bound) ahead.offset rest true) lines
+      (Piece (Octets (Raw h.bound)) ahead.offset rest true) lines
       (path_spelled C here d.head.root d.outer.items) (given here at lines says)) w)
 
   abbrev new : Decoder
@@ -135,11 +135,11 @@ module _ (C : Table) (d : Decoder) (ahead : PieceAhead) (f : Fits C d)
   kept_by : IsQuiet C d.head.root → (asked : Bool) (o : Noted) (at : ℕ) (path : List PathSegment) →
       HoldsNoted C asked d.notes o → HoldsNoted C asked d.notes
       (noted (is_header_root d.head.root) o
-      (line at path (Piece (Octets h.bound) ahead.offset rest true) ∷ []))
+      (line at path (Piece (Octets (Raw h.bound)) ahead.offset rest true) ∷ []))
   kept_by (inl body) asked o at path held = rw body held
   kept_by (inr keys) asked o at path held =
-      keyless_piece C asked (is_header_root d.head.root) (Octets h.bound) path at ahead.offset rest
-      true o d.notes h.bound refl keys.0 keys.1 held
+      keyless_piece C asked (is_header_root d.head.root) (Octets (Raw h.bound)) path at
+      ahead.offset rest true o d.notes h.bound refl keys.0 keys.1 held
 
   kept : (asked : Bool) (o : Noted) (here at : ℕ) (lines : List Line) →
       HoldsNoted C asked d.notes o → Gives C there ahead.of.0 step rest here at lines →
@@ -158,6 +158,7 @@ module _ (C : Table) (d : Decoder) (ahead : PieceAhead) (f : Fits C d)
       record {
         order = refl;
         head = refl;
+        narrow = refl;
         here = λ here k. (
           let small = f.at in omega (arith, k.0, small),
           stand_free (here + 1) d.outer.items free,

@@ -3,7 +3,7 @@ use Rattle.std.proofs.Common.{◌≡◌, Bool, true, false, List, ℕ, refl}
 use Rattle.std.specs.Prelude.{cond}
 use Rattle.giop_decode.specs.Noted.{Noted, key_ended, note_key, with_key_piece}
 use Rattle.giop_decode.specs.ReadResult.{Value, Piece}
-use Rattle.giop_sig.specs.Types.{Octets}
+use Rattle.giop_sig.specs.Types.{Octets, Raw}
 
 -- the same but for the object key
 pub record SameButKey (k h : Noted) : Type 0 where
@@ -44,6 +44,6 @@ same_piece true true false h octets = record {
 
 pub same_but_key : (is_key : Bool) (h : Noted) (value : Value) →
     SameButKey (note_key is_key h value) h
-same_but_key is_key h (Piece (Octets bound) offset octets more) =
+same_but_key is_key h (Piece (Octets (Raw bound)) offset octets more) =
     same_piece is_key _ more h octets
 same_but_key is_key h value = same h

@@ -24,9 +24,9 @@ use Rattle.giop_sig.specs.Table.{Table, has_keys, interface_in}
 use Rattle.giop_decode.proofs.NotedKeys.{SameButKey, same_but_key}
 use Rattle.giop_sig.specs.declared.types.Shape.TheVariants as shapes
 use Rattle.giop_decode.specs.declared.notes.Notes.{Notes}
-use Rattle.giop_decode.specs.DecoderState.{HoldsNoted, IsWhose, held_key, interface_of, whose}
+use Rattle.giop_decode.specs.SeenState.{HoldsNoted, IsWhose, held_key, interface_of, whose}
 use Rattle.std.proofs.Math.Bool.{and-false}
-use Rattle.giop_sig.specs.Types.{Scalar, Ty, Single, Text, Octets, Struct, Union, Sequence, Array, Plain, HasShape, shape_in, Encapsulation, Led}
+use Rattle.giop_sig.specs.Types.{Scalar, Ty, Single, Text, Octets, Raw, WideText, WideChar, Struct, Union, Sequence, Array, Plain, HasShape, shape_in, Encapsulation, Led}
 
 content_in : (T : Ty) (total offset : ℕ) (piece : List ℕ) →
     in_content (Content T total offset piece) ≡ is_text T
@@ -89,8 +89,8 @@ piece_noted header (Text bound) true true h path at offset octets k = refl
 piece_noted header (Text bound) true false h path at offset octets k = refl
 piece_noted header (Text bound) false true h path at offset octets k = refl
 piece_noted header (Text bound) false false h path at offset octets k = refl
-piece_noted header (Octets bound) false more h path at offset octets k = refl
-piece_noted header (Octets bound) true more h path at offset octets k = let e = k refl in cc
+piece_noted header (Octets kind) false more h path at offset octets k = refl
+piece_noted header (Octets kind) true more h path at offset octets k = let e = k refl in cc
 piece_noted header (Single scalar) false more h path at offset octets k = refl
 piece_noted header (Single scalar) true more h path at offset octets k = let e = k refl in cc
 piece_noted header (Struct n names parts) false more h path at offset octets k = refl
@@ -151,8 +151,10 @@ pub silent_piece : (C : Table) (asked header : Bool) (T : Ty) (path : List PathS
     HoldsNoted C asked m (noted header h (line at path (Piece T offset octets more) ∷ []))
 silent_piece C asked header (Text bound) path at offset octets more h m other key held =
     absurd (other bound refl)
-silent_piece C asked header (Octets bound) path at offset octets more h m other key held =
+silent_piece C asked header (Octets (Raw bound)) path at offset octets more h m other key held =
     rw (key bound refl) held
+silent_piece C asked header (Octets WideText) path at offset octets more h m other key held = held
+silent_piece C asked header (Octets WideChar) path at offset octets more h m other key held = held
 silent_piece C asked header T path at offset octets more h m other key held = held
 
 -- Where a table has no KEYs nothing is held of a key, and none has an interface.
@@ -187,10 +189,10 @@ keyless_octets : (C : Table) (asked header : Bool) (path : List PathSegment) (at
     (octets : List ℕ) (more : Bool) (h : Noted) (m : Notes) (bound : Option ℕ) →
     has_keys C ≡ false → ((key : List ℕ) → interface_in C key ≡ None) → HoldsNoted C asked m h →
     HoldsNoted C asked m (noted header h
-    (line at path (Piece (Octets bound) offset octets more) ∷ []))
+    (line at path (Piece (Octets (Raw bound)) offset octets more) ∷ []))
 keyless_octets C asked header path at offset octets more h m bound =
     keyless_noted C asked m h _ (same_but_key (header && is_key_path path) h
-    (Piece (Octets bound) offset octets more))
+    (Piece (Octets (Raw bound)) offset octets more))
 
 pub keyless_piece : (C : Table) (asked header : Bool) (T : Ty) (path : List PathSegment)
     (at offset : ℕ) (octets : List ℕ) (more : Bool) (h : Noted) (m : Notes) (bound : Option ℕ) →

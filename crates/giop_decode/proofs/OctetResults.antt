@@ -363,7 +363,7 @@ after_now : (n : ℕ) (coding : Coding) (path : List PathSegment) (T : Ty) (k : 
 after_now n coding path (Single scalar) k = single_now n path scalar k
 after_now n coding path (Text bound) zero = (refl, refl, refl)
 after_now n coding path (Text bound) (suc k) = search (arith, now_unless, content_now)
-after_now n coding path (Octets bound) k = search (arith, now_unless, content_now)
+after_now n coding path (Octets kind) k = search (arith, now_unless, content_now)
 after_now n coding path (Encapsulation T) k = search (arith, sized_now)
 after_now n coding path (Sequence bound T) k = search (arith, now_unless, now_front, parts_quiet)
 after_now n coding path (Union choice scalar select names cases) k =

@@ -5,7 +5,7 @@ use Rattle.arrayvec.specs.ArrayVec.{ArrayVec}
 use Rattle.giop_decode.specs.declared.decoder.Decoder.{Decoder}
 use Rattle.giop_decode.specs.declared.leaf.Leaf.{Leaf as Innermost}
 use Rattle.giop_decode.specs.declared.progress.Progress.TheVariants as progress
-use Rattle.giop_decode.specs.DecoderState.{Fits, CanStandAt, KeepsNoted, read_by_fields}
+use Rattle.giop_decode.specs.SeenState.{Fits, CanStandAt, KeepsNoted, read_by_fields}
 use Rattle.giop_decode.specs.DecoderSteps.{decoder_step, Comes, leaf_in}
 use Rattle.giop_decode.specs.ReadResult.{plain, Line, PathSegment, Short, with_front}
 use Rattle.giop_decode.specs.ReadingSteps.{coding_in, leaf_step, root_step, around, heard_parts, path_in}
@@ -23,6 +23,7 @@ held_in d carry piece = record {
   order = d.order;
   head = d.head;
   at = d.at;
+  narrow = d.narrow;
   outer = d.outer;
   inside = d.inside;
   leaf = d.leaf;
@@ -74,10 +75,11 @@ module _ (C : Table) (d new : Decoder) (leaf : Innermost) (octet : ℕ)
       CanStandAt new (here + 1)
   held_here here at h = search (arith, stand_ticked)
 
-  pub held_fits : new.head ≡ d.head → new.notes ≡ d.notes → new.inside ≡ d.inside →
+  pub held_fits : new.head ≡ d.head → new.narrow ≡ d.narrow → new.notes ≡ d.notes →
+      new.inside ≡ d.inside →
       new.at ≡ (d.at + 1) % 8 →
       IsClean leaf new.carry new.piece.items → Holds C d new leaf f.here octet → Fits C new
-  held_fits root notes encloses at clean holds =
+  held_fits root narrow notes encloses at clean holds =
       let it : f.leaf ≡ leaf = same_some f.leaf leaf (sym f.goes_on ∙ e) in
       step_fits C d new f octet (record {
         lines = [];
@@ -86,7 +88,7 @@ module _ (C : Table) (d new : Decoder) (leaf : Innermost) (octet : ℕ)
             leaf;
         goes_on = e';
       })
-      (held_here f.here at f.stands) (rw counts on)
+      (narrow ∙ f.narrow) (held_here f.here at f.stands) (rw counts on)
       (rw (encloses, counts, inside_ticked d.outer.items) f.inside)
       (rw (counts, ← it) (link_ticked C f.root d.outer.items (leaf_type f.leaf) f.link))
       (rw counts known_on) (rw (← it) f.known) clean (rw (root, notes) f.of_root)

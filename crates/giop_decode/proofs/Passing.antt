@@ -1,11 +1,11 @@
 -- Octets that are taken together, the last of which is passed: they are taken as a run.
-use Rattle.std.proofs.Common.{true, false, ◌≡◌, Result, Ok, IsErr, ℕ, ◌+◌, ◌-◌, ◌<◌, List, ◌++◌, length, take, get_or, sym, subst, arith, ap}
+use Rattle.std.proofs.Common.{true, false, ◌≡◌, Result, Ok, IsErr, ℕ, ◌+◌, ◌-◌, ◌<◌, List, ◌++◌, length, take, get_or, sym, subst, arith, ap, ◌∙◌}
 use Rattle.giop_cdr.specs.declared.order.Order.{Order}
 use Rattle.giop_decode.specs.declared.decoder.Decoder.{Decoder}
 use Rattle.giop_decode.specs.declared.leaf.Step.{Step}
 use Rattle.giop_decode.specs.declared.progress.Progress.{Progress}
 use Rattle.giop_decode.specs.declared.progress.Progress.TheVariants as progress
-use Rattle.giop_decode.specs.DecoderState.{AreOfRoot, Fits, GoesOn, IsDone, Reads}
+use Rattle.giop_decode.specs.SeenState.{AreOfRoot, Fits, GoesOn, IsDone, Reads}
 use Rattle.giop_decode.specs.DecoderSteps.{decoder_step}
 use Rattle.giop_decode.specs.NameBuffer.{FitsName, string_offset}
 use Rattle.giop_decode.specs.Passes.{Gives, Passes}
@@ -73,7 +73,7 @@ module _ (C : Table) (d : Decoder) (octets : List ℕ) (of : TypeId) (count : �
     pub last_takes : AllTake C d new octets (count - 1) p
     last_takes T order at message root s r =
         takes_to C T order at message root before new (s ++ take (count - 1) octets) octet p
-        fits_before e.order e.head e.here
+        fits_before e.order e.head e.narrow e.here
         (λ here stands.
         rw (told_whole C d octets of count step rest f m h on here stands)
         (e.steps here (lines here) (says here)))
@@ -98,7 +98,8 @@ module _ (C : Table) (d : Decoder) (octets : List ℕ) (of : TypeId) (count : �
         let link : Link C g.root m.outer.items of.0 =
         let same = same_type C d octets of count step rest f m h on in
         subst (Link C g.root m.outer.items) same g.link in
-        step_fits C before new g octet k (e.here g.here g.stands) next.ahead next.inside
+        step_fits C before new g octet k (e.narrow ∙ g.narrow) (e.here g.here g.stands) next.ahead
+        next.inside
         (next.link g.root k.leaf link k.goes_on) next.known_outer (next.known k.leaf k.goes_on)
         (next.clean k.leaf k.goes_on)
         (subst (λ h. AreOfRoot C h.root new.notes) (sym e.head) (e.of_root g.of_root))

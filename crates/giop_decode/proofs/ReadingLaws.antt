@@ -6,7 +6,7 @@ use Rattle.std.proofs.Common.{◌≡◌, ℕ, suc, ◌+◌, ◌<◌, Bool, false
 use Rattle.giop_cdr.specs.declared.order.Order.{Order}
 use Rattle.giop_print.specs.declared.path.Root.{Root}
 use Rattle.giop_sig.specs.Fits.{IsFit}
-use Rattle.giop_sig.specs.Table.{Table}
+use Rattle.giop_sig.specs.Table.{Table, seen}
 use Rattle.giop_decode.specs.Transitions.{IsWithin}
 use Rattle.giop_sig.specs.HeaderTypes.{IsTable}
 use Rattle.giop_sig.specs.Trees.{catalogue_depth, tree_at}
@@ -33,6 +33,7 @@ use Rattle.giop_decode.proofs.Resuming as resuming
 use Rattle.giop_decode.proofs.Noting as hearing
 use Rattle.giop_decode.proofs.Runs as runs
 use Rattle.giop_decode.proofs.Depths as depths
+use Rattle.giop_decode.proofs.Versions as versions
 
 -- The laws of `reading_laws`: one octet more is one step;
 pub read_goes : (coding : Coding) (path : List PathSegment) (T : Ty) (at : ℕ) (s : List ℕ) (b : ℕ) →
@@ -151,7 +152,8 @@ text_both message root order T at s xs ys = runs.text_both message root order T 
 -- deep.
 pub fits_depth : (C : Table) (d : Decoder) → IsTable C → Fits C d →
     length d.outer.items < catalogue_depth C
-fits_depth C d laws fits = depths.fits_depth C d laws fits
+fits_depth C d laws fits =
+    depths.fits_depth (seen d.narrow C) d (versions.table_seen d.narrow C laws) fits
 
 -- a frame of a part of a type in one room is of one in each
 pub within_in_room : (C : Table) (a b of : ℕ) (inside : Option Order) (i count : ℕ) →

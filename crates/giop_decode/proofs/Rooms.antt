@@ -11,7 +11,8 @@ use Rattle.giop_sig.specs.Fits.{IsFit}
 use Rattle.giop_sig.specs.HeaderTypes.{IsTable}
 use Rattle.giop_sig.specs.Table.{Table}
 use Rattle.giop_sig.specs.Trees.{tree, tree_at}
-use Rattle.giop_sig.specs.Types.{Array, Cases, Encapsulation, Enum, HasMember, HasPlace, HasShape, IsUnion, Led, Marked, Plain, Sequence, Single, Struct, Tag, Ty, Union, shape_in, switch_of}
+use Rattle.giop_sig.specs.Types.{Array, Cases, Encapsulation, Enum, HasMember, HasPlace, HasShape, IsUnion, Led, Marked, OctetKind, Octets, Plain, Raw, Sequence, Single, Struct, Tag, Ty, Union, WideChar, WideText, octets_shape, shape_in, switch_of}
+use Rattle.giop_decode.proofs.OctetKinds.{octets_has, octets_is}
 use Rattle.giop_sig.specs.declared.types.Shape.{Shape}
 use Rattle.giop_sig.specs.declared.types.Shape.TheVariants as shapes
 
@@ -105,12 +106,18 @@ IsHead (shapes.Array count) = ⊥
 IsHead shapes.Led = ⊥
 IsHead s = Unit {0}
 
+octets_head : (kind : OctetKind) → IsHead (octets_shape kind)
+octets_head (Raw bound) = tt
+octets_head WideText = tt
+octets_head WideChar = tt
+
 shape_head : (T : Ty) → HasLeadingNumber T → IsHead (shape_in T)
 shape_head (Single (Plain p)) h = tt
 shape_head (Single (Enum count names)) h = tt
 shape_head (Single (Marked mark)) h = tt
 shape_head (Union (Cases n) scalar select names cases) h = tt
 shape_head (Union Tag scalar select names cases) h = tt
+shape_head (Octets kind) h = octets_head kind
 shape_head T h = h
 
 head_shape : (T : Ty) → IsHead (shape_in T) → HasLeadingNumber T
@@ -119,6 +126,7 @@ head_shape (Single (Enum count names)) h = tt
 head_shape (Single (Marked mark)) h = tt
 head_shape (Union (Cases n) scalar select names cases) h = tt
 head_shape (Union Tag scalar select names cases) h = tt
+head_shape (Octets kind) h = tt
 head_shape T h = h
 
 pub head_in_room : (C : Table) (a b of : ℕ) → HasLeadingNumber (tree_at C a of) →
@@ -161,6 +169,10 @@ module _ (C : Table) (of room : ℕ) where
 
   pub shape_of_room : (s : Shape) → HasShape (tree C of) s → HasShape T s
   shape_of_room s has = has_shape_room C 24 (suc room) of s has
+
+  pub octets_of_room : (kind : OctetKind) → tree C of ≡ Octets kind → T ≡ Octets kind
+  octets_of_room kind is = octets_is T kind (shape_of_room (octets_shape kind)
+      (octets_has (tree C of) kind is))
 
   pub union_of_room : IsUnion (shape_in (tree C of)) → IsUnion (shape_in T)
   union_of_room is = subst IsUnion (shape_room C 24 (suc room) of) is

@@ -9,7 +9,7 @@ use Rattle.giop_decode.specs.declared.progress.Progress.TheVariants as progress
 use Rattle.giop_decode.specs.ReadResult.{plain, Line, lines_of}
 use Rattle.giop_decode.specs.Reading.{reading}
 use Rattle.giop_decode.specs.declared.decoder.Decoder.{Decoder}
-use Rattle.giop_decode.specs.DecoderState.{Reads, Takes, added_lines}
+use Rattle.giop_decode.specs.SeenState.{Reads, Takes, added_lines}
 use Rattle.giop_decode.specs.Runs.{added_lines_of_run, AreAnswered, TakesRun, BreaksOff, WritesRun}
 use Rattle.giop_decode.specs.Spelling.{lines_text}
 use Rattle.giop_decode.proofs.Rooted.{whole_lines}

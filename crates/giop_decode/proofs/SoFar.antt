@@ -7,7 +7,7 @@ use Rattle.giop_cdr.specs.declared.order.Order.{Order}
 use Rattle.giop_decode.specs.declared.decoder.Decoder.{Decoder}
 use Rattle.giop_decode.specs.declared.progress.Progress.{Progress}
 use Rattle.giop_decode.specs.declared.progress.Progress.TheVariants as progress
-use Rattle.giop_decode.specs.DecoderState.{CanStandAt, Fits, GoesOn, IsDone, Reads, Takes, added_lines}
+use Rattle.giop_decode.specs.SeenState.{CanStandAt, Fits, GoesOn, IsDone, Reads, Takes, added_lines}
 use Rattle.giop_decode.specs.DecoderSteps.{decoder_step}
 use Rattle.giop_decode.specs.ReadResult.{lines_of}
 use Rattle.giop_decode.specs.Runs.{added_lines_of_run, AllGathered, AreAnswered, BreaksOff, TakesRun, TakesSome}

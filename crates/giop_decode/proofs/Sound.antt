@@ -12,11 +12,12 @@ use Rattle.giop_sig.specs.Hearings.{hearing_in}
 use Rattle.giop_decode.specs.declared.progress.Kind.{Kind}
 use Rattle.giop_decode.specs.declared.progress.Kind.TheVariants as kinds
 use Rattle.giop_sig.specs.Fits.{IsFit, SelectsBelow}
-use Rattle.giop_sig.specs.Types.{places_of, Choice, Array, Octets, Scalar, Sequence, Single, Struct, Text, Ty, Union, part_of, Encapsulation, Led, Told, Untold, Sequel, Then, Ends, Stops, sequel}
+use Rattle.giop_sig.specs.Types.{places_of, Choice, Array, OctetKind, Octets, Scalar, Sequence, Single, Struct, Text, Ty, Union, part_of, Encapsulation, Led, Told, Untold, Sequel, Then, Ends, Stops, sequel}
 use Rattle.giop_sig.specs.declared.types.Selected.{Selected}
 use Rattle.giop_sig.specs.declared.types.Selected.TheVariants.{Case}
 use Rattle.giop_decode.proofs.Enclosing as enclosing
 use Rattle.giop_decode.proofs.Enclosing.{read_ends}
+use Rattle.giop_decode.proofs.OctetKinds.{size_pos}
 use Rattle.giop_decode.proofs.Law.{headed_by, block_waits, block_got, number_waits, number_blocks, width_pos}
 
 abbrev pub Keeps : Ty → (ℕ → List ℕ → Read) → Type 0
@@ -121,9 +122,9 @@ text_keeps : (path : List PathSegment) (bound : Option ℕ) (n : ℕ) →
 text_keeps path bound zero at s = refl
 text_keeps path bound (suc n) at s = search (arith, sound_unless, content_keeps)
 
-octets_keeps : (path : List PathSegment) (bound : Option ℕ) (n : ℕ) →
-    Keeps (Octets bound) (octets bound path n)
-octets_keeps path bound n at s = search (arith, sound_unless, content_keeps)
+octets_keeps : (path : List PathSegment) (kind : OctetKind) (n : ℕ) →
+    Keeps (Octets kind) (octets kind path n)
+octets_keeps path kind n at s = search (arith, sound_unless, content_keeps)
 
 single_keeps : (T : Ty) (path : List PathSegment) (scalar : Scalar) (n : ℕ) →
     Keeps T (single path scalar n)
@@ -322,8 +323,8 @@ read_keeps (suc d) coding path (Single scalar) fit =
     (λ n. single_keeps (Single scalar) path scalar n)
 read_keeps (suc d) coding path (Text bound) fit =
     headed_keeps coding path (Text bound) tt (lit< tt) (λ n. text_keeps path bound n)
-read_keeps (suc d) coding path (Octets bound) fit =
-    headed_keeps coding path (Octets bound) tt (lit< tt) (λ n. octets_keeps path bound n)
+read_keeps (suc d) coding path (Octets kind) fit =
+    headed_keeps coding path (Octets kind) tt (size_pos kind) (λ n. octets_keeps path kind n)
 read_keeps (suc d) coding path (Struct count names parts) fit =
     parts_keep coding path (Struct count names parts) count refl
     (λ i below. read_keeps d coding (path ++ Name (names i) ∷ []) (parts i) (fit.1 i below))
@@ -356,7 +357,7 @@ unfolding IsFit
 after_keeps zero coding path T n fit = absurd fit
 after_keeps (suc d) coding path (Single scalar) n fit = search (arith, single_keeps)
 after_keeps (suc d) coding path (Text bound) n fit = text_keeps path bound n
-after_keeps (suc d) coding path (Octets bound) n fit = octets_keeps path bound n
+after_keeps (suc d) coding path (Octets kind) n fit = octets_keeps path kind n
 after_keeps (suc d) coding path (Sequence bound T) n fit = search (arith, elements_keep, read_keeps)
 after_keeps (suc d) coding path (Union choice scalar select names cases) n fit = search (
   arith,

@@ -8,7 +8,7 @@ use Rattle.giop_decode.specs.Begins.{start_outer, start_leaf}
 use Rattle.giop_decode.specs.Fits.{Sound}
 use Rattle.giop_decode.specs.Noted.{nothing_noted}
 use Rattle.giop_decode.proofs.NameBuffer.{nothing_fits, nothing_of_root}
-use Rattle.giop_decode.specs.DecoderState.{Fits, Reads, HoldsNoKey, HoldsNoted}
+use Rattle.giop_decode.specs.SeenState.{Fits, Reads, HoldsNoKey, HoldsNoted}
 use Rattle.giop_decode.specs.ReadResult.{plain, LeadingNumber, Short}
 use Rattle.giop_decode.specs.Transitions.{open_parts, is_inside, AreKnown, Link, HaveOctetsLeft, StandAt, tree_in}
 use Rattle.giop_decode.proofs.Around.{read_none}
@@ -25,11 +25,12 @@ module _ (C : Table) (T : Ty) (order : Order) (at message : ℕ) (root : Root) (
   pub first_reads : (first : TypeId) → IsFit 24 T → d.leaf ≡ Some (innermost.Number first) →
       d.carry ≡ [] → ((here : ℕ) → open_parts C here d.outer.items ≡ start_outer T) →
       StandAt at d.outer.items → start_leaf T ≡ LeadingNumber (tree_in C d.outer.items first.0) [] →
-      HoldsNoted C true d.notes nothing_noted → d.order ≡ order → d.head.message ≡ message →
+      HoldsNoted C true d.notes nothing_noted → d.narrow ≡ C.narrow → d.order ≡ order →
+      d.head.message ≡ message →
       d.head.root ≡ root →
       d.at ≡ at % 8 → Reads C T order at message root d []
-  first_reads first fit goes_on empty are stand leaf recalls same_order same_message same_root
-      offset = search (arith, whole_none, add-zero)
+  first_reads first fit goes_on empty are stand leaf recalls narrow same_order same_message
+      same_root offset = search (arith, whole_none, add-zero)
 
 pub first_fits : (C : Table) (of : ℕ) (d : Decoder) (first : TypeId) → of < length C.types →
     IsFit 24 (tree C of) → d.leaf ≡ Some (innermost.Number first) → d.carry ≡ [] →
@@ -38,9 +39,10 @@ pub first_fits : (C : Table) (of : ℕ) (d : Decoder) (first : TypeId) → of < 
     start_leaf (tree C of) ≡ LeadingNumber (tree_in C d.outer.items first.0) [] → Link C of
     d.outer.items first.0 →
     AreKnown C d.outer.items → first.0 < length C.types → d.at < 8 →
-    HoldsNoted C true d.notes nothing_noted → HoldsNoKey d.notes.buffer → Fits C d
+    HoldsNoted C true d.notes nothing_noted → HoldsNoKey d.notes.buffer → d.narrow ≡ C.narrow →
+    Fits C d
 first_fits C of d first known_root fit goes_on empty none are stand ahead inside leaf link
-    known_outer known at none_noted no_key =
+    known_outer known at none_noted no_key narrow =
     let T = tree C of in
     let sound : Sound T (0 + 0) (Short [] 0 (start_outer T) (start_leaf T)) =
     subst (Sound T (0 + 0)) (read_none (plain d.order) [] 24 T 0 fit)
@@ -52,6 +54,7 @@ first_fits C of d first known_root fit goes_on empty none are stand ahead inside
       known_root = known_root;
       link = link;
       fit = fit;
+      narrow = narrow;
       here = d.at;
       stands = (omega (arith, at), stand);
       fits = rw (are d.at, empty, ← leaf) sound.1;

@@ -16,7 +16,8 @@ use Rattle.giop_decode.specs.Reading.{wrong}
 use Rattle.giop_decode.specs.ReadingSteps.{IsRule, after}
 use Rattle.giop_decode.specs.Runs.{IsStepBy}
 use Rattle.giop_decode.specs.Transitions.{TransitionGives, over_by}
-use Rattle.giop_sig.specs.Types.{Scalar, Plain, Enum, Marked, Ty, Single, Text, Octets, Sequence, Union, Encapsulation, IsUnion, shape_in, switch_of}
+use Rattle.giop_sig.specs.Types.{Scalar, Plain, Enum, Marked, Ty, Single, Text, OctetKind, Octets, bound_of, Sequence, Union, Encapsulation, IsUnion, shape_in, switch_of}
+use Rattle.giop_decode.proofs.OctetKinds.{octets_no_union}
 
 pub union_silent : (T : Ty) → IsUnion (shape_in T) → is_text T ≡ false
 union_silent (Text bound) is = absurd is
@@ -56,9 +57,10 @@ module _ (coding : Coding) (path : List PathSegment) (T : Ty) (at : ℕ) where
       after coding path T (suc n) at [] ≡ Fault [] at kinds.Bound T
   text_over bound n is great = rw (is, great) refl
 
-  pub octets_over : (bound : Option ℕ) (n : ℕ) → T ≡ Octets bound → over bound n ≡ over_by true →
+  pub octets_over : (kind : OctetKind) (n : ℕ) → T ≡ Octets kind →
+      over (bound_of kind) n ≡ over_by true →
       after coding path T n at [] ≡ Fault [] at kinds.Bound T
-  octets_over bound n is great = rw (is, great) refl
+  octets_over kind n is great = rw (is, great) refl
 
   pub sequence_over : (bound : Option ℕ) (E : Ty) (n : ℕ) → T ≡ Sequence bound E →
       over bound n ≡ over_by true → after coding path T n at [] ≡ Fault [] at kinds.Bound T
@@ -78,6 +80,8 @@ switch_wrong coding path (Union choice own select names cases) at scalar n kind 
 switch_wrong coding path (Single (Plain p)) at scalar n kind is same bad = absurd is
 switch_wrong coding path (Single (Enum count names)) at scalar n kind is same bad = absurd is
 switch_wrong coding path (Single (Marked mark)) at scalar n kind is same bad = absurd is
+switch_wrong coding path (Octets octets) at scalar n kind is same bad =
+    absurd (octets_no_union octets is)
 switch_wrong coding path _ at scalar n kind is same bad = absurd is
 
 pub wrong_enum : (count : ℕ) (names : ℕ → List ℕ) (n : ℕ) → count ≤ n →
@@ -112,7 +116,7 @@ piece_ended (Text bound) of has = record {
   output_fits_string = refl;
   string_goes_on = λ n. (refl, refl);
 }
-piece_ended (Octets bound) of has = record {
+piece_ended (Octets kind) of has = record {
   transition_fits = tt;
   has_output = tt;
   output_fits_string = refl;

@@ -8,7 +8,7 @@ use Rattle.giop_decode.specs.declared.notes.Buffer.TheVariants as buffers
 use Rattle.giop_decode.specs.declared.notes.Notes.{Notes}
 use Rattle.giop_decode.specs.NameBuffer.{FitsName}
 use Rattle.giop_decode.specs.Noted.{Noted}
-use Rattle.giop_decode.specs.DecoderState.{Fits, IsHeld, KeepsNoted, Reads, HoldsNoted, read_by_fields}
+use Rattle.giop_decode.specs.SeenState.{Fits, IsHeld, KeepsNoted, Reads, HoldsNoted, read_by_fields}
 use Rattle.giop_decode.specs.ReadResult.{Line, Read}
 use Rattle.giop_decode.specs.Stored.{IsKept, IsRestored, Stored, fixed_octets, kept_name}
 use Rattle.giop_print.specs.declared.path.Root.{Root}

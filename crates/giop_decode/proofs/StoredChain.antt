@@ -10,7 +10,7 @@ use Rattle.giop_decode.specs.declared.frame.Stage.{Stage}
 use Rattle.giop_decode.specs.declared.leaf.Leaf.{Leaf as Innermost}
 use Rattle.giop_decode.specs.FrameChain.{HasFrame, HasFrameAs, HasPart, LeafFits, Chained, Chains, root_of}
 use Rattle.giop_decode.specs.Fits.{CanFollow, FitsIn, HasCase, IsEncapsulation}
-use Rattle.giop_decode.specs.DecoderState.{Fits}
+use Rattle.giop_decode.specs.SeenState.{Fits}
 use Rattle.giop_decode.specs.ReadResult.{OpenPart, Leaf}
 use Rattle.giop_decode.specs.Transitions.{IsUncounted, parts_in_room, part_as, part_in, part_index, open_part_in, HaveOctetsLeft, AreKnown, IsWithin, IsWithinAs, Link, LinkIn, StandAt, leaf_by, leaf_type}
 use Rattle.giop_decode.proofs.Around.{fit_room}
@@ -36,7 +36,7 @@ part_place (Union Tag scalar select names cases) i count has = has.0
 part_place (Struct n names parts) i count has = search (arith)
 part_place (Single scalar) i count has = absurd has.0
 part_place (Text bound) i count has = absurd has.0
-part_place (Octets bound) i count has = absurd has.0
+part_place (Octets kind) i count has = absurd has.0
 part_place T i count has = tt
 
 part_uncounted : (T : Ty) (i count : ℕ) → HasPart T i count →
@@ -44,7 +44,7 @@ part_uncounted : (T : Ty) (i count : ℕ) → HasPart T i count →
 part_uncounted (Union choice scalar select names cases) i count has is = has.1
 part_uncounted (Single scalar) i count has is = absurd has.0
 part_uncounted (Text bound) i count has is = absurd has.0
-part_uncounted (Octets bound) i count has is = absurd has.0
+part_uncounted (Octets kind) i count has is = absurd has.0
 part_uncounted (Led h F parts) i count has is = has.1
 part_uncounted T i count has is = absurd is
 
@@ -162,6 +162,7 @@ follow_part (Single (Enum n names)) i count led has = absurd has.0
 follow_part (Single (Marked mark)) i count led has = absurd has.0
 follow_part (Union (Cases n) scalar select names cases) i count led has = absurd cc
 follow_part (Union Tag scalar select names cases) i count led has = absurd cc
+follow_part (Octets kind) i count led has = absurd has.0
 follow_part T i count led has = absurd cc
 
 follow_known : (C : Table) (room id i : ℕ) → shape_in (tree_at C (suc room) id) ≡ shapes.Led →
@@ -393,8 +394,9 @@ root_linked : (C : Table) (root : ℕ) (frames : List Frame) (leaf : Innermost) 
 root_linked C root [] leaf link = sym link
 root_linked C root (f ∷ frames) leaf link = sym link.0
 
-pub chains_fits : (C : Table) (d : Decoder) → IsTable C → Chains C d → Fits C d
-chains_fits C d laws h =
+pub chains_fits : (C : Table) (d : Decoder) → IsTable C → d.narrow ≡ C.narrow → Chains C d →
+    Fits C d
+chains_fits C d laws narrow h =
     let root = root_of d.outer.items h.leaf in
     let here = d.at + 8 * all_octets d.outer.items in
     let few = h.few in
@@ -408,6 +410,7 @@ chains_fits C d laws h =
       known_root = h.known;
       link = c.link;
       fit = fit_some (tree C root) (root_is C root laws h.known) h.some;
+      narrow = narrow;
       here = here;
       stands = (omega (arith, h.at), stand_above here d.outer.items (omega arith));
       fits = c.fits;

@@ -1,5 +1,5 @@
 -- At which offsets the fields of a stored decoder are.
-use Rattle.std.proofs.Common.{◌≡◌, ℕ, ◌+◌, ◌≤◌, List, [], ◌∷◌, ◌++◌, length, drop, refl, ap, ◌∙◌, append_assoc, arith}
+use Rattle.std.proofs.Common.{◌≡◌, ℕ, ◌+◌, ◌≤◌, List, [], ◌∷◌, ◌++◌, length, drop, refl, ap, ◌∙◌, append_assoc, arith, length-append}
 use Rattle.giop_decode.specs.declared.decoder.Decoder.{Decoder}
 use Rattle.giop_decode.specs.declared.frame.Frame.{Frame}
 use Rattle.giop_decode.specs.declared.leaf.Leaf.{Leaf as Innermost}
@@ -9,7 +9,7 @@ use Rattle.giop_decode.specs.declared.notes.Last.TheVariants as lasts
 use Rattle.giop_decode.specs.declared.notes.Notes.{Notes}
 use Rattle.giop_decode.specs.declared.notes.Buffer.{Buffer}
 use Rattle.giop_decode.specs.declared.notes.Buffer.TheVariants as buffers
-use Rattle.giop_decode.specs.Stored.{order_octet, root_octet, leaf_octets, buffer_octet, last_octets, expects_octet, kept_name, name_octets, notes_octets, fixed_octets, frame_size, frame_octets, HasRange}
+use Rattle.giop_decode.specs.Stored.{narrow_octet, order_octet, root_octet, leaf_octets, buffer_octet, last_octets, expects_octet, kept_name, name_octets, notes_octets, fixed_octets, frame_size, frame_octets, HasRange}
 use Rattle.giop_octets.specs.Fields.{four, eight, optional, held}
 use Rattle.giop_octets.proofs.FieldLaws.{eight_long, optional_long, held_long, behind}
 
@@ -85,6 +85,22 @@ memory_stands m at octets rest short is =
       expects_reply = (_, expects);
     }
 
+notes_long : (m : Notes) → length m.name.items ≤ 128 → length (notes_octets m) ≡ 141
+notes_long m short =
+    let id : List ℕ = optional m.request_id in
+    let last : List ℕ = last_octets m.last in
+    let name : List ℕ = buffer_octet m.buffer ∷ name_octets m in
+    let end : List ℕ = expects_octet m.expects_reply ∷ [] in
+    omega (
+      arith,
+      length-append (id ++ last ++ name) end,
+      length-append (id ++ last) name,
+      length-append id last,
+      optional_long m.request_id,
+      last_long m.last,
+      held_long 128 (kept_name m.buffer m.name.items) (kept_short m.buffer m.name.items short),
+    )
+
 pub record FieldsStand (d : Decoder) (inner : Innermost) (fixed : List ℕ) : Type 0 where
   pub order : Stands 0 fixed (order_octet d.order ∷ [])
   pub root : Stands 1 fixed (root_octet d.head.root ∷ [])
@@ -94,6 +110,7 @@ pub record FieldsStand (d : Decoder) (inner : Innermost) (fixed : List ℕ) : Ty
   pub carry : Stands 24 fixed (held 8 d.carry)
   pub piece : Stands 33 fixed (held 32 d.piece.items)
   pub notes : Stands 66 fixed (notes_octets d.notes)
+  pub narrow : Stands 207 fixed (narrow_octet d.narrow ∷ [])
 
 six : (a b c d e f : List ℕ) → a ++ b ++ c ++ d ++ e ++ f ≡ a ++ (b ++ (c ++ (d ++ (e ++ f))))
 six a b c d e f = simp append_assoc
@@ -102,13 +119,13 @@ pub fields_stand : (d : Decoder) (leaf : Innermost) (fixed : List ℕ) → fixed
     HasRange d → FieldsStand d leaf fixed
 unfolding fixed_octets
 fields_stand d leaf fixed is range =
-    let zeros : List ℕ = 0 ∷ [] in
-    let memory_on : List ℕ = notes_octets d.notes ++ zeros in
+    let last : List ℕ = narrow_octet d.narrow ∷ [] in
+    let memory_on : List ℕ = notes_octets d.notes ++ last in
     let piece_on : List ℕ = held 32 d.piece.items ++ memory_on in
     let carry_on : List ℕ = held 8 d.carry ++ piece_on in
     let message : drop 2 fixed ≡ eight d.head.message ++ ((d.at ∷ leaf_octets leaf) ++ carry_on) =
     ap (drop 2) is ∙ six (eight d.head.message) (d.at ∷ leaf_octets leaf) (held 8 d.carry)
-    (held 32 d.piece.items) (notes_octets d.notes) zeros in
+    (held 32 d.piece.items) (notes_octets d.notes) last in
     let at : drop 10 fixed ≡ (d.at ∷ []) ++ (leaf_octets leaf ++ carry_on) =
     behind 2 8 fixed _ _ message (eight_long d.head.message) in
     let inner : drop 11 fixed ≡ leaf_octets leaf ++ carry_on =
@@ -117,9 +134,11 @@ fields_stand d leaf fixed is range =
     behind 11 13 fixed _ _ inner (leaf_long leaf) in
     let piece : drop 33 fixed ≡ held 32 d.piece.items ++ memory_on =
     behind 24 9 fixed (held 8 d.carry) _ carry (held_long 8 d.carry range.carry) in
-    let notes : drop 66 fixed ≡ notes_octets d.notes ++ zeros =
+    let notes : drop 66 fixed ≡ notes_octets d.notes ++ last =
     behind 33 33 fixed (held 32 d.piece.items) _ piece
     (held_long 32 d.piece.items range.piece) in
+    let narrow : drop 207 fixed ≡ (narrow_octet d.narrow ∷ []) ++ [] =
+    behind 66 141 fixed (notes_octets d.notes) _ notes (notes_long d.notes range.notes.name) in
     record {
       order = (_, is);
       root = (_, ap (drop 1) is);
@@ -129,6 +148,7 @@ fields_stand d leaf fixed is range =
       carry = (_, carry);
       piece = (_, piece);
       notes = (_, notes);
+      narrow = (_, narrow);
     }
 
 -- the fields, written one after the other
@@ -137,7 +157,7 @@ pub fields_written : (d : Decoder) (leaf : Innermost) (carry piece o0 o1 o2 o3 o
     o1 ≡ o0 ++ order_octet d.order ∷ [] → o2 ≡ o1 ++ root_octet d.head.root ∷ [] →
     o3 ≡ o2 ++ eight d.head.message → o4 ≡ o3 ++ d.at ∷ [] → o5 ≡ o4 ++ leaf_octets leaf →
     o6 ≡ o5 ++ held 8 carry → o7 ≡ o6 ++ held 32 piece → o8 ≡ o7 ++ notes_octets d.notes →
-    o9 ≡ o8 ++ 0 ∷ [] → o9 ≡ fixed_octets d leaf
+    o9 ≡ o8 ++ narrow_octet d.narrow ∷ [] → o9 ≡ fixed_octets d leaf
 unfolding fixed_octets
 fields_written d leaf carry piece o0 o1 o2 o3 o4 o5 o6 o7 o8 o9 a b e0 e1 e2 e3 e4 e5 e6 e7 e8 e9 =
     search (arith, append_assoc)

@@ -21,11 +21,12 @@ use Rattle.giop_decode.specs.Begins.{start_outer, start_leaf}
 use Rattle.giop_decode.specs.Fits.{HasCase, IsEncapsulation}
 use Rattle.giop_decode.specs.Transitions.{IsNumberOf, TransitionGives, over_by}
 use Rattle.giop_decode.proofs.Law.{block_got, block_step_got}
+use Rattle.giop_decode.proofs.OctetKinds.{octets_no_union}
 use Rattle.giop_decode.proofs.Leaving.{fit_held}
 use Rattle.giop_decode.proofs.Enclosing.{with_front-enclosed}
 use Rattle.std.proofs.Math.Seq.{take-nil, drop-nil}
 use Rattle.giop_decode.proofs.Around.{block_none, first_part, read_none}
-use Rattle.giop_sig.specs.Types.{Cases, Scalar, Plain, Enum, Marked, Led, Ty, Single, Text, Octets, Struct, Union, Sequence, Array, part_of, switch_of, shape_in, select_in, interpreted_in, IsUnion, HasMember, Tag, tag_of, Encapsulation}
+use Rattle.giop_sig.specs.Types.{Cases, Scalar, Plain, Enum, Marked, Led, Ty, Single, Text, OctetKind, Octets, bound_of, Struct, Union, Sequence, Array, part_of, switch_of, shape_in, select_in, interpreted_in, IsUnion, HasMember, Tag, tag_of, Encapsulation}
 use Rattle.giop_sig.specs.declared.types.Selected.TheVariants.{Case, Nothing, Refused}
 use Rattle.giop_sig.specs.Fits.{IsFit}
 
@@ -72,7 +73,7 @@ switch_bound (Single (Plain q)) p order octets u is whole are = absurd u
 switch_bound (Single (Enum n names)) p order octets u is whole are = absurd u
 switch_bound (Text bound) p order octets u is whole are = absurd u
 switch_bound (Encapsulation T) p order octets u is whole are = absurd u
-switch_bound (Octets bound) p order octets u is whole are = absurd u
+switch_bound (Octets kind) p order octets u is whole are = absurd (octets_no_union kind u)
 switch_bound (Single (Marked mark)) p order octets u is whole are = absurd u
 switch_bound (Led k F rest) p order octets u is whole are = absurd u
 
@@ -122,13 +123,15 @@ module _ (coding : Coding) (path : List PathSegment) (T : Ty) (at : ℕ) where
       after coding path T (suc n) at [] ≡ Short [] at [] (Content T n 0 [])
   text_open bound n is ok = search (arith, content_none)
 
-  pub octets_empty : (bound : Option ℕ) (n : ℕ) → T ≡ Octets bound → over bound n ≡ over_by false →
-      n ≡ 0 → after coding path T n at [] ≡ Done (line at path (Piece T 0 [] false) ∷ []) at []
-  octets_empty bound n is ok none = search (arith, block_got, add-zero)
+  pub octets_empty : (kind : OctetKind) (n : ℕ) → T ≡ Octets kind →
+      over (bound_of kind) n ≡ over_by false → n ≡ 0 →
+      after coding path T n at [] ≡ Done (line at path (Piece T 0 [] false) ∷ []) at []
+  octets_empty kind n is ok none = search (arith, block_got, add-zero)
 
-  pub octets_open : (bound : Option ℕ) (n : ℕ) → T ≡ Octets bound → over bound n ≡ over_by false →
-      0 < n → after coding path T n at [] ≡ Short [] at [] (Content T n 0 [])
-  octets_open bound n is ok pos = search (arith, content_none)
+  pub octets_open : (kind : OctetKind) (n : ℕ) → T ≡ Octets kind →
+      over (bound_of kind) n ≡ over_by false → 0 < n →
+      after coding path T n at [] ≡ Short [] at [] (Content T n 0 [])
+  octets_open kind n is ok pos = search (arith, content_none)
 
   pub sequence_empty : (bound : Option ℕ) (E : Ty) (n : ℕ) → T ≡ Sequence bound E →
       over bound n ≡ over_by false → n ≡ 0 →
@@ -154,7 +157,7 @@ member_case (Sequence bound T) i u h = absurd u
 member_case (Single (Plain p)) i u h = absurd u
 member_case (Single (Enum n names)) i u h = absurd u
 member_case (Text bound) i u h = absurd u
-member_case (Octets bound) i u h = absurd u
+member_case (Octets kind) i u h = absurd (octets_no_union kind u)
 member_case (Single (Marked mark)) i u h = absurd u
 member_case (Led k F rest) i u h = absurd u
 
@@ -190,7 +193,7 @@ module _ (coding : Coding) (path : List PathSegment) (at : ℕ) (number : Taken)
   case_transition (suc d) (Single (Plain p)) i is fit u e h = absurd u
   case_transition (suc d) (Single (Enum n names)) i is fit u e h = absurd u
   case_transition (suc d) (Text bound) i is fit u e h = absurd u
-  case_transition (suc d) (Octets bound) i is fit u e h = absurd u
+  case_transition (suc d) (Octets kind) i is fit u e h = absurd (octets_no_union kind u)
   case_transition (suc d) (Single (Marked mark)) i is fit u e h = absurd u
   case_transition (suc d) (Led k F rest) i is fit u e h = absurd u
   case_transition (suc d) (Encapsulation T) i is fit u e h = absurd u
@@ -215,7 +218,7 @@ module _ (coding : Coding) (path : List PathSegment) (at : ℕ) (number : Taken)
   turns_nothing (Single (Plain p)) is u e = absurd u
   turns_nothing (Single (Enum n names)) is u e = absurd u
   turns_nothing (Text bound) is u e = absurd u
-  turns_nothing (Octets bound) is u e = absurd u
+  turns_nothing (Octets kind) is u e = absurd (octets_no_union kind u)
   turns_nothing (Single (Marked mark)) is u e = absurd u
   turns_nothing (Led k F rest) is u e = absurd u
   turns_nothing (Encapsulation T) is u e = absurd u
@@ -231,7 +234,7 @@ module _ (coding : Coding) (path : List PathSegment) (at : ℕ) (number : Taken)
   turns_refused (Single (Plain p)) is u e = absurd u
   turns_refused (Single (Enum n names)) is u e = absurd u
   turns_refused (Text bound) is u e = absurd u
-  turns_refused (Octets bound) is u e = absurd u
+  turns_refused (Octets kind) is u e = absurd (octets_no_union kind u)
   turns_refused (Single (Marked mark)) is u e = absurd u
   turns_refused (Led k F rest) is u e = absurd u
   turns_refused (Encapsulation T) is u e = absurd u

@@ -22,7 +22,7 @@ use Rattle.giop_decode.specs.declared.leaf.Output.{Output}
 use Rattle.giop_decode.specs.declared.leaf.Output.TheVariants as outputs
 use Rattle.giop_decode.specs.Fits.{ContentFits, HasLeadingNumber}
 use Rattle.giop_decode.specs.Noted.{Noted, noted, without_name_if, ends_in_string, in_content, is_header_root, is_text, nothing_noted}
-use Rattle.giop_decode.specs.DecoderState.{Fits, CanStandAt, KeepsNoted, HoldsNoted, read_by_fields}
+use Rattle.giop_decode.specs.SeenState.{Fits, CanStandAt, KeepsNoted, HoldsNoted, read_by_fields}
 use Rattle.giop_decode.specs.DecoderSteps.{IsAround, IsNotRefused, decoder_step, emitted}
 use Rattle.giop_decode.specs.Pieces.{ends, tail, unless}
 use Rattle.giop_decode.specs.Reading.{after_leading_number}
@@ -559,6 +559,7 @@ at_last d at outer = record {
   order = d.order;
   head = d.head;
   at = at;
+  narrow = d.narrow;
   outer = outer;
   inside = d.inside;
   leaf = d.leaf;
@@ -576,6 +577,7 @@ held_at_last C d now octets of count at s rest outer h there counted = record {
   further = record {
     order = h.order;
     head = h.head;
+    narrow = h.narrow;
     at = rw h.at at there;
     outer = rw h.outer at counted;
     inside = h.inside;
@@ -592,6 +594,7 @@ held_now C d octets of count s rest carry piece f h = record {
   fits = f;
   order = refl;
   head = refl;
+  narrow = refl;
   at = refl;
   outer = refl;
   inside = refl;
@@ -625,6 +628,7 @@ module _ (C : Table) (d : Decoder) (octets : List ℕ) (of : TypeId) (count : �
         record {
           order = t.order;
           head = t.head;
+          narrow = t.narrow;
           at = t.at;
           outer = t.outer;
           inside = t.inside;
@@ -656,13 +660,15 @@ module _ (C : Table) (d : Decoder) (octets : List ℕ) (of : TypeId) (count : �
 
   -- and once the last is counted
   pub behind_last : (now : Decoder) → now.order ≡ m.order → now.head ≡ m.head →
+      now.narrow ≡ m.narrow →
       now.at ≡ (m.at + 1) % 8 → AreHeard C (ticked m.outer.items) now.outer.items of.0 s.output
       (m.piece.items ++ rest) → now.inside ≡ m.inside → now.carry ≡ m.carry →
       now.piece ≡ m.piece → now.notes ≡ m.notes → IsBehind C m now of.0 s rest
-  behind_last now order head at outer inside carry piece notes = record {
+  behind_last now order head narrow at outer inside carry piece notes = record {
     around = around_whole;
     order = order;
     head = head;
+    narrow = narrow;
     at = at;
     outer = outer;
     inside = inside;
@@ -797,6 +803,7 @@ held_behind C d now octets of count at s rest outer h there counted =
     let all : suc (count - 1) ≡ count = omega (arith, some) in
     behind_last C d octets of count s rest h.fits (at_its_last now count) h.together
     (held_at_last C d now octets of count _ s rest _ h refl refl) (at_last now at outer) refl refl
+    refl
     (omega (arith, there, some))
     (subst (λ fs. AreHeard C fs outer.items of.0 s.output (now.piece.items ++ rest))
     (ap (λ n. ticked_by n now.outer.items) (sym all)

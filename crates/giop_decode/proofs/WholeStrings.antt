@@ -18,7 +18,7 @@ use Rattle.giop_decode.specs.Reading.{enclosed, after_leading_number, inside, me
 use Rattle.giop_decode.specs.ReadResult.{Coding, Count, Done, Fault, Held, Index, Line, Member, Name, Number, Part, Piece, OpenPart, Read, PathSegment, Short, Size, Switch, followed, line, with_front, within, lines_of}
 use Rattle.giop_decode.specs.declared.progress.Kind.TheVariants as kinds
 use Rattle.giop_decode.specs.declared.progress.Kind.{Kind}
-use Rattle.giop_sig.specs.Types.{tag_of, Array, Encapsulation, Octets, Scalar, Sequence, Single, Struct, Text, Ty, Union, Led, Hearing, Told, Untold, Sequel, Then, Ends, Stops}
+use Rattle.giop_sig.specs.Types.{tag_of, Array, Encapsulation, OctetKind, Octets, bound_of, Scalar, Sequence, Single, Struct, Text, Ty, Union, Led, Hearing, Told, Untold, Sequel, Then, Ends, Stops}
 use Rattle.giop_sig.specs.declared.types.Selected.{Selected}
 use Rattle.giop_sig.specs.declared.types.Selected.TheVariants.{Case}
 use Rattle.giop_decode.proofs.Noting.{cut_inside, front_inside}
@@ -207,11 +207,11 @@ module _ (T : Ty) (none : (offset : ℕ) (octets : List ℕ) (more : Bool) →
       bare_full path total offset (content T path total full (offset + 32)) (block 32 at s)
       (bare_none path total full (offset + 32))
 
-octets_strings : (bound : Option ℕ) (path : List PathSegment) (n at : ℕ) (s : List ℕ) →
-    Strings (octets bound path n at s)
-octets_strings bound path n at s =
-    unless_strings (Octets bound) (over bound n) at _
-    (no_strings _ (bare_none (Octets bound) (λ offset octets more. refl) (λ n xs. refl) path n
+octets_strings : (kind : OctetKind) (path : List PathSegment) (n at : ℕ) (s : List ℕ) →
+    Strings (octets kind path n at s)
+octets_strings kind path n at s =
+    unless_strings (Octets kind) (over (bound_of kind) n) at _
+    (no_strings _ (bare_none (Octets kind) (λ offset octets more. refl) (λ n xs. refl) path n
     (full_pieces n)
     0 at s))
 
@@ -303,9 +303,9 @@ read_strings coding path (Single scalar) at s =
 read_strings coding path (Text bound) at s =
     headed_strings (Text bound) _ (λ xs at rest.
     text_strings bound path (num coding.order xs) at rest) _
-read_strings coding path (Octets bound) at s =
-    headed_strings (Octets bound) _ (λ xs at rest.
-    octets_strings bound path (num coding.order xs) at rest) _
+read_strings coding path (Octets kind) at s =
+    headed_strings (Octets kind) _ (λ xs at rest.
+    octets_strings kind path (num coding.order xs) at rest) _
 read_strings coding path (Struct count names parts) at s =
     parts_strings _ (λ i at s. within_strings (Part (Struct count names parts) i count) _
     (read_strings coding (path ++ Name (names i) ∷ []) (parts i) at s)) count 0 at s

@@ -16,7 +16,7 @@ use Rattle.giop_decode.specs.ReadingSteps.{around, root_step}
 use Rattle.giop_decode.specs.NameBuffer.{string_offset}
 use Rattle.giop_decode.specs.NotingSteps.{transition_offset}
 use Rattle.giop_decode.specs.Noted.{is_header_root, names_operation}
-use Rattle.giop_decode.specs.DecoderState.{read_by_fields}
+use Rattle.giop_decode.specs.SeenState.{read_by_fields}
 use Rattle.giop_decode.specs.Transitions.{open_parts, gone_to, leaf_of, leaf_type, tree_in, after_transition, still_held, is_inside, AreKnown, HaveOctetsLeft, IsClean, Link}
 use Rattle.giop_sig.specs.Types.{Ty}
 use Rattle.giop_sig.specs.Fits.{IsFit}

@@ -14,17 +14,17 @@ HasLeadingNumber (Array count T) = ⊥
 HasLeadingNumber (Led h F parts) = ⊥
 HasLeadingNumber T = Unit {0}
 
--- a type that has a content after its length: a string, an octet sequence, or an encapsulation, by
+-- a type that has a content after its length: a string, octets of a kind, or an encapsulation, by
 -- its rest
 abbrev pub HasContent : Ty → Type 0
 HasContent (Text bound) = Unit {0}
-HasContent (Octets bound) = Unit {0}
+HasContent (Octets kind) = Unit {0}
 HasContent (Encapsulation T) = Unit {0}
 HasContent T = ⊥
 
 -- a content of octets alone, without a zero after it
 abbrev pub IsBare : Ty → Type 0
-IsBare (Octets bound) = Unit {0}
+IsBare (Octets kind) = Unit {0}
 IsBare (Encapsulation T) = Unit {0}
 IsBare T = ⊥
 

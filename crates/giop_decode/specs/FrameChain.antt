@@ -5,7 +5,7 @@ use Rattle.giop_cdr.specs.declared.order.Order.{Order}
 use Rattle.giop_decode.specs.declared.decoder.Decoder.{Decoder}
 use Rattle.giop_decode.specs.declared.frame.Frame.{Frame}
 use Rattle.giop_decode.specs.declared.leaf.Leaf.{Leaf as Innermost}
-use Rattle.giop_decode.specs.DecoderState.{AreOfRoot}
+use Rattle.giop_decode.specs.SeenState.{AreOfRoot}
 use Rattle.giop_decode.specs.Fits.{CanFollow, HasParts, FitsIn, IsEncapsulation}
 use Rattle.giop_decode.specs.NameBuffer.{FitsName, string_offset}
 use Rattle.giop_decode.specs.Transitions.{leaf_by, leaf_type, tree_in, is_inside, part_index, IsClean, IsWithinAs}

@@ -61,6 +61,7 @@ pub record IsNextNumber (C : Table) (frame : Frame) (next : TypeId) : Type 0 whe
 pub record IsAtNext (C : Table) (d new : Decoder) (part : PartAhead) (next : TypeId) : Type 0 where
   pub order : new.order ≡ d.order
   pub head : new.head ≡ d.head
+  pub narrow : new.narrow ≡ d.narrow
   pub inside : new.inside ≡ d.inside
   pub notes : new.notes ≡ d.notes
   pub carry : new.carry ≡ d.carry

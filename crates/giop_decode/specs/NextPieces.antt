@@ -10,7 +10,7 @@ use Rattle.giop_decode.specs.Noted.{is_header_root}
 use Rattle.giop_print.specs.declared.path.Root.{Root}
 use Rattle.giop_sig.specs.Table.{Table, has_keys, interface_in}
 use Rattle.giop_sig.specs.Trees.{tree_at}
-use Rattle.giop_sig.specs.Types.{Octets}
+use Rattle.giop_sig.specs.Types.{Octets, Raw}
 
 -- nothing is noted of octet sequences: in no header, or by a table without KEYs
 abbrev pub IsQuiet : Table → Root → Type 0
@@ -26,7 +26,7 @@ path_front C d = headed d.head.message (root_word d.head.root ++ frames_text C d
 pub record IsPieceAhead (C : Table) (d : Decoder) (ahead : PieceAhead) : Type 0 where
   pub leaf : d.leaf ≡ Some (innermost.Content ahead.of ahead.total ahead.offset)
   pub bound : Option ℕ
-  pub is : (room : ℕ) → tree_at C room ahead.of.0 ≡ Octets bound
+  pub is : (room : ℕ) → tree_at C room ahead.of.0 ≡ Octets (Raw bound)
   pub more : 32 < ahead.total - ahead.offset
   pub whole : 32 ≤ length ahead.octets.now
   pub none_held : d.piece.items ≡ []
@@ -37,6 +37,7 @@ behind_piece d ahead = record {
   order = d.order;
   head = d.head;
   at = d.at;
+  narrow = d.narrow;
   outer = d.outer;
   inside = d.inside;
   leaf = Some (innermost.Content ahead.of ahead.total (ahead.offset + 32));

@@ -8,7 +8,7 @@ use Rattle.giop_decode.specs.ReadResult.{PathSegment, Name, Value, Number, Piece
 use Rattle.giop_print.specs.declared.path.Root.{Root}
 use Rattle.giop_print.specs.declared.path.Root.TheVariants as roots
 use Rattle.giop_decode.specs.declared.progress.Kind.TheVariants as kinds
-use Rattle.giop_sig.specs.Types.{Plain, Enum, Ty, Text, Octets}
+use Rattle.giop_sig.specs.Types.{Plain, Enum, Ty, Text, Octets, Raw}
 
 pub record Noted : Type 0 where
   -- a header's: the first that has a line
@@ -95,7 +95,7 @@ noted_key h octets more =
 
 -- one value more, which stands where an object key does or doesn't
 abbrev pub note_key : Bool → Noted → Value → Noted
-note_key is_key h (Piece (Octets bound) offset octets more) =
+note_key is_key h (Piece (Octets (Raw bound)) offset octets more) =
     cond is_key (noted_key h octets more) h
 note_key is_key h value = h
 

@@ -7,7 +7,7 @@ use Rattle.giop_cdr.specs.declared.prim.Primitive.TheVariants as prims
 use Rattle.giop_decode.specs.Noted.{Noted, expects_after, ends_in_string, is_key_path, is_member, name_if}
 use Rattle.giop_decode.specs.Pieces.{full_pieces}
 use Rattle.giop_decode.specs.ReadResult.{Value, Number, Piece, Line, Read, lines_of}
-use Rattle.giop_sig.specs.Types.{Plain, Enum, Octets, Text}
+use Rattle.giop_sig.specs.Types.{Plain, Enum, Octets, Raw, Text}
 
 -- ---- numbers
 
@@ -95,7 +95,7 @@ pub record Strings (r : Read) : Type 0 where
 
 -- the piece of an object key that a value is, if one stands there
 abbrev pub key_of : Bool → Value → Option TextPiece
-key_of is_key (Piece (Octets bound) offset octets more) =
+key_of is_key (Piece (Octets (Raw bound)) offset octets more) =
     cond is_key (Some (piece offset octets more)) None
 key_of is_key value = None
 

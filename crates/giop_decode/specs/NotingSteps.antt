@@ -9,7 +9,7 @@ use Rattle.giop_decode.specs.declared.leaf.Output.TheVariants as outputs
 use Rattle.giop_decode.specs.declared.notes.Buffer.{Buffer}
 use Rattle.giop_decode.specs.declared.notes.Buffer.TheVariants as buffers
 use Rattle.giop_decode.specs.declared.notes.Notes.{Notes}
-use Rattle.giop_decode.specs.DecoderState.{status_of}
+use Rattle.giop_decode.specs.SeenState.{status_of}
 use Rattle.giop_decode.specs.Noted.{is_text}
 use Rattle.giop_decode.specs.NameBuffer.{string_offset}
 use Rattle.giop_cdr.specs.declared.number.Number.{Number as Taken}

@@ -8,7 +8,7 @@ use Rattle.giop_decode.specs.declared.progress.Progress.{Progress}
 use Rattle.giop_decode.specs.Heard.{AreHeard}
 use Rattle.giop_decode.specs.ReadResult.{Line}
 use Rattle.giop_decode.specs.ReadingSteps.{path_in}
-use Rattle.giop_decode.specs.DecoderState.{AreOfRoot, CanStandAt, GoesOn, HoldsNoted}
+use Rattle.giop_decode.specs.SeenState.{AreOfRoot, CanStandAt, GoesOn, HoldsNoted}
 use Rattle.giop_decode.specs.DecoderSteps.{Comes, IsAround, IsNext, emitted}
 use Rattle.giop_decode.specs.Noted.{Noted, ends_in_string, is_header_root, noted, without_name_if}
 use Rattle.giop_decode.specs.NotingSteps.{clears_name, transition_in_string}
@@ -37,6 +37,7 @@ pub record IsBehind (C : Table) (d now : Decoder) (of : ℕ) (step : Step) (rest
     pub around : IsAround C d of
     pub order : now.order ≡ d.order
     pub head : now.head ≡ d.head
+    pub narrow : now.narrow ≡ d.narrow
     pub at : now.at ≡ (d.at + 1) % 8
     pub outer : AreHeard C (ticked d.outer.items) now.outer.items of step.output
         (d.piece.items ++ rest)
@@ -50,6 +51,7 @@ pub record Passes (C : Table) (d new : Decoder) (of : ℕ) (step : Step) (rest :
     (p : Progress) : Type 0 where
   pub order : new.order ≡ d.order
   pub head : new.head ≡ d.head
+  pub narrow : new.narrow ≡ d.narrow
   -- one octet further
   pub here : (here : ℕ) → CanStandAt d here → CanStandAt new (here + 1)
   pub next : GoesOn p → IsNext C d new of step.transition

@@ -5,7 +5,7 @@ use Rattle.giop_cdr.specs.Alignment.{padding}
 use Rattle.giop_decode.specs.declared.progress.Kind.{Kind}
 use Rattle.giop_decode.specs.declared.progress.Kind.TheVariants as kinds
 use Rattle.giop_decode.specs.ReadResult.{PathSegment, Piece, line, Content, Read, Done, Short, Fault, with_front}
-use Rattle.giop_sig.specs.Types.{Ty, Text, Octets}
+use Rattle.giop_sig.specs.Types.{OctetKind, Ty, Text, Octets, bound_of}
 
 -- so many octets, the offset after them, and what follows; or too few of them
 pub data Block : Type 0 where
@@ -76,8 +76,8 @@ text bound path zero at rest = Done (line at path (Piece (Text bound) 0 [] false
 text bound path (suc n) at rest =
     unless (Text bound) (over bound n) at (content (Text bound) path n (full_pieces n) 0 at rest)
 
--- after the length of an octet sequence
-abbrev pub octets : Option ℕ → List PathSegment → ℕ → ℕ → List ℕ → Read
-octets bound path n at rest =
-    unless (Octets bound) (over bound n) at
-    (content (Octets bound) path n (full_pieces n) 0 at rest)
+-- after the number of octets of a kind
+abbrev pub octets : OctetKind → List PathSegment → ℕ → ℕ → List ℕ → Read
+octets kind path n at rest =
+    unless (Octets kind) (over (bound_of kind) n) at
+    (content (Octets kind) path n (full_pieces n) 0 at rest)

@@ -10,7 +10,7 @@ use Rattle.giop_decode.specs.declared.progress.Kind.TheVariants as kinds
 use Rattle.giop_decode.specs.ReadResult.{Coding, PathSegment, Name, Index, Switch, Value, Number, Count, Piece, Line, Telling, line, Part, Member, LeadingNumber, Read, Done, Short, with_front, followed, within, Held, Size, Ordered, coded, Inside, Leaf, Opening, Content, Fault}
 use Rattle.giop_decode.specs.Pieces.{Block, Partial, Complete, number, unless, over, text, octets, block, content, full_pieces}
 use Rattle.giop_sig.specs.Kinds.{is_kind, kind_word}
-use Rattle.giop_sig.specs.Types.{Scalar, Plain, Enum, Marked, width, Ty, Single, Text, Octets, Struct, Union, Sequence, Array, tag_of, Encapsulation, Led, Sign, MarkedNumber, Counted, Spelt, Told, Untold, Sequel, Then, Ends, Stops, Hearing, sequel}
+use Rattle.giop_sig.specs.Types.{Scalar, Plain, Enum, Marked, width, Ty, Single, Text, Octets, size_width, Struct, Union, Sequence, Array, tag_of, Encapsulation, Led, Sign, MarkedNumber, Counted, Spelt, Told, Untold, Sequel, Then, Ends, Stops, Hearing, sequel}
 use Rattle.giop_sig.specs.declared.types.Selected.{Selected}
 use Rattle.giop_sig.specs.declared.types.Selected.TheVariants.{Case, Nothing, Refused}
 
@@ -182,10 +182,10 @@ read coding path (Single scalar) at s =
 read coding path (Text bound) at s =
     after_leading_number (Text bound) (λ xs at rest. text bound path (num coding.order xs) at rest)
     (number coding.origin 4 at s)
-read coding path (Octets bound) at s =
-    after_leading_number (Octets bound) (λ xs at rest.
-    octets bound path (num coding.order xs) at rest)
-    (number coding.origin 4 at s)
+read coding path (Octets kind) at s =
+    after_leading_number (Octets kind) (λ xs at rest.
+    octets kind path (num coding.order xs) at rest)
+    (number coding.origin (size_width kind) at s)
 read coding path (Struct count names parts) at s =
     parts_from (λ i at s. within (Part (Struct count names parts) i count)
     (read coding (path ++ Name (names i) ∷ []) (parts i) at s)) count 0 at s

@@ -8,7 +8,7 @@ use Rattle.giop_decode.specs.Pieces.{Complete, Block, Partial, content, full_pie
 use Rattle.giop_decode.specs.Reading.{chosen, after_leading_number, parts_from, read, single, enclosed, opening, sized, none_left, led, led_segment, rooted, told_after}
 use Rattle.giop_decode.specs.ReadResult.{Coding, Line, Content, Count, Done, Fault, LeadingNumber, Index, Leaf, Member, Name, Part, OpenPart, Read, PathSegment, Short, followed, line, with_front, within, Held, Inside, Opening, Size, Telling}
 use Rattle.giop_sig.specs.Hearings.{hearing_in}
-use Rattle.giop_sig.specs.Types.{part_of, Octets, Sequence, Single, Struct, Text, Ty, Union, width, tag_of, Encapsulation, Led}
+use Rattle.giop_sig.specs.Types.{part_of, Octets, size_width, Sequence, Single, Struct, Text, Ty, Union, width, tag_of, Encapsulation, Led}
 
 -- one octet more of n that are taken together, of which some are held
 unfoldable pub block_step : ℕ → ℕ → List ℕ → ℕ → Block
@@ -35,6 +35,7 @@ AreHeld n at held (b ∷ more) new = (next : List ℕ)
 abbrev pub leading_width : Ty → ℕ
 leading_width (Single scalar) = width scalar
 leading_width (Union choice scalar select names cases) = width scalar
+leading_width (Octets kind) = size_width kind
 leading_width T = 4
 
 -- the path segment of part i of a type
@@ -67,7 +68,7 @@ after_told coding path T i at s = within (Member T (suc i))
 abbrev pub after : Coding → List PathSegment → Ty → ℕ → ℕ → List ℕ → Read
 after coding path (Single scalar) n at rest = single path scalar n at rest
 after coding path (Text bound) n at rest = text bound path n at rest
-after coding path (Octets bound) n at rest = octets bound path n at rest
+after coding path (Octets kind) n at rest = octets kind path n at rest
 after coding path (Sequence bound T) n at rest = unless (Sequence bound T) (over bound n) at
     (with_front (line at path (Count n) ∷ [])
     (parts_from (part_at coding path (Sequence bound T) n) n 0 at rest))

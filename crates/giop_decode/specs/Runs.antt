@@ -8,7 +8,7 @@ use Rattle.giop_decode.specs.declared.progress.Progress.TheVariants as progress
 use Rattle.giop_decode.specs.ReadResult.{plain, Coding, Line, PathSegment, lines_of}
 use Rattle.giop_decode.specs.Reading.{reading}
 use Rattle.giop_decode.specs.Noted.{is_header_root, names_operation}
-use Rattle.giop_decode.specs.DecoderState.{Fits, GoesOn, IsDone, Reads, KeepsNoted, IsAnswer, IsFault, added_lines}
+use Rattle.giop_decode.specs.SeenState.{Fits, GoesOn, IsDone, Reads, KeepsNoted, IsAnswer, IsFault, added_lines}
 use Rattle.giop_decode.specs.Spelling.{lines_text}
 use Rattle.giop_print.specs.Output.{OutLog, Wrote, WroteFront}
 use Rattle.giop_print.specs.declared.path.Root.{Root}
@@ -203,6 +203,7 @@ pub record IsHeldOf (C : Table) (d now : Decoder) (octets : List ℕ) (of : Type
   pub fits : Fits C d
   pub order : now.order ≡ d.order
   pub head : now.head ≡ d.head
+  pub narrow : now.narrow ≡ d.narrow
   pub at : now.at ≡ d.at
   pub outer : now.outer.items ≡ d.outer.items
   pub inside : now.inside ≡ d.inside

@@ -10,7 +10,7 @@ use Rattle.giop_print.specs.Paths.{root_word, name_segment, index_segment}
 use Rattle.giop_print.specs.Text.{joined, quoted}
 use Rattle.giop_print.specs.declared.path.Root.{Root}
 use Rattle.giop_sig.specs.Kinds.{marked_word}
-use Rattle.giop_sig.specs.Types.{Plain, Enum, Marked, Text, Octets, Encapsulation}
+use Rattle.giop_sig.specs.Types.{Plain, Enum, Marked, Text, OctetKind, Octets, Raw, WideText, WideChar, Encapsulation}
 
 -- the text of a segment: a name after a point, or an index in brackets
 abbrev pub segment_text : PathSegment → List ℕ
@@ -39,6 +39,12 @@ abbrev pub marked_words : Option (List ℕ) → ℕ → List (List ℕ)
 marked_words (Some word) n = codes " enum " ∷ word ∷ []
 marked_words None n = codes " ulong " ∷ decimal n ∷ []
 
+-- the word of a piece of octets of a kind
+abbrev pub octets_word : OctetKind → List ℕ
+octets_word (Raw bound) = codes " octets @"
+octets_word WideText = codes " wstring @"
+octets_word WideChar = codes " wchar @"
+
 -- the words of a value's line after its path
 abbrev pub value_words : Value → List (List ℕ)
 value_words (Number (Plain p) n) = number_words p (interpreted_as p n)
@@ -47,8 +53,8 @@ value_words (Number (Marked mark) n) = marked_words (marked_word mark n) n
 value_words (Count n) = codes " count " ∷ decimal n ∷ []
 value_words (Piece (Text bound) offset octets more) =
     codes " string @" ∷ decimal offset ∷ (codes " " ++ quoted octets) ∷ more_word more ∷ []
-value_words (Piece (Octets bound) offset octets more) =
-    codes " octets @" ∷ decimal offset ∷ spaced_hex octets ∷ more_word more ∷ []
+value_words (Piece (Octets kind) offset octets more) =
+    octets_word kind ∷ decimal offset ∷ spaced_hex octets ∷ more_word more ∷ []
 value_words (Piece (Encapsulation T) offset octets more) =
     codes " rest @" ∷ decimal offset ∷ spaced_hex octets ∷ []
 value_words (Size n) = codes " encapsulation " ∷ decimal n ∷ []

@@ -20,7 +20,7 @@
 --                 3 has an object key that has begun, 4 is too short for that
 --     77     129  the octets in it: how many, and room for 128; none where it is too short
 --    206       1  whether a header expects a reply: 0 not read, 1 no, 2 yes
---    207       1  zero
+--    207       1  1 where there is no room for wide text, or 0
 --
 -- and a frame of 24 octets for each part that is begun and not ended, the outermost first: its
 -- type, the index of its own part that is being read, how many it has (0 in a union), and 12 zeros.
@@ -56,6 +56,10 @@ use Rattle.giop_sig.specs.Table.{type_id}
 abbrev pub order_octet : Order → ℕ
 order_octet orders.Big = 0
 order_octet orders.Little = 1
+
+abbrev pub narrow_octet : Bool → ℕ
+narrow_octet true = 1
+narrow_octet false = 0
 
 abbrev pub root_octet : Root → ℕ
 root_octet roots.Header = 0
@@ -105,7 +109,7 @@ notes_octets m =
 unfoldable pub fixed_octets : Decoder → Innermost → List ℕ
 fixed_octets d leaf =
     order_octet d.order ∷ root_octet d.head.root ∷ eight d.head.message ++ d.at ∷ leaf_octets leaf
-    ++ held 8 d.carry ++ held 32 d.piece.items ++ notes_octets d.notes ++ 0 ∷ []
+    ++ held 8 d.carry ++ held 32 d.piece.items ++ notes_octets d.notes ++ narrow_octet d.narrow ∷ []
 
 -- how many octets a frame has
 abbrev pub frame_size : ℕ
@@ -201,6 +205,7 @@ pub record IsRestored (d e : Decoder) : Type 0 where
   pub order : e.order ≡ d.order
   pub head : e.head ≡ d.head
   pub at : e.at ≡ d.at
+  pub narrow : e.narrow ≡ d.narrow
   pub leaf : e.leaf ≡ d.leaf
   pub outer : e.outer.items ≡ d.outer.items
   pub inside : e.inside ≡ is_inside e.outer.items

@@ -1,7 +1,7 @@
 //! Whether the parts of a decoder that is restored from octets fit a catalogue.
 
 ghost use Rattle.std.specs.Prelude.{◌≡◌, ◌↔◌, ℕ, suc, IsTrue, IfSome, None, ◌+◌, ◌-◌, ◌<◌, ◌≤◌, [], length};
-ghost use Rattle.giop_decode.specs.DecoderState.{AreOfRoot, HoldsNoKey, interface_of};
+ghost use Rattle.giop_decode.specs.SeenState.{AreOfRoot, HoldsNoKey, interface_of};
 ghost use Rattle.giop_decode.specs.FrameChain.{HasFrame, HasFrameAs, HasPart, LeafFits, Chained, Chains, root_of};
 ghost use Rattle.giop_decode.specs.Fits.{CanFollow, HasLeadingNumber, IsEncapsulation, IsLed};
 ghost use Rattle.giop_decode.specs.NameBuffer.{FitsName, IsNotedOf, string_offset};
@@ -17,11 +17,11 @@ use crate::leaf::Leaf;
 use crate::notes::{Buffer, Last, Notes, is_header};
 use giop_cdr::Carry;
 use giop_print::Root;
-use giop_sig::{Catalogue, Shape, TypeId};
+use giop_sig::{SeenCatalogue, Shape, TypeId};
 
 impl Decoder {
     /// Whether the decoder goes on, and fits a catalogue.
-    pub(crate) fn chains(&self, catalogue: &Catalogue) -> bool
+    pub(crate) fn chains(&self, catalogue: &SeenCatalogue<'_>) -> bool
         ensures { IsTrue result ↔ Chains catalogue.now self.now }
     {
         let Some(leaf) = self.leaf else {
@@ -52,7 +52,7 @@ impl Decoder {
 
     /// Whether the parts are each of that which the one before is at, from this type to the innermost part, and what is
     /// held of that fits it.
-    fn parts_fit(&self, catalogue: &Catalogue, root: TypeId, leaf: Leaf) -> bool
+    fn parts_fit(&self, catalogue: &SeenCatalogue<'_>, root: TypeId, leaf: Leaf) -> bool
         requires root { root.0 < length catalogue.now.types }
         requires leaf { leaf_type leaf < length catalogue.now.types }
         requires few { length self.now.outer.items < 24 }
@@ -77,7 +77,7 @@ fn root_of(frames: &[Frame], leaf: Leaf) -> TypeId
 
 /// Whether each frame is of the part that the one before is at, from this type, which is in so much room, to the innermost
 /// part.
-fn follow(catalogue: &Catalogue, room: u8, of: TypeId, frames: &[Frame], leaf: Leaf) -> bool
+fn follow(catalogue: &SeenCatalogue<'_>, room: u8, of: TypeId, frames: &[Frame], leaf: Leaf) -> bool
     requires known { of.0 < length catalogue.now.types }
     requires room { length frames.now < room }
     ensures { IsTrue result ↔ Chained catalogue.now room of.0 frames.now leaf }
@@ -99,7 +99,7 @@ fn follow(catalogue: &Catalogue, room: u8, of: TypeId, frames: &[Frame], leaf: L
 }
 
 /// Whether a frame is of a type, whose parts have so much room, and can be.
-fn is_frame_of(catalogue: &Catalogue, left: u8, of: TypeId, frame: Frame) -> bool
+fn is_frame_of(catalogue: &SeenCatalogue<'_>, left: u8, of: TypeId, frame: Frame) -> bool
     requires { of.0 < length catalogue.now.types }
     ensures { IsTrue result ↔ (frame.of.0 ≡ of.0)
         × HasFrameAs frame.told frame.inside (tree_at catalogue.now (suc left) of.0) frame.index
@@ -110,7 +110,7 @@ fn is_frame_of(catalogue: &Catalogue, left: u8, of: TypeId, frame: Frame) -> boo
 
 /// Whether a frame can be of a type: of a part of its own, of an encapsulation of which octets are to come, or of a first
 /// part that tells what follows it. Its parts have so much room.
-fn has_frame(catalogue: &Catalogue, left: u8, of: TypeId, frame: Frame) -> bool
+fn has_frame(catalogue: &SeenCatalogue<'_>, left: u8, of: TypeId, frame: Frame) -> bool
     requires { of.0 < length catalogue.now.types }
     ensures { IsTrue result
         ↔ HasFrameAs frame.told frame.inside (tree_at catalogue.now (suc left) of.0) frame.index
@@ -123,7 +123,7 @@ fn has_frame(catalogue: &Catalogue, left: u8, of: TypeId, frame: Frame) -> bool
 }
 
 /// The same of a frame that tells nothing.
-fn has_own_frame(catalogue: &Catalogue, left: u8, of: TypeId, frame: Frame) -> bool
+fn has_own_frame(catalogue: &SeenCatalogue<'_>, left: u8, of: TypeId, frame: Frame) -> bool
     requires { of.0 < length catalogue.now.types }
     ensures { IsTrue result
         ↔ HasFrame frame.inside (tree_at catalogue.now (suc left) of.0) frame.index
@@ -148,7 +148,7 @@ fn part_index(frame: Frame) -> u32
 }
 
 /// Whether a type begins with a part that tells what follows it.
-fn is_led(catalogue: &Catalogue, of: TypeId) -> bool
+fn is_led(catalogue: &SeenCatalogue<'_>, of: TypeId) -> bool
     requires { of.0 < length catalogue.now.types }
     ensures { (n : ℕ) → IsTrue result ↔ IsLed (tree_at catalogue.now n of.0) }
 {
@@ -164,12 +164,14 @@ fn is_led(catalogue: &Catalogue, of: TypeId) -> bool
         Shape::Enumeration(_) => false,
         Shape::Text(_) => false,
         Shape::Octets(_) => false,
+        Shape::WideText => false,
+        Shape::WideChar => false,
         Shape::Marked(_) => false,
     }
 }
 
 /// Whether a type is an encapsulation.
-fn is_encapsulation(catalogue: &Catalogue, of: TypeId) -> bool
+fn is_encapsulation(catalogue: &SeenCatalogue<'_>, of: TypeId) -> bool
     requires { of.0 < length catalogue.now.types }
     ensures { (n : ℕ) → IsTrue result ↔ IsEncapsulation (tree_at catalogue.now n of.0) }
 {
@@ -184,6 +186,8 @@ fn is_encapsulation(catalogue: &Catalogue, of: TypeId) -> bool
         Shape::Enumeration(_) => false,
         Shape::Text(_) => false,
         Shape::Octets(_) => false,
+        Shape::WideText => false,
+        Shape::WideChar => false,
         Shape::Marked(_) => false,
         Shape::Led => false,
     }
@@ -191,7 +195,7 @@ fn is_encapsulation(catalogue: &Catalogue, of: TypeId) -> bool
 
 /// Whether a type can stand in this place after the part that tells it, in this room: none in that part's own place.
 #[tactic(auto, using(crate::proofs::StoredChain::can_start, crate::proofs::StoredChain::can_follows, crate::proofs::StoredChain::follows_can))]
-fn can_follow(catalogue: &Catalogue, left: u8, of: TypeId, place: u32) -> bool
+fn can_follow(catalogue: &SeenCatalogue<'_>, left: u8, of: TypeId, place: u32) -> bool
     requires { shape_in (tree_at catalogue.now (suc left) of.0) ≡ Shape.Led }
     ensures { IsTrue result
         ↔ CanFollow (hearing_in (tree_at catalogue.now (suc left) of.0)) place }
@@ -201,7 +205,7 @@ fn can_follow(catalogue: &Catalogue, left: u8, of: TypeId, place: u32) -> bool
 
 /// Whether a type has that part among so many, which has so much room.
 #[tactic(auto, using(crate::proofs::StoredChain::part_led, crate::proofs::StoredChain::led_part))]
-fn has_part(catalogue: &Catalogue, left: u8, of: TypeId, index: u32, count: u32) -> bool
+fn has_part(catalogue: &SeenCatalogue<'_>, left: u8, of: TypeId, index: u32, count: u32) -> bool
     requires { of.0 < length catalogue.now.types }
     ensures { IsTrue result ↔ HasPart (tree_at catalogue.now (suc left) of.0) index count }
 {
@@ -216,13 +220,15 @@ fn has_part(catalogue: &Catalogue, left: u8, of: TypeId, index: u32, count: u32)
         Shape::Enumeration(_) => false,
         Shape::Text(_) => false,
         Shape::Octets(_) => false,
+        Shape::WideText => false,
+        Shape::WideChar => false,
         Shape::Marked(_) => false,
         Shape::Led => count == 0 && can_follow(catalogue, left, of, index),
     }
 }
 
 /// Whether what is held of the innermost part fits its type.
-fn leaf_fits(catalogue: &Catalogue, leaf: Leaf, carry: &Carry, piece: &[u8]) -> bool
+fn leaf_fits(catalogue: &SeenCatalogue<'_>, leaf: Leaf, carry: &Carry, piece: &[u8]) -> bool
     requires { leaf_type leaf < length catalogue.now.types }
     ensures { (n : ℕ) →
         IsTrue result ↔ LeafFits catalogue.now (suc n) leaf carry.now piece.now }
@@ -241,6 +247,8 @@ fn leaf_fits(catalogue: &Catalogue, leaf: Leaf, carry: &Carry, piece: &[u8]) -> 
                 && match catalogue.shape(of) {
                     Shape::Text(_) => content_fits(total, offset, piece.len(), 1),
                     Shape::Octets(_) => content_fits(total, offset, piece.len(), 0),
+                    Shape::WideText => content_fits(total, offset, piece.len(), 0),
+                    Shape::WideChar => content_fits(total, offset, piece.len(), 0),
                     Shape::Encapsulation => content_fits(total, offset, piece.len(), 0),
                     _ => false,
                 }
@@ -249,7 +257,7 @@ fn leaf_fits(catalogue: &Catalogue, leaf: Leaf, carry: &Carry, piece: &[u8]) -> 
 }
 
 /// Whether a type begins with a number.
-fn has_leading_number(catalogue: &Catalogue, of: TypeId) -> bool
+fn has_leading_number(catalogue: &SeenCatalogue<'_>, of: TypeId) -> bool
     requires { of.0 < length catalogue.now.types }
     ensures { (n : ℕ) → IsTrue result ↔ HasLeadingNumber (tree_at catalogue.now n of.0) }
 {
@@ -276,7 +284,7 @@ fn content_fits(total: u32, offset: u32, held: usize, tail: usize) -> bool
 
 /// Whether notes can be those of a value of this root: none but a header has a request id and an object key, whose
 /// interface the catalogue has, and which is held where that has KEYs.
-fn are_of_root(catalogue: &Catalogue, root: Root, notes: &Notes) -> bool
+fn are_of_root(catalogue: &SeenCatalogue<'_>, root: Root, notes: &Notes) -> bool
     ensures { IsTrue result ↔ AreOfRoot catalogue.now root notes.now }
 {
     if !is_header(root) {
@@ -288,7 +296,7 @@ fn are_of_root(catalogue: &Catalogue, root: Root, notes: &Notes) -> bool
 }
 
 /// Whether an interface that was noted is one of the catalogue.
-fn knows_interface(catalogue: &Catalogue, last: Last) -> bool
+fn knows_interface(catalogue: &SeenCatalogue<'_>, last: Last) -> bool
     ensures { IsTrue result ↔ IfSome (interface_of last)
         (λ i. i.0 < length catalogue.now.interfaces.names) }
 {
@@ -324,7 +332,7 @@ fn holds_no_key(buffer: Buffer) -> bool
 }
 
 /// Where in its string the unfinished piece begins, if the innermost part is in a string.
-fn string_offset(catalogue: &Catalogue, leaf: Leaf) -> Option<u32>
+fn string_offset(catalogue: &SeenCatalogue<'_>, leaf: Leaf) -> Option<u32>
     requires { leaf_type leaf < length catalogue.now.types }
     ensures { (n : ℕ) →
         result ≡ string_offset (tree_at catalogue.now n (leaf_type leaf)) leaf }

@@ -13,13 +13,13 @@ ghost use Rattle.giop_sig.specs.Trees.{tree, tree_at};
 
 use crate::frame::Frame;
 use giop_print::{Head, Line, Path, Position, Root};
-use giop_sig::{Catalogue, Shape, TypeId};
+use giop_sig::{SeenCatalogue, Shape, TypeId};
 use std::marker::Model;
 
 /// The path of the innermost part, or of its discriminator.
 #[derive(Drop)]
 pub(crate) struct CurrentPath<'a> {
-    pub(crate) catalogue: &'a Catalogue,
+    pub(crate) catalogue: &'a SeenCatalogue<'a>,
     pub(crate) head: &'a Head,
     pub(crate) outer: &'a [Frame],
     /// The type of the innermost part, where it is a union and its discriminator is meant.
@@ -96,7 +96,11 @@ pub(crate) const HEAD: usize = 32;
 /// Spells the segments of the parts that are begun, the innermost first, and answers whether there was room for
 /// them.
 #[inline(always)]
-pub(crate) fn spell_segments(catalogue: &Catalogue, outer: &[Frame], line: &mut Line) -> bool
+pub(crate) fn spell_segments(
+    catalogue: &SeenCatalogue<'_>,
+    outer: &[Frame],
+    line: &mut Line,
+) -> bool
     requires { AreKnown catalogue.now outer.now }
     ensures { Spells result line.old line.new (frames_text catalogue.now outer.now) }
 {
@@ -114,7 +118,7 @@ pub(crate) fn spell_segments(catalogue: &Catalogue, outer: &[Frame], line: &mut 
 /// Spells the segment of a part.
 #[tactic(auto, using(crate::proofs::Segments::segment_laws))]
 #[inline(always)]
-pub(crate) fn spell_segment(catalogue: &Catalogue, frame: Frame, line: &mut Line)
+pub(crate) fn spell_segment(catalogue: &SeenCatalogue<'_>, frame: Frame, line: &mut Line)
     requires known { IsKnown catalogue.now frame }
     requires room { 65 ≤ line_room line.old }
     ensures text { line_text line.new
@@ -162,7 +166,7 @@ pub(crate) fn led_name(frame: Frame) -> &'static [u8]
 }
 
 /// Spells the segment of a discriminator, where one is meant.
-fn spell_end(catalogue: &Catalogue, switch: Option<TypeId>, line: &mut Line)
+fn spell_end(catalogue: &SeenCatalogue<'_>, switch: Option<TypeId>, line: &mut Line)
     requires union { IsSwitch catalogue.now switch }
     requires room { 65 ≤ line_room line.old }
     ensures text { line_text line.new ≡ end_text catalogue.now switch ++ line_text line.old }
@@ -176,7 +180,7 @@ fn spell_end(catalogue: &Catalogue, switch: Option<TypeId>, line: &mut Line)
 }
 
 /// Spells the segment of a discriminator: `switch`, `kind` where it is a number with a mark, or a tag's own name.
-fn spell_switch(catalogue: &Catalogue, of: TypeId, line: &mut Line)
+fn spell_switch(catalogue: &SeenCatalogue<'_>, of: TypeId, line: &mut Line)
     requires known { of.0 < length catalogue.now.types }
     requires union { IsUnion (shape_in (tree catalogue.now of.0)) }
     requires room { 65 ≤ line_room line.old }
@@ -231,7 +235,7 @@ fn spell_index(line: &mut Line, index: u32)
 
 /// Adds the segment of the part that is being read.
 #[tactic(auto, using(crate::proofs::Segments::segment_laws))]
-fn push_segment(catalogue: &Catalogue, frame: Frame, path: &mut Path)
+fn push_segment(catalogue: &SeenCatalogue<'_>, frame: Frame, path: &mut Path)
     requires known { IsKnown catalogue.now frame }
     requires room { path.old.segments < 24 }
     ensures text { (room here : ℕ) →
@@ -254,7 +258,7 @@ fn push_segment(catalogue: &Catalogue, frame: Frame, path: &mut Path)
 }
 
 /// Adds the segment of a discriminator: `switch`, `kind` where it is a number with a mark, or a tag's own name.
-fn push_switch(catalogue: &Catalogue, of: TypeId, path: &mut Path)
+fn push_switch(catalogue: &SeenCatalogue<'_>, of: TypeId, path: &mut Path)
     requires known { of.0 < length catalogue.now.types }
     requires union { IsUnion (shape_in (tree catalogue.now of.0)) }
     requires room { path.old.segments < 24 }
@@ -272,7 +276,7 @@ fn push_switch(catalogue: &Catalogue, of: TypeId, path: &mut Path)
 }
 
 /// The path of the innermost part.
-fn go_to(catalogue: &Catalogue, root: Root, outer: &[Frame]) -> Path
+fn go_to(catalogue: &SeenCatalogue<'_>, root: Root, outer: &[Frame]) -> Path
     requires known { AreKnown catalogue.now outer.now }
     requires room { length outer.now ≤ 24 }
     ensures text { (here : ℕ) →

@@ -16,12 +16,13 @@ ghost use Rattle.giop_decode.specs.Transitions.{open_parts, AreKnown, Link, Tran
 ghost use Rattle.giop_decode.specs.Noted.{noted_of, ends_in_string, is_header_root};
 ghost use Rattle.giop_decode.specs.NameBuffer.{string_offset};
 ghost use Rattle.giop_decode.specs.NotingSteps.{transition_in_string, transition_offset};
-ghost use Rattle.giop_decode.specs.DecoderState.{Fits, IsDone, CanStandAt, Reads, Takes, KeepsNoted, GoesOn, read_by_fields, added_lines, whose};
+ghost use Rattle.giop_decode.specs.DecoderState.{Fits, IsDone, IsOfVersion, KeepsVersion, Reads, Takes, KeepsNoted, GoesOn, added_lines, whose};
+ghost use Rattle.giop_decode.specs.SeenState.{Fits as FitsSeen, Reads as ReadsSeen};
 ghost use Rattle.giop_decode.specs.DecoderSteps.{transition_result, decoder_step, Comes, IsNotRefused};
 ghost use Rattle.giop_decode.specs.Passes.{Gives, IsBehind, Passes};
 ghost use Rattle.giop_sig.specs.Types.{Ty};
 ghost use Rattle.giop_sig.specs.Fits.{IsFit, IsEmptyStruct};
-ghost use Rattle.giop_sig.specs.Table.{Table};
+ghost use Rattle.giop_sig.specs.Table.{Table, in_version};
 ghost use Rattle.giop_sig.specs.Trees.{tree};
 
 use crate::contents::let_go;
@@ -36,7 +37,7 @@ use crate::progress::{Progress, progress_of};
 use arrayvec::ArrayVec;
 use giop_cdr::{Carry, Order};
 use giop_print::{Head, Out, OutFault, Root};
-use giop_sig::{Catalogue, InterfaceId, TypeId};
+use giop_sig::{Catalogue, InterfaceId, SeenCatalogue, TypeId};
 
 /// The parts of a value that are begun and not ended, and what was last noted of the value.
 #[derive(Debug, Drop)]
@@ -46,6 +47,8 @@ pub struct Decoder {
     pub(crate) head: Head,
     // The offset of the next octet, modulo 8.
     pub(crate) at: u8,
+    // Whether its version has no room for wide text.
+    pub(crate) narrow: bool,
     pub(crate) outer: ArrayVec<Frame, 24>,
     // What these ask of each octet.
     pub(crate) inside: Within,
@@ -57,7 +60,7 @@ pub struct Decoder {
 }
 
 impl Decoder {
-    /// Begins to read a value of a type, whose first octet is at this offset of its message.
+    /// Begins to read a value of a type, whose first octet is at this offset of its message, which is of this minor version.
     pub fn start(
         catalogue: &Catalogue,
         of: TypeId,
@@ -65,17 +68,22 @@ impl Decoder {
         offset: u64,
         message: u64,
         root: Root,
+        minor: u8,
     ) -> Decoder
         requires { of.0 < length catalogue.now.types }
-        ensures reads { Reads catalogue.now (tree catalogue.now of.0)
+        ensures reads { Reads catalogue.now (tree (in_version minor catalogue.now) of.0)
             order offset message root result [] }
-        ensures done { IsDone result ↔ IsEmptyStruct (tree catalogue.now of.0) }
-        ensures fits { (IsEmptyStruct (tree catalogue.now of.0) → ⊥) → Fits catalogue.now result }
+        ensures done { IsDone result ↔ IsEmptyStruct (tree (in_version minor catalogue.now) of.0) }
+        ensures fits { (IsEmptyStruct (tree (in_version minor catalogue.now) of.0) → ⊥) →
+            Fits catalogue.now result }
+        ensures version { IsOfVersion minor catalogue.now result }
     {
+        let narrow = catalogue.is_narrow(minor);
         let mut decoder = Decoder {
             order,
             head: Head::new(message, root),
             at: 0,
+            narrow,
             outer: ArrayVec::new(),
             inside: Within::Nothing,
             leaf: None,
@@ -83,7 +91,7 @@ impl Decoder {
             piece: ArrayVec::new(),
             notes: Notes::new(),
         };
-        decoder.begin(catalogue, of, offset);
+        decoder.begin(&catalogue.seen(narrow), of, offset);
         decoder
     }
 
@@ -97,27 +105,33 @@ impl Decoder {
         offset: u64,
         message: u64,
         root: Root,
+        minor: u8,
     )
         requires { of.0 < length catalogue.now.types }
-        ensures reads { Reads catalogue.now (tree catalogue.now of.0)
+        ensures reads { Reads catalogue.now (tree (in_version minor catalogue.now) of.0)
             order offset message root self.new [] }
-        ensures done { IsDone self.new ↔ IsEmptyStruct (tree catalogue.now of.0) }
-        ensures fits { (IsEmptyStruct (tree catalogue.now of.0) → ⊥) →
+        ensures done { IsDone self.new
+            ↔ IsEmptyStruct (tree (in_version minor catalogue.now) of.0) }
+        ensures fits { (IsEmptyStruct (tree (in_version minor catalogue.now) of.0) → ⊥) →
             Fits catalogue.now self.new }
+        ensures version { IsOfVersion minor catalogue.now self.new }
     {
         self.order = order;
         self.head = Head::new(message, root);
-        self.begin(catalogue, of, offset);
+        self.narrow = catalogue.is_narrow(minor);
+        self.begin(&catalogue.seen(self.narrow), of, offset);
     }
 
-    /// Begins to read a value of a type, in the order and with the head that are set.
-    fn begin(&mut self, catalogue: &Catalogue, of: TypeId, offset: u64)
-        requires { of.0 < length catalogue.now.types }
-        ensures reads { Reads catalogue.now (tree catalogue.now of.0) self.old.order offset
+    /// Begins to read a value of a type, in the order, with the head and of the version that are set.
+    fn begin(&mut self, catalogue: &SeenCatalogue<'_>, of: TypeId, offset: u64)
+        requires known { of.0 < length catalogue.now.types }
+        requires version { self.old.narrow ≡ catalogue.now.narrow }
+        ensures reads { ReadsSeen catalogue.now (tree catalogue.now of.0) self.old.order offset
             self.old.head.message self.old.head.root self.new [] }
         ensures done { IsDone self.new ↔ IsEmptyStruct (tree catalogue.now of.0) }
         ensures fits { (IsEmptyStruct (tree catalogue.now of.0) → ⊥) →
-            Fits catalogue.now self.new }
+            FitsSeen catalogue.now self.new }
+        ensures version { self.new.narrow ≡ self.old.narrow }
     {
         self.at = (offset % 8) as u8;
         self.outer.clear();
@@ -152,6 +166,7 @@ impl Decoder {
             Reads catalogue.now T order at message root self.old s →
             Takes catalogue.now T order at message root self.new s octet p) }
         ensures fits { IfOk result (λ p. GoesOn p → Fits catalogue.now self.new) }
+        ensures version { IfOk result (λ p. GoesOn p → KeepsVersion self.old self.new) }
         ensures done { IfOk result (λ p. p ≡ Progress.Done → IsDone self.new) }
     {
         let (_, progress) = self.take_run(catalogue, &[octet], out)?;
@@ -228,7 +243,7 @@ impl Decoder {
     /// Does a transition of the innermost part, of this type, and goes on in the parts around it, where these have heard what
     /// its octet finishes.
     #[inline(always)]
-    fn advance_frames(&mut self, catalogue: &Catalogue, of: TypeId, transition: Transition)
+    fn advance_frames(&mut self, catalogue: &SeenCatalogue<'_>, of: TypeId, transition: Transition)
         requires known { of.0 < length catalogue.now.types }
         requires known_outer { AreKnown catalogue.now self.old.outer.items }
         requires encloses { self.old.inside ≡ is_inside self.old.outer.items }
@@ -254,6 +269,7 @@ impl Decoder {
         ensures head { self.new.head ≡ self.old.head }
         ensures notes { self.new.notes ≡ self.old.notes }
         ensures at { self.new.at ≡ self.old.at }
+        ensures narrow { self.new.narrow ≡ self.old.narrow }
         ensures inside { (at : ℕ) (lines : List Line) →
             ends_in_string
             (transition_result catalogue.now (tree_in catalogue.now self.old.outer.items of.0)
@@ -341,7 +357,7 @@ impl Decoder {
     #[inline(always)]
     pub(crate) fn emit<O: Out>(
         &mut self,
-        catalogue: &Catalogue,
+        catalogue: &SeenCatalogue<'_>,
         ahead: Lookahead<'_>,
         out: &mut O,
     ) -> Result<Progress, OutFault>
@@ -384,7 +400,7 @@ impl Decoder {
 
     /// What `emit` does but for the line.
     #[inline(always)]
-    pub(crate) fn pass(&mut self, catalogue: &Catalogue, ahead: Lookahead<'_>) -> Progress
+    pub(crate) fn pass(&mut self, catalogue: &SeenCatalogue<'_>, ahead: Lookahead<'_>) -> Progress
         requires counted { (d : Before) × IsBehind catalogue.now d self.old ahead.of.0
             ahead.step ahead.rest.now }
         requires transition_fits { TransitionFits

@@ -21,7 +21,7 @@ use crate::hearing::{hear, signal};
 use crate::leaf::{Finished, Leaf};
 use arrayvec::ArrayVec;
 use giop_cdr::Order;
-use giop_sig::{Catalogue, Following, Shape, TypeId};
+use giop_sig::{Following, SeenCatalogue, Shape, TypeId};
 
 /// What some of the parts around ask of each octet.
 #[derive(Clone, Copy, Debug, PartialEq, Eq)]
@@ -147,7 +147,7 @@ pub(crate) fn within_encapsulation(within: Within) -> Within
 /// read and tells what follows, what the last of them finishes.
 #[inline(always)]
 pub(crate) fn pass_by(
-    catalogue: &Catalogue,
+    catalogue: &SeenCatalogue<'_>,
     inside: Within,
     outer: &mut ArrayVec<Frame, 24>,
     octets: usize,
@@ -284,7 +284,7 @@ pub(crate) fn coding(inside: Within, order: Order, at: u8, outer: &[Frame]) -> (
 
 /// Whether a type is the struct without members, which takes no octet.
 #[tactic(auto, using(crate::proofs::Shapes::empty_laws))]
-pub(crate) fn is_empty(catalogue: &Catalogue, t: TypeId) -> bool
+pub(crate) fn is_empty(catalogue: &SeenCatalogue<'_>, t: TypeId) -> bool
     requires { t.0 < length catalogue.now.types }
     ensures value { (n : ℕ) → IsTrue result ↔ IsEmptyStruct (tree_at catalogue.now n t.0) }
     ensures root { IsRoot (tree catalogue.now t.0) }
@@ -296,6 +296,8 @@ pub(crate) fn is_empty(catalogue: &Catalogue, t: TypeId) -> bool
         Shape::Enumeration(_) => false,
         Shape::Text(_) => false,
         Shape::Octets(_) => false,
+        Shape::WideText => false,
+        Shape::WideChar => false,
         Shape::Marked(_) => false,
         Shape::Led => false,
         Shape::Union(_) => false,
@@ -309,7 +311,7 @@ pub(crate) fn is_empty(catalogue: &Catalogue, t: TypeId) -> bool
 /// for a type that begins with a number.
 #[tactic(auto, using(crate::proofs::Shapes::shape_laws))]
 #[inline(always)]
-pub(crate) fn whole(catalogue: &Catalogue, t: TypeId) -> Option<(u32, Option<Stage>)>
+pub(crate) fn whole(catalogue: &SeenCatalogue<'_>, t: TypeId) -> Option<(u32, Option<Stage>)>
     requires { t.0 < length catalogue.now.types }
     ensures whole { IfSome result (λ first.
         (n : ℕ) → IsWhole (tree_at catalogue.now n t.0) first.0 first.1) }
@@ -323,6 +325,8 @@ pub(crate) fn whole(catalogue: &Catalogue, t: TypeId) -> Option<(u32, Option<Sta
         Shape::Enumeration(_) => None,
         Shape::Text(_) => None,
         Shape::Octets(_) => None,
+        Shape::WideText => None,
+        Shape::WideChar => None,
         Shape::Marked(_) => None,
         Shape::Union(_) => None,
         Shape::Sequence(_) => None,
@@ -335,7 +339,7 @@ pub(crate) fn whole(catalogue: &Catalogue, t: TypeId) -> Option<(u32, Option<Sta
 /// where a frame added tells what follows.
 #[inline(always)]
 pub(crate) fn begin(
-    catalogue: &Catalogue,
+    catalogue: &SeenCatalogue<'_>,
     outer: &mut ArrayVec<Frame, 24>,
     inside: &mut Within,
     t: TypeId,
@@ -441,7 +445,7 @@ fn leave(outer: &mut ArrayVec<Frame, 24>)
 /// the next number, or None where the whole has ended. `inside` is set where a frame added tells what follows.
 #[inline(always)]
 pub(crate) fn go_on(
-    catalogue: &Catalogue,
+    catalogue: &SeenCatalogue<'_>,
     outer: &mut ArrayVec<Frame, 24>,
     inside: &mut Within,
 ) -> Option<Leaf>
@@ -501,7 +505,11 @@ pub(crate) fn go_on(
 /// Goes on after the innermost part's first part, which has told what follows: answers the type of the part that does,
 /// or ends the part, and where octets of no type follow each part around it up to an encapsulation.
 #[inline(never)]
-fn part_told(catalogue: &Catalogue, outer: &mut ArrayVec<Frame, 24>, told: Stage) -> Option<TypeId>
+fn part_told(
+    catalogue: &SeenCatalogue<'_>,
+    outer: &mut ArrayVec<Frame, 24>,
+    told: Stage,
+) -> Option<TypeId>
     requires known { AreKnown catalogue.now outer.old.items }
     requires open { (at : ℕ) × OpenFrom 24 (open_parts catalogue.now at outer.old.items) }
     requires some { outer.old.items ≡ [] → ⊥ }

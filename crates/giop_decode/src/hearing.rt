@@ -10,10 +10,14 @@ use crate::frame::{Frame, Stage};
 use crate::leaf::{Finished, Output};
 use arrayvec::ArrayVec;
 use giop_cdr::Number;
-use giop_sig::{Catalogue, Shape, Sign, Signal, TypeId};
+use giop_sig::{SeenCatalogue, Shape, Sign, Signal, TypeId};
 
 /// Tells each part around, of which the first part is read and tells what follows, what an octet finishes.
-pub(crate) fn hear(catalogue: &Catalogue, outer: &mut ArrayVec<Frame, 24>, finished: Finished<'_>)
+pub(crate) fn hear(
+    catalogue: &SeenCatalogue<'_>,
+    outer: &mut ArrayVec<Frame, 24>,
+    finished: Finished<'_>,
+)
     requires known { finished.of.0 < length catalogue.now.types }
     requires known_outer { AreKnown catalogue.now outer.old.items }
     requires room { length outer.old.items < 24 }
@@ -29,7 +33,7 @@ pub(crate) fn hear(catalogue: &Catalogue, outer: &mut ArrayVec<Frame, 24>, finis
 }
 
 /// What the line of what an octet finishes tells, if any.
-fn sign<'a>(catalogue: &Catalogue, finished: Finished<'a>) -> Option<Sign<'a>>
+fn sign<'a>(catalogue: &SeenCatalogue<'_>, finished: Finished<'a>) -> Option<Sign<'a>>
     requires known { finished.of.0 < length catalogue.now.types }
     requires has_output { (n : ℕ) × HasOutput (tree_at catalogue.now (suc n) finished.of.0)
         finished.output }
@@ -53,7 +57,7 @@ fn sign<'a>(catalogue: &Catalogue, finished: Finished<'a>) -> Option<Sign<'a>>
 }
 
 /// What the number of a type tells: that of one with a mark.
-fn marked(catalogue: &Catalogue, of: TypeId, number: Number) -> Option<Sign<'static>>
+fn marked(catalogue: &SeenCatalogue<'_>, of: TypeId, number: Number) -> Option<Sign<'static>>
     requires known { of.0 < length catalogue.now.types }
     requires number { (n : ℕ) × IsNumberOf (tree_at catalogue.now n of.0) number }
     ensures { (n at : ℕ) (path : List PathSegment)
@@ -67,7 +71,7 @@ fn marked(catalogue: &Catalogue, of: TypeId, number: Number) -> Option<Sign<'sta
 }
 
 /// Tells each of these parts a sign.
-fn hear_each(catalogue: &Catalogue, outer: &mut ArrayVec<Frame, 24>, sign: Sign<'_>)
+fn hear_each(catalogue: &SeenCatalogue<'_>, outer: &mut ArrayVec<Frame, 24>, sign: Sign<'_>)
     requires { AreKnown catalogue.now outer.old.items }
     ensures { outer.new.items ≡ frames_after catalogue.now sign.entry outer.old.items }
 {
@@ -77,7 +81,7 @@ fn hear_each(catalogue: &Catalogue, outer: &mut ArrayVec<Frame, 24>, sign: Sign<
 }
 
 /// A part after a sign.
-fn hear_one(catalogue: &Catalogue, frame: Frame, sign: Sign<'_>) -> Frame
+fn hear_one(catalogue: &SeenCatalogue<'_>, frame: Frame, sign: Sign<'_>) -> Frame
     requires { frame.of.0 < length catalogue.now.types }
     ensures { result ≡ hear_of catalogue.now sign.entry frame }
 {

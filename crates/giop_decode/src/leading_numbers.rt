@@ -9,7 +9,7 @@ ghost use Rattle.giop_decode.specs.Runs.{IsStep, IsStepOf};
 ghost use Rattle.giop_decode.specs.ReadingSteps.{leading_width};
 ghost use Rattle.giop_decode.specs.Fits.{HasLeadingNumber};
 ghost use Rattle.giop_decode.specs.Transitions.{IsNumberOf, NumberStands, over_by, unnamed_by};
-ghost use Rattle.giop_sig.specs.Types.{Marked, Ty, Text, Octets, Sequence, switch_of, shape_in, IsUnion};
+ghost use Rattle.giop_sig.specs.Types.{Marked, Ty, Text, Octets, OctetKind, bound_of, Sequence, switch_of, shape_in, IsUnion};
 ghost use Rattle.giop_sig.specs.Fits.{IsFit};
 ghost use Rattle.giop_sig.specs.Trees.{tree, tree_at};
 
@@ -17,11 +17,11 @@ use crate::encapsulation;
 use crate::leaf::{Leaf, Output, Step, Transition, refused};
 use crate::progress::Kind;
 use giop_cdr::{Carry, Number, Order, Prim, number_of, pad, size};
-use giop_sig::{Catalogue, Selected, Shape, TypeId, is_kind, kind_word};
+use giop_sig::{SeenCatalogue, Selected, Shape, TypeId, is_kind, kind_word};
 
 /// The size of the number that begins a type.
 #[inline(always)]
-pub(crate) fn width(catalogue: &Catalogue, t: TypeId) -> u8
+pub(crate) fn width(catalogue: &SeenCatalogue<'_>, t: TypeId) -> u8
     requires known { t.0 < length catalogue.now.types }
     ensures width { (n : ℕ) → HasLeadingNumber (tree_at catalogue.now (suc n) t.0) →
         result ≡ leading_width (tree_at catalogue.now (suc n) t.0) }
@@ -31,13 +31,14 @@ pub(crate) fn width(catalogue: &Catalogue, t: TypeId) -> u8
         Shape::Prim(prim) => size(prim),
         Shape::Union(_) => switch_width(catalogue, t),
         Shape::Tagged => switch_width(catalogue, t),
+        Shape::WideChar => 1,
         _ => 4,
     }
 }
 
 /// The size of the number of a discriminator.
 #[inline(always)]
-fn switch_width(catalogue: &Catalogue, t: TypeId) -> u8
+fn switch_width(catalogue: &SeenCatalogue<'_>, t: TypeId) -> u8
     requires known { t.0 < length catalogue.now.types }
     requires union { IsUnion (shape_in (tree catalogue.now t.0)) }
     ensures width { (n : ℕ) → HasLeadingNumber (tree_at catalogue.now (suc n) t.0) →
@@ -103,7 +104,12 @@ fn hold_some(carry: &mut Carry, width: u8, octets: &[u8]) -> usize
 
 /// Goes on after the number that begins a type, which has these octets.
 #[inline(always)]
-pub(crate) fn take_value(catalogue: &Catalogue, order: Order, of: TypeId, octets: &[u8]) -> Step
+pub(crate) fn take_value(
+    catalogue: &SeenCatalogue<'_>,
+    order: Order,
+    of: TypeId,
+    octets: &[u8],
+) -> Step
     requires known { of.0 < length catalogue.now.types }
     requires head { HasLeadingNumber (tree catalogue.now of.0) }
     requires fit { (d room : ℕ) × IsFit d (tree_at catalogue.now room of.0) }
@@ -131,6 +137,8 @@ pub(crate) fn take_value(catalogue: &Catalogue, order: Order, of: TypeId, octets
         }
         Shape::Text(bound) => take_length(catalogue, of, bound, long_of(order, octets)),
         Shape::Octets(bound) => take_size(catalogue, of, bound, long_of(order, octets)),
+        Shape::WideText => take_size(catalogue, of, None, long_of(order, octets)),
+        Shape::WideChar => take_size(catalogue, of, None, octet_of(order, octets)),
         Shape::Sequence(bound) => take_count(catalogue, of, bound, long_of(order, octets)),
         Shape::Union(_) => take_switch(catalogue, order, of, octets),
         Shape::Tagged => take_switch(catalogue, order, of, octets),
@@ -161,7 +169,7 @@ fn is_unnamed(mark: u32, n: u32) -> bool
 
 /// Goes on after the number of a union's discriminator, which has these octets.
 #[inline(always)]
-fn take_switch(catalogue: &Catalogue, order: Order, of: TypeId, octets: &[u8]) -> Step
+fn take_switch(catalogue: &SeenCatalogue<'_>, order: Order, of: TypeId, octets: &[u8]) -> Step
     requires known { of.0 < length catalogue.now.types }
     requires union { IsUnion (shape_in (tree catalogue.now of.0)) }
     requires fit { (d room : ℕ) × IsFit d (tree_at catalogue.now room of.0) }
@@ -194,7 +202,7 @@ fn take_switch(catalogue: &Catalogue, order: Order, of: TypeId, octets: &[u8]) -
 
 /// Goes on after the number of a union's discriminator, which is this value.
 #[inline(always)]
-fn take_selected(catalogue: &Catalogue, of: TypeId, number: Number) -> Step
+fn take_selected(catalogue: &SeenCatalogue<'_>, of: TypeId, number: Number) -> Step
     requires known { of.0 < length catalogue.now.types }
     requires union { IsUnion (shape_in (tree catalogue.now of.0)) }
     requires fit { (d room : ℕ) × IsFit d (tree_at catalogue.now room of.0) }
@@ -219,7 +227,12 @@ fn take_selected(catalogue: &Catalogue, of: TypeId, number: Number) -> Step
 
 /// Goes on after the length of a string.
 #[inline(always)]
-pub(crate) fn take_length(catalogue: &Catalogue, of: TypeId, bound: Option<u32>, n: u32) -> Step
+pub(crate) fn take_length(
+    catalogue: &SeenCatalogue<'_>,
+    of: TypeId,
+    bound: Option<u32>,
+    n: u32,
+) -> Step
     requires { tree catalogue.now of.0 ≡ Text bound }
     ensures fits { IsStep catalogue.now of.0 result }
     ensures transitions { IsStepOf catalogue.now of.0 n result }
@@ -246,10 +259,16 @@ pub(crate) fn take_length(catalogue: &Catalogue, of: TypeId, bound: Option<u32>,
     }
 }
 
-/// Goes on after the length of an octet sequence.
+/// Goes on after the number of octets of a kind.
 #[inline(always)]
-pub(crate) fn take_size(catalogue: &Catalogue, of: TypeId, bound: Option<u32>, n: u32) -> Step
-    requires { tree catalogue.now of.0 ≡ Octets bound }
+pub(crate) fn take_size(
+    catalogue: &SeenCatalogue<'_>,
+    of: TypeId,
+    bound: Option<u32>,
+    n: u32,
+) -> Step
+    requires { (kind : OctetKind) × (tree catalogue.now of.0 ≡ Octets kind)
+        × (bound_of kind ≡ bound) }
     ensures fits { IsStep catalogue.now of.0 result }
     ensures transitions { IsStepOf catalogue.now of.0 n result }
 {
@@ -274,7 +293,12 @@ pub(crate) fn take_size(catalogue: &Catalogue, of: TypeId, bound: Option<u32>, n
 
 /// Goes on after the count of a sequence.
 #[inline(always)]
-pub(crate) fn take_count(catalogue: &Catalogue, of: TypeId, bound: Option<u32>, n: u32) -> Step
+pub(crate) fn take_count(
+    catalogue: &SeenCatalogue<'_>,
+    of: TypeId,
+    bound: Option<u32>,
+    n: u32,
+) -> Step
     requires is { (E : Ty) × (tree catalogue.now of.0 ≡ Sequence bound E) }
     requires fit { (d room : ℕ) × IsFit d (tree_at catalogue.now room of.0) }
     ensures fits { IsStep catalogue.now of.0 result }
@@ -323,6 +347,17 @@ pub(crate) fn long_of(order: Order, octets: &[u8]) -> u32
     ensures { result ≡ num order octets.now }
 {
     match number_of(order, Prim::ULong, just_four(octets)) {
+        Ok(Number::Unsigned(n)) => n as u32,
+        _ => unreachable!(),
+    }
+}
+
+/// The number that one octet spells.
+fn octet_of(order: Order, octets: &[u8]) -> u32
+    requires { length octets.now ≡ 1 }
+    ensures { result ≡ num order octets.now }
+{
+    match number_of(order, Prim::Octet, octets) {
         Ok(Number::Unsigned(n)) => n as u32,
         _ => unreachable!(),
     }

@@ -19,7 +19,7 @@ use giop_print::{
     Head, Out, OutFault, Piece, SplitPiece, Value, encapsulation_line, order_line,
     split_inner_rest_line, split_piece_line, value_line,
 };
-use giop_sig::{Catalogue, Shape, TypeId, kind_word};
+use giop_sig::{SeenCatalogue, Shape, TypeId, kind_word};
 
 /// The line of a value of a type of one number.
 #[tactic(auto, unfolding(giop_print::specs::Lines::kind_line))]
@@ -80,6 +80,8 @@ fn octets_line<O: Out>(
     let held = match path.catalogue.shape(finished.of) {
         Shape::Text(_) => Piece::Text(held),
         Shape::Octets(_) => Piece::Octets(held),
+        Shape::WideText => Piece::WideText(held),
+        Shape::WideChar => Piece::WideChar(held),
         Shape::Encapsulation => {
             return split_inner_rest_line(out, path, offset, held, rest);
         }
@@ -97,7 +99,7 @@ fn octets_line<O: Out>(
 /// Writes what an octet of an innermost part finishes.
 #[inline(always)]
 pub(crate) fn write_line<O: Out>(
-    catalogue: &Catalogue,
+    catalogue: &SeenCatalogue<'_>,
     head: &Head,
     outer: &[Frame],
     finished: Finished<'_>,

@@ -11,7 +11,7 @@ ghost use Rattle.giop_sig.specs.Trees.{tree_at};
 use crate::leading_numbers::{long_of, padding_at};
 use crate::leaf::{Leaf, Output, Step, Transition};
 use giop_cdr::{Number, Order, Prim, number_of, size};
-use giop_sig::{Catalogue, Shape, TypeId};
+use giop_sig::{SeenCatalogue, Shape, TypeId};
 
 /// Octets ahead that an innermost part takes together.
 #[derive(Clone, Copy, Debug)]
@@ -44,7 +44,7 @@ pub(crate) fn ahead_of(of: TypeId, count: usize, step: Step, rest: &[u8]) -> Loo
 
 /// How many octets stand after a piece of a content of which so many are left: a string's last is ended by a zero.
 #[inline(always)]
-pub(crate) fn octets_behind(catalogue: &Catalogue, of: TypeId, left: usize) -> usize
+pub(crate) fn octets_behind(catalogue: &SeenCatalogue<'_>, of: TypeId, left: usize) -> usize
     requires known { of.0 < length catalogue.now.types }
     ensures full { 32 < left → result ≡ 0 }
     ensures last { (n : ℕ) → left ≤ 32 → result ≡ tail (tree_at catalogue.now n of.0) }
@@ -82,7 +82,7 @@ pub(crate) fn held(of: TypeId, count: usize, leaf: Leaf) -> Lookahead<'static>
 /// at this offset modulo 8, and how many octets it takes with its padding.
 #[inline(always)]
 pub(crate) fn whole_number(
-    catalogue: &Catalogue,
+    catalogue: &SeenCatalogue<'_>,
     order: Order,
     at: u8,
     of: TypeId,

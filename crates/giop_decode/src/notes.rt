@@ -3,7 +3,7 @@
 
 ghost use Rattle.std.specs.Prelude.{◌≡◌, ℕ, ◌<◌, ◌≤◌, ◌&&◌, Bool, IsTrue, IfSome, true, false, codes, List, [], ◌++◌, length};
 ghost use Rattle.giop_decode.specs.Noted.{Noted, nothing_noted, with_piece, ended, noted_piece, is_name, is_member, is_key_path, is_header_root, without_name_if, note_value, noted, names_operation, expects_after, with_expects, may_have_key, with_key_piece, key_ended, noted_key};
-ghost use Rattle.giop_decode.specs.DecoderState.{AreOfRoot, HoldsNoKey, HoldsNoted, interface_of};
+ghost use Rattle.giop_decode.specs.SeenState.{AreOfRoot, HoldsNoKey, HoldsNoted, interface_of};
 ghost use Rattle.giop_decode.specs.NotingSteps.{IsForKey, clears_name, is_set};
 ghost use Rattle.giop_decode.specs.ReadResult.{Line};
 ghost use Rattle.giop_decode.specs.ReadResult as results;
@@ -20,7 +20,7 @@ use crate::leaf::{Finished, Output};
 use arrayvec::ArrayVec;
 use giop_cdr::{Number, Prim};
 use giop_print::Root;
-use giop_sig::{Catalogue, InterfaceId, Shape, TypeId};
+use giop_sig::{InterfaceId, SeenCatalogue, Shape, TypeId};
 
 /// What the name buffer has.
 #[derive(Clone, Copy, Debug, PartialEq, Eq)]
@@ -241,7 +241,7 @@ impl Notes {
 
     /// Notes a piece of an object key, which may be its last: the octets that were held, mostly none, and the rest.
     #[inline(never)]
-    fn note_key(&mut self, catalogue: &Catalogue, held: &[u8], rest: &[u8], more: bool)
+    fn note_key(&mut self, catalogue: &SeenCatalogue<'_>, held: &[u8], rest: &[u8], more: bool)
         requires { has_keys catalogue.now ≡ true }
         ensures notes { (asked : Bool) (h : Noted) → HoldsNoted catalogue.now asked self.old h →
             HoldsNoted catalogue.now asked self.new (noted_key h (held.now ++ rest.now) more) }
@@ -287,7 +287,7 @@ impl Notes {
     }
 
     /// Notes that an object key has ended: whose it is takes the place of its octets.
-    fn end_key(&mut self, catalogue: &Catalogue)
+    fn end_key(&mut self, catalogue: &SeenCatalogue<'_>)
         requires keys { has_keys catalogue.now ≡ true }
         requires key { IsForKey self.old }
         requires begun { self.old.buffer ≡ Buffer.Begun → ⊥ }
@@ -309,7 +309,7 @@ impl Notes {
 
     /// Notes the number of a discriminator of this type: an enum's.
     #[inline(always)]
-    fn note_switch(&mut self, catalogue: &Catalogue, t: TypeId, number: Number)
+    fn note_switch(&mut self, catalogue: &SeenCatalogue<'_>, t: TypeId, number: Number)
         requires known { t.0 < length catalogue.now.types }
         requires number { (n : ℕ) × IsNumberOf (tree_at catalogue.now n t.0) number }
         ensures notes { (asked : Bool) (h : Noted) (n : ℕ)
@@ -331,7 +331,7 @@ impl Notes {
     #[inline(always)]
     fn note_part(
         &mut self,
-        catalogue: &Catalogue,
+        catalogue: &SeenCatalogue<'_>,
         root: Root,
         outer: &[Frame],
         of: TypeId,
@@ -385,7 +385,7 @@ impl Notes {
     #[inline(always)]
     pub(crate) fn note(
         &mut self,
-        catalogue: &Catalogue,
+        catalogue: &SeenCatalogue<'_>,
         root: Root,
         outer: &[Frame],
         finished: Finished<'_>,
@@ -469,7 +469,7 @@ pub(crate) fn is_header(root: Root) -> bool
 
 /// Whether the innermost part is the member of this name of a header.
 #[inline(always)]
-fn is_header_member(catalogue: &Catalogue, root: Root, outer: &[Frame], name: &[u8]) -> bool
+fn is_header_member(catalogue: &SeenCatalogue<'_>, root: Root, outer: &[Frame], name: &[u8]) -> bool
     requires { AreKnown catalogue.now outer.now }
     ensures { (here : ℕ) → result ≡ (is_header_root root
         && is_member name.now (path_in [] (open_parts catalogue.now here outer.now))) }
@@ -478,7 +478,7 @@ fn is_header_member(catalogue: &Catalogue, root: Root, outer: &[Frame], name: &[
 }
 
 /// Whether the innermost part is the root's member of this name.
-fn is_member(catalogue: &Catalogue, outer: &[Frame], name: &[u8]) -> bool
+fn is_member(catalogue: &SeenCatalogue<'_>, outer: &[Frame], name: &[u8]) -> bool
     requires { AreKnown catalogue.now outer.now }
     ensures { (here : ℕ) →
         result ≡ is_member name.now (path_in [] (open_parts catalogue.now here outer.now)) }
@@ -490,7 +490,7 @@ fn is_member(catalogue: &Catalogue, outer: &[Frame], name: &[u8]) -> bool
 }
 
 /// Whether the innermost part is a header's object key.
-fn is_key(catalogue: &Catalogue, root: Root, outer: &[Frame]) -> bool
+fn is_key(catalogue: &SeenCatalogue<'_>, root: Root, outer: &[Frame]) -> bool
     requires { AreKnown catalogue.now outer.now }
     ensures is { (here : ℕ) → result ≡ (is_header_root root
         && is_key_path (path_in [] (open_parts catalogue.now here outer.now))) }
@@ -509,7 +509,7 @@ fn is_key(catalogue: &Catalogue, root: Root, outer: &[Frame]) -> bool
 }
 
 /// Whether the part of this frame that is being read has this name.
-fn is_named(catalogue: &Catalogue, frame: Frame, name: &[u8]) -> bool
+fn is_named(catalogue: &SeenCatalogue<'_>, frame: Frame, name: &[u8]) -> bool
     requires { IsKnown catalogue.now frame }
     ensures { (room here : ℕ) →
         result ≡ is_name name.now (segment_in (open_part catalogue.now room here frame)) }

@@ -2,7 +2,7 @@
 
 ghost use Rattle.std.specs.Prelude.{◌≡◌, ℕ, ◌+◌, ◌-◌, ◌<◌, ◌≤◌, false, true, List, [], ◌++◌, length, IfOk, IfSome, OnOk, IsTrue};
 ghost use Rattle.giop_cdr.specs.Primitives.{size_of};
-ghost use Rattle.giop_decode.specs.DecoderState.{Fits};
+ghost use Rattle.giop_decode.specs.SeenState.{Fits};
 ghost use Rattle.giop_decode.specs.Noted.{is_header_root};
 ghost use Rattle.giop_decode.specs.NextParts.{IsPartAhead, IsNextNumber, IsAtNext, front_text};
 ghost use Rattle.giop_decode.specs.Runs.{TakesSome};
@@ -23,7 +23,7 @@ use crate::progress::Progress;
 use crate::run::further;
 use giop_cdr::{Number, Prim};
 use giop_print::{Head, Line, Out, OutFault, line_behind, put_number_end};
-use giop_sig::{Catalogue, Shape, TypeId};
+use giop_sig::{SeenCatalogue, Shape, TypeId};
 
 /// The number of a primitive that comes next, where it is a part of a part that is begun.
 #[derive(Clone, Copy, Debug)]
@@ -49,7 +49,7 @@ impl Decoder {
     /// Whether the number that comes next is a primitive's, and one of several parts of which three are to come, in no header,
     /// and there are octets for more than one.
     #[inline(always)]
-    pub(crate) fn has_parts(&self, catalogue: &Catalogue, of: TypeId, octets: &[u8]) -> bool
+    pub(crate) fn has_parts(&self, catalogue: &SeenCatalogue<'_>, of: TypeId, octets: &[u8]) -> bool
         requires fits { Fits catalogue.now self.now }
         requires leaf { self.now.leaf ≡ Some (Leaf.Number of) }
         ensures some { IsTrue result → 0 < length self.now.outer.items }
@@ -74,7 +74,7 @@ impl Decoder {
     #[inline(never)]
     pub(crate) fn take_parts<O: Out>(
         &mut self,
-        catalogue: &Catalogue,
+        catalogue: &SeenCatalogue<'_>,
         octets: &[u8],
         out: &mut O,
     ) -> Result<(usize, Progress), OutFault>
@@ -97,7 +97,7 @@ impl Decoder {
     #[inline(always)]
     fn take_several<O: Out>(
         &mut self,
-        catalogue: &Catalogue,
+        catalogue: &SeenCatalogue<'_>,
         octets: &[u8],
         front: &Line,
         out: &mut O,
@@ -131,7 +131,11 @@ impl Decoder {
     /// The number that comes next, where it is a primitive's, stands whole at the head of these octets, and is a part
     /// of a part that is begun.
     #[inline(always)]
-    fn part_ahead<'a>(&self, catalogue: &Catalogue, octets: &'a [u8]) -> Option<PartAhead<'a>>
+    fn part_ahead<'a>(
+        &self,
+        catalogue: &SeenCatalogue<'_>,
+        octets: &'a [u8],
+    ) -> Option<PartAhead<'a>>
         requires fits { Fits catalogue.now self.now }
         requires outside { self.now.inside ≡ Within.Nothing }
         ensures ahead { IfSome result (λ part. IsPartAhead catalogue.now self.now part) }
@@ -164,7 +168,7 @@ impl Decoder {
     #[inline(always)]
     fn take_part<O: Out>(
         &mut self,
-        catalogue: &Catalogue,
+        catalogue: &SeenCatalogue<'_>,
         part: PartAhead<'_>,
         next: TypeId,
         front: &Line,
@@ -194,7 +198,7 @@ impl Decoder {
     #[inline(always)]
     fn take_last<O: Out>(
         &mut self,
-        catalogue: &Catalogue,
+        catalogue: &SeenCatalogue<'_>,
         part: PartAhead<'_>,
         front: &Line,
         line: &mut Line,
@@ -225,7 +229,7 @@ impl Decoder {
 
     /// The type of the part that follows that number, where that is a primitive.
     #[inline(always)]
-    fn next_number(&self, catalogue: &Catalogue, part: PartAhead<'_>) -> Option<TypeId>
+    fn next_number(&self, catalogue: &SeenCatalogue<'_>, part: PartAhead<'_>) -> Option<TypeId>
         requires fits { Fits catalogue.now self.now }
         requires ahead { IsPartAhead catalogue.now self.now part }
         ensures { IfSome result (λ next. IsNextNumber catalogue.now part.entry.frame next) }
@@ -243,7 +247,7 @@ impl Decoder {
 
     /// Puts what the lines of the innermost part's parts begin with, up to their own segment, on an empty line, and
     /// answers whether it did so: not where that has too many octets.
-    fn put_front_of_parts(&self, catalogue: &Catalogue, line: &mut Line) -> bool
+    fn put_front_of_parts(&self, catalogue: &SeenCatalogue<'_>, line: &mut Line) -> bool
         requires known { AreKnown catalogue.now self.now.outer.items }
         requires some { 0 < length self.now.outer.items }
         requires empty { line_text line.old ≡ [] }
@@ -260,7 +264,7 @@ impl Decoder {
 /// that has.
 #[inline(always)]
 fn part_line<O: Out>(
-    catalogue: &Catalogue,
+    catalogue: &SeenCatalogue<'_>,
     part: PartAhead<'_>,
     front: &Line,
     line: &mut Line,
@@ -285,7 +289,7 @@ fn part_line<O: Out>(
 /// whether it did so: it does where the segments have at most 96 octets, and all of it is then at most 128.
 #[inline(always)]
 pub(crate) fn put_front(
-    catalogue: &Catalogue,
+    catalogue: &SeenCatalogue<'_>,
     head: &Head,
     outer: &[Frame],
     line: &mut Line,

@@ -1,7 +1,7 @@
 //! Full pieces of an octet sequence, taken one after another: what their lines begin with is spelled once.
 
 ghost use Rattle.std.specs.Prelude.{◌≡◌, ℕ, ◌<◌, ◌≤◌, false, true, List, [], length, take, codes, IfOk, IfSome, IsTrue, OnOk};
-ghost use Rattle.giop_decode.specs.DecoderState.{Fits};
+ghost use Rattle.giop_decode.specs.SeenState.{Fits};
 ghost use Rattle.giop_decode.specs.NextPieces.{IsQuiet, IsPieceAhead, behind_piece, path_front};
 ghost use Rattle.giop_decode.specs.Runs.{TakesSome};
 ghost use Rattle.giop_print.specs.Line.{headed, line_text};
@@ -15,7 +15,7 @@ use crate::notes::is_header;
 use crate::parts::put_front;
 use crate::progress::Progress;
 use giop_print::{Line, Out, OutFault, Piece, SplitPiece, line_behind, put_piece_end};
-use giop_sig::{Catalogue, Shape, TypeId};
+use giop_sig::{SeenCatalogue, Shape, TypeId};
 
 /// A full piece of an octet sequence, of which no octet is held, and after which more comes.
 #[derive(Clone, Copy, Debug)]
@@ -37,13 +37,13 @@ const PIECE: usize = 32;
 const RUN: usize = 2 * PIECE;
 
 /// How many octets may stand in a line before the word of its piece: what `put_piece_end` leaves.
-const FRONT: usize = 90;
+const FRONT: usize = 89;
 
 impl Decoder {
     /// Whether two full pieces of an octet sequence stand whole at the head of these octets, which are not noted, and more
     /// of it comes after them.
     #[inline(always)]
-    pub(crate) fn has_pieces(&self, catalogue: &Catalogue, octets: &[u8]) -> bool
+    pub(crate) fn has_pieces(&self, catalogue: &SeenCatalogue<'_>, octets: &[u8]) -> bool
         requires { Fits catalogue.now self.now }
         ensures quiet { IsTrue result → IsQuiet catalogue.now self.now.head.root }
     {
@@ -57,7 +57,7 @@ impl Decoder {
     }
 
     /// Whether no octet sequence is noted: in no header, and where no object key has an interface.
-    fn is_quiet(&self, catalogue: &Catalogue) -> bool
+    fn is_quiet(&self, catalogue: &SeenCatalogue<'_>) -> bool
         ensures { IsTrue result → IsQuiet catalogue.now self.now.head.root }
     {
         !(is_header(self.head.root()) && catalogue.has_keys())
@@ -68,7 +68,7 @@ impl Decoder {
     #[inline(never)]
     pub(crate) fn take_pieces<O: Out>(
         &mut self,
-        catalogue: &Catalogue,
+        catalogue: &SeenCatalogue<'_>,
         octets: &[u8],
         out: &mut O,
     ) -> Result<(usize, Progress), OutFault>
@@ -91,7 +91,7 @@ impl Decoder {
     #[inline(always)]
     fn take_full<O: Out>(
         &mut self,
-        catalogue: &Catalogue,
+        catalogue: &SeenCatalogue<'_>,
         octets: &[u8],
         front: &Line,
         out: &mut O,
@@ -101,7 +101,7 @@ impl Decoder {
         requires quiet { IsQuiet catalogue.now self.old.head.root }
         requires outside { self.old.inside ≡ Within.Nothing }
         requires front { line_text front.now ≡ path_front catalogue.now self.old }
-        requires short { length (line_text front.now) ≤ 90 }
+        requires short { length (line_text front.now) ≤ 89 }
         ensures { TakesSome catalogue.now self.old self.new octets.now
             (O.log out.old) (O.log out.new) result }
     {
@@ -121,7 +121,11 @@ impl Decoder {
     /// The full piece that comes next, where it is an octet sequence's, stands whole at the head of these octets, and
     /// none of it is held.
     #[inline(always)]
-    fn next_piece<'a>(&self, catalogue: &Catalogue, octets: &'a [u8]) -> Option<PieceAhead<'a>>
+    fn next_piece<'a>(
+        &self,
+        catalogue: &SeenCatalogue<'_>,
+        octets: &'a [u8],
+    ) -> Option<PieceAhead<'a>>
         requires { Fits catalogue.now self.now }
         ensures ahead { IfSome result (λ piece. IsPieceAhead catalogue.now self.now piece) }
         ensures octets { IfSome result (λ piece. piece.octets.now ≡ octets.now) }
@@ -150,7 +154,7 @@ impl Decoder {
     #[inline(always)]
     fn take_piece<O: Out>(
         &mut self,
-        catalogue: &Catalogue,
+        catalogue: &SeenCatalogue<'_>,
         piece: PieceAhead<'_>,
         front: &Line,
         line: &mut Line,
@@ -161,7 +165,7 @@ impl Decoder {
         requires quiet { IsQuiet catalogue.now self.old.head.root }
         requires outside { self.old.inside ≡ Within.Nothing }
         requires front { line_text front.now ≡ path_front catalogue.now self.old }
-        requires short { length (line_text front.now) ≤ 90 }
+        requires short { length (line_text front.now) ≤ 89 }
         ensures takes { TakesSome catalogue.now self.old self.new piece.entry.octets.now
             (O.log out.old) (O.log out.new) result }
         ensures more { IfOk result (λ taken. taken.1 ≡ Progress.More) }
@@ -186,7 +190,7 @@ fn piece_line<O: Out>(
     out: &mut O,
 ) -> Result<(), OutFault>
     requires whole { 32 ≤ length piece.octets.now }
-    requires short { length (line_text front.now) ≤ 90 }
+    requires short { length (line_text front.now) ≤ 89 }
     ensures { (message : ℕ) (place : List ℕ) →
         line_text front.now ≡ headed message place [] →
         Writes result (O.log out.old) (O.log out.new) (content_line message place

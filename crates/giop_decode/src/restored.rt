@@ -11,8 +11,8 @@ ghost use Rattle.giop_decode.specs.declared.leaf.Leaf.{Leaf as Innermost};
 ghost use Rattle.giop_decode.specs.declared.notes.Buffer.{Buffer as BufferState};
 ghost use Rattle.giop_decode.specs.declared.notes.Last.{Last as LastState};
 ghost use Rattle.giop_decode.specs.declared.notes.Notes.{Notes as NotesState};
-ghost use Rattle.giop_decode.specs.DecoderState.{Fits, Reads};
-ghost use Rattle.giop_decode.specs.Stored.{order_octet, root_octet, leaf_octets, buffer_octet, last_octets, expects_octet, notes_octets, inside_octet, told_octet, frame_octets, frames_octets, frame_size, FrameHasRange, LeafHasRange, LastHasRange, NotesHaveRange, Stored, IsKept, IsRestored};
+ghost use Rattle.giop_decode.specs.DecoderState.{Fits, IsOfVersion, Reads};
+ghost use Rattle.giop_decode.specs.Stored.{narrow_octet, order_octet, root_octet, leaf_octets, buffer_octet, last_octets, expects_octet, notes_octets, inside_octet, told_octet, frame_octets, frames_octets, frame_size, FrameHasRange, LeafHasRange, LastHasRange, NotesHaveRange, Stored, IsKept, IsRestored};
 ghost use Rattle.giop_print.specs.declared.path.Root.{Root as PathRoot};
 ghost use Rattle.giop_sig.specs.Table.{Table};
 ghost use Rattle.giop_sig.specs.Types.{Ty};
@@ -30,12 +30,18 @@ use giop_sig::{Catalogue, InterfaceId, TypeId};
 
 impl Decoder {
     /// The decoder that was stored in these octets: its own, and those of its frames. None where no decoder that fits
-    /// the catalogue is stored so.
-    pub fn restore(catalogue: &Catalogue, fixed: &[u8; 208], frames: &[u8]) -> Option<Decoder>
+    /// the catalogue, and reads a message of this minor version, is stored so.
+    pub fn restore(
+        catalogue: &Catalogue,
+        fixed: &[u8; 208],
+        frames: &[u8],
+        minor: u8,
+    ) -> Option<Decoder>
         ensures fits { IfSome result (λ d. Fits catalogue.now d) }
+        ensures version { IfSome result (λ d. IsOfVersion minor catalogue.now d) }
         ensures stored { IfSome result (λ d. Stored d fixed.now frames.now) }
-        ensures again { (d : State) → Fits catalogue.now d → Stored d fixed.now frames.now →
-            IsSome result }
+        ensures again { (d : State) → Fits catalogue.now d → IsOfVersion minor catalogue.now d →
+            Stored d fixed.now frames.now → IsSome result }
         // It reads whatever list the stored one reads.
         ensures reads { IfSome result (λ e. (d : State) → Fits catalogue.now d →
             Stored d fixed.now frames.now →
@@ -43,9 +49,14 @@ impl Decoder {
             Reads catalogue.now T order at message root d s →
             Reads catalogue.now T order at message root e s) }
     {
-        catalogue.laws();
+        let narrow = catalogue.is_narrow(minor);
+        let seen = catalogue.seen(narrow);
+        seen.laws();
         let decoder = parsed(fixed, frames);
-        if !decoder.chains(catalogue) {
+        if decoder.narrow != narrow {
+            return None;
+        }
+        if !decoder.chains(&seen) {
             return None;
         }
         if !decoder.is_stored_as(fixed, frames) {
@@ -90,6 +101,7 @@ fn parsed(fixed: &[u8; 208], frames: &[u8]) -> Decoder
         order: order_at(fixed, 0),
         head: Head::new(eight_at(fixed, 2), root),
         at: octet_at(fixed, 10),
+        narrow: narrow_at(fixed, 207),
         outer,
         inside,
         leaf: Some(leaf_at(fixed, 11)),
@@ -109,6 +121,15 @@ fn order_at(octets: &[u8], at: usize) -> Order
         0 => Order::Big,
         _ => Order::Little,
     }
+}
+
+/// Whether there is no room for wide text, as it is stored at this index.
+fn narrow_at(octets: &[u8], at: usize) -> bool
+    requires room { at < length octets.now }
+    ensures { (narrow : Bool) (rest : List ℕ) → drop at octets.now ≡ narrow_octet narrow ∷ rest →
+        result ≡ narrow }
+{
+    octet_at(octets, at) != 0
 }
 
 /// The root that is stored at this index.

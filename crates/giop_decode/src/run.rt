@@ -3,8 +3,9 @@
 ghost use Rattle.std.specs.Prelude.{◌≡◌, ℕ, ◌+◌, ◌-◌, ◌%◌, ◌^◌, ◌<◌, ◌≤◌, List, length, take, IfOk, Some};
 ghost use Rattle.giop_cdr.specs.declared.order.Order.{Order as ByteOrder};
 ghost use Rattle.giop_decode.specs.declared.decoder.Decoder.{Decoder as Before};
-ghost use Rattle.giop_decode.specs.DecoderState.{Fits, GoesOn, IsDone, Reads};
-ghost use Rattle.giop_decode.specs.Runs.{IsContent, IsHeldOf, IsParted, TakesRun, TakesSome, WritesRun, TakenTogether};
+ghost use Rattle.giop_decode.specs.DecoderState.{Fits, GoesOn, IsDone, KeepsVersion, Reads, TakesRun};
+ghost use Rattle.giop_decode.specs.Runs.{IsContent, IsHeldOf, IsParted, TakesSome, WritesRun, TakenTogether, TakesRun as TakesRunSeen};
+ghost use Rattle.giop_decode.specs.SeenState.{Fits as FitsSeen, Reads as ReadsSeen};
 ghost use Rattle.giop_decode.specs.Transitions.{HaveOctetsLeft, coding_by, ticked_by};
 ghost use Rattle.giop_print.specs.declared.path.Root.{Root as PathRoot};
 ghost use Rattle.giop_sig.specs.Types.{Ty};
@@ -20,7 +21,7 @@ use crate::lookahead::{
 use crate::progress::{Kind, Progress};
 use giop_cdr::Order;
 use giop_print::{Out, OutFault};
-use giop_sig::{Catalogue, Shape, TypeId};
+use giop_sig::{Catalogue, SeenCatalogue, Shape, TypeId};
 
 impl Decoder {
     /// Takes octets of the value, and writes their lines: all of them, or as many as there are up to one that ends an
@@ -47,6 +48,34 @@ impl Decoder {
         ensures some { IfOk result (λ taken. 0 < length octets.now → 0 < taken.0) }
         ensures all { IfOk result (λ taken. taken.1 ≡ Progress.More → taken.0 ≡ length octets.now) }
         ensures fits { IfOk result (λ taken. GoesOn taken.1 → Fits catalogue.now self.new) }
+        ensures version { IfOk result (λ taken. GoesOn taken.1 → KeepsVersion self.old self.new) }
+        ensures done { IfOk result (λ taken. taken.1 ≡ Progress.Done → IsDone self.new) }
+    {
+        self.take_octets(&catalogue.seen(self.narrow), octets, out)
+    }
+
+    /// The same, by the catalogue as the version of the value sees it.
+    #[inline(always)]
+    fn take_octets<O: Out>(
+        &mut self,
+        catalogue: &SeenCatalogue<'_>,
+        octets: &[u8],
+        out: &mut O,
+    ) -> Result<(usize, Progress), OutFault>
+        requires { FitsSeen catalogue.now self.old }
+        ensures writes { (T : Ty) (order : ByteOrder) (at message : ℕ) (root : PathRoot)
+            (s : List ℕ) →
+            ReadsSeen catalogue.now T order at message root self.old s →
+            WritesRun result T order at message root s octets.now (O.log out.old) (O.log out.new) }
+        ensures takes { IfOk result (λ taken. (T : Ty) (order : ByteOrder) (at message : ℕ)
+            (root : PathRoot) (s : List ℕ) →
+            ReadsSeen catalogue.now T order at message root self.old s →
+            TakesRunSeen catalogue.now T order at message root self.new s
+            (take taken.0 octets.now) taken.1) }
+        ensures within { IfOk result (λ taken. taken.0 ≤ length octets.now) }
+        ensures some { IfOk result (λ taken. 0 < length octets.now → 0 < taken.0) }
+        ensures all { IfOk result (λ taken. taken.1 ≡ Progress.More → taken.0 ≡ length octets.now) }
+        ensures fits { IfOk result (λ taken. GoesOn taken.1 → FitsSeen catalogue.now self.new) }
         ensures done { IfOk result (λ taken. taken.1 ≡ Progress.Done → IsDone self.new) }
     {
         let mut taken: usize = 0;
@@ -67,11 +96,11 @@ impl Decoder {
     #[inline(always)]
     fn take_some<O: Out>(
         &mut self,
-        catalogue: &Catalogue,
+        catalogue: &SeenCatalogue<'_>,
         octets: &[u8],
         out: &mut O,
     ) -> Result<(usize, Progress), OutFault>
-        requires fits { Fits catalogue.now self.old }
+        requires fits { FitsSeen catalogue.now self.old }
         requires some { 0 < length octets.now }
         ensures { TakesSome catalogue.now self.old self.new octets.now
             (O.log out.old) (O.log out.new) result }
@@ -104,13 +133,13 @@ impl Decoder {
     #[inline(always)]
     fn take_opening<O: Out>(
         &mut self,
-        catalogue: &Catalogue,
+        catalogue: &SeenCatalogue<'_>,
         of: TypeId,
         count: u32,
         octets: &[u8],
         out: &mut O,
     ) -> Result<(usize, Progress), OutFault>
-        requires fits { Fits catalogue.now self.old }
+        requires fits { FitsSeen catalogue.now self.old }
         requires leaf { self.old.leaf ≡ Some (Leaf.Opening of count) }
         requires ahead { HaveOctetsLeft (ticked_by (length octets.now - 1) self.old.outer.items) }
         requires some { 0 < length octets.now }
@@ -126,11 +155,11 @@ impl Decoder {
     #[inline(never)]
     pub(crate) fn take_one<O: Out>(
         &mut self,
-        catalogue: &Catalogue,
+        catalogue: &SeenCatalogue<'_>,
         octets: &[u8],
         out: &mut O,
     ) -> Result<(usize, Progress), OutFault>
-        requires fits { Fits catalogue.now self.old }
+        requires fits { FitsSeen catalogue.now self.old }
         requires some { 0 < length octets.now }
         ensures { TakesSome catalogue.now self.old self.new octets.now
             (O.log out.old) (O.log out.new) result }
@@ -145,12 +174,12 @@ impl Decoder {
     #[inline(always)]
     fn take_unit<O: Out>(
         &mut self,
-        catalogue: &Catalogue,
+        catalogue: &SeenCatalogue<'_>,
         coded: (Order, u8),
         octets: &[u8],
         out: &mut O,
     ) -> Result<(usize, Progress), OutFault>
-        requires fits { Fits catalogue.now self.old }
+        requires fits { FitsSeen catalogue.now self.old }
         requires coded { coding_by self.old.order self.old.at self.old.outer.items ≡ coded }
         requires ahead { HaveOctetsLeft (ticked_by (length octets.now - 1) self.old.outer.items) }
         requires some { 0 < length octets.now }
@@ -172,13 +201,13 @@ impl Decoder {
     #[inline(always)]
     fn take_number<O: Out>(
         &mut self,
-        catalogue: &Catalogue,
+        catalogue: &SeenCatalogue<'_>,
         coded: (Order, u8),
         of: TypeId,
         octets: &[u8],
         out: &mut O,
     ) -> Result<(usize, Progress), OutFault>
-        requires fits { Fits catalogue.now self.old }
+        requires fits { FitsSeen catalogue.now self.old }
         requires leaf { self.old.leaf ≡ Some (Leaf.Number of) }
         requires coded { coding_by self.old.order self.old.at self.old.outer.items ≡ coded }
         requires small { coded.1 < 8 }
@@ -235,12 +264,12 @@ impl Decoder {
     #[inline(always)]
     fn take_content<O: Out>(
         &mut self,
-        catalogue: &Catalogue,
+        catalogue: &SeenCatalogue<'_>,
         leaf: Leaf,
         octets: &[u8],
         out: &mut O,
     ) -> Result<(usize, Progress), OutFault>
-        requires fits { Fits catalogue.now self.old }
+        requires fits { FitsSeen catalogue.now self.old }
         requires leaf { self.old.leaf ≡ Some leaf }
         requires content { IsContent leaf }
         requires ahead { HaveOctetsLeft (ticked_by (length octets.now - 1) self.old.outer.items) }
@@ -287,13 +316,13 @@ impl Decoder {
     #[inline(never)]
     fn take_parted_number<O: Out>(
         &mut self,
-        catalogue: &Catalogue,
+        catalogue: &SeenCatalogue<'_>,
         coded: (Order, u8),
         of: TypeId,
         octets: &[u8],
         out: &mut O,
     ) -> Result<(usize, Progress), OutFault>
-        requires fits { Fits catalogue.now self.old }
+        requires fits { FitsSeen catalogue.now self.old }
         requires leaf { self.old.leaf ≡ Some (Leaf.Number of) }
         requires coded { coding_by self.old.order self.old.at self.old.outer.items ≡ coded }
         requires ahead { HaveOctetsLeft (ticked_by (length octets.now - 1) self.old.outer.items) }
@@ -322,12 +351,12 @@ impl Decoder {
     #[inline(never)]
     fn take_parted_piece<O: Out>(
         &mut self,
-        catalogue: &Catalogue,
+        catalogue: &SeenCatalogue<'_>,
         leaf: Leaf,
         octets: &[u8],
         out: &mut O,
     ) -> Result<(usize, Progress), OutFault>
-        requires fits { Fits catalogue.now self.old }
+        requires fits { FitsSeen catalogue.now self.old }
         requires leaf { self.old.leaf ≡ Some leaf }
         requires ahead { HaveOctetsLeft (ticked_by (length octets.now - 1) self.old.outer.items) }
         requires some { 0 < length octets.now }
@@ -346,12 +375,12 @@ impl Decoder {
     #[inline(always)]
     fn take_ahead<O: Out>(
         &mut self,
-        catalogue: &Catalogue,
+        catalogue: &SeenCatalogue<'_>,
         octets: &[u8],
         ahead: Lookahead<'_>,
         out: &mut O,
     ) -> Result<(usize, Progress), OutFault>
-        requires fits { Fits catalogue.now self.old }
+        requires fits { FitsSeen catalogue.now self.old }
         requires ahead { TakenTogether catalogue.now self.old octets.now ahead.of ahead.count
             ahead.step ahead.rest.now self.old.carry self.old.piece.items }
         ensures { TakesSome catalogue.now self.old self.new octets.now
@@ -364,7 +393,7 @@ impl Decoder {
     #[inline(always)]
     fn finish<O: Out>(
         &mut self,
-        catalogue: &Catalogue,
+        catalogue: &SeenCatalogue<'_>,
         octets: &[u8],
         ahead: Lookahead<'_>,
         out: &mut O,

@@ -4,7 +4,7 @@ ghost use Rattle.std.specs.Prelude.{◌≡◌, ◌+◌, ◌*◌, ◌<◌, ◌≤
 ghost use Rattle.std.specs.List.{AllByRecursion};
 ghost use Rattle.arrayvec.specs.ArrayVec.{array_vec_len};
 ghost use Rattle.giop_decode.specs.DecoderState.{Fits};
-ghost use Rattle.giop_decode.specs.Stored.{order_octet, root_octet, leaf_octets, buffer_octet, last_octets, expects_octet, kept_name, notes_octets, fixed_octets, frame_size, inside_octet, told_octet, frame_octets, frames_octets, own_frame, FrameHasRange, LeafHasRange, LastHasRange, NotesHaveRange, HasRange, Stored};
+ghost use Rattle.giop_decode.specs.Stored.{narrow_octet, order_octet, root_octet, leaf_octets, buffer_octet, last_octets, expects_octet, kept_name, notes_octets, fixed_octets, frame_size, inside_octet, told_octet, frame_octets, frames_octets, own_frame, FrameHasRange, LeafHasRange, LastHasRange, NotesHaveRange, HasRange, Stored};
 ghost use Rattle.giop_sig.specs.Table.{Table};
 ghost use Rattle.giop_sig.specs.Trees.{catalogue_depth};
 ghost use Rattle.giop_sig.specs.HeaderTypes.{IsTable};
@@ -66,7 +66,7 @@ impl Decoder {
         put_held(out, self.carry.as_slice(), 8);
         put_held(out, self.piece.as_slice(), 32);
         put_notes(out, &self.notes);
-        out.push(0);
+        out.push(narrow_octet(self.narrow));
     }
 }
 
@@ -78,6 +78,13 @@ fn order_octet(order: Order) -> u8
         Order::Big => 0,
         Order::Little => 1,
     }
+}
+
+/// The octet of whether there is no room for wide text.
+fn narrow_octet(narrow: bool) -> u8
+    ensures { result ≡ narrow_octet narrow }
+{
+    if narrow { 1 } else { 0 }
 }
 
 /// The octet of a root.

@@ -50,26 +50,32 @@ static ROWS: [(u8, &str, &str); 8] = [
     ),
 ];
 
-/// The decoder that is restored of what is stored of this one.
-fn again(catalogue: &Catalogue, decoder: &Decoder) -> Option<Decoder>
+/// The decoder that is restored of what is stored of this one, of a message of this minor version; none of one with more
+/// or less room for wide text is.
+pub fn again(catalogue: &Catalogue, decoder: &Decoder, minor: u8) -> Option<Decoder>
     ensures { IfSome result (λ d. Fits catalogue.now d) }
 {
     let mut fixed = [0; 208];
     let mut frames = [0; 576];
     let count = usize::from(decoder.store(&mut fixed, &mut frames));
-    Decoder::restore(catalogue, &fixed, frames.get(..24 * count)?)
+    let frames = frames.get(..24 * count)?;
+    let other = if minor < 2 { 2 } else { 1 };
+    if Decoder::restore(catalogue, &fixed, frames, other).is_some() {
+        return None;
+    }
+    Decoder::restore(catalogue, &fixed, frames, minor)
 }
 
 /// The interface of the object key in a Request's header of this minor version that begins with these octets.
 fn interface_of<'a>(catalogue: &'a Catalogue, minor: u8, octets: &[u8]) -> Option<&'a [u8]> {
     let of = catalogue.header(minor, 0)?;
-    let mut decoder = Decoder::start(catalogue, of, Order::Big, 12, 1, Root::Header);
-    decoder = again(catalogue, &decoder)?;
+    let mut decoder = Decoder::start(catalogue, of, Order::Big, 12, 1, Root::Header, minor);
+    decoder = again(catalogue, &decoder, minor)?;
     let mut room = [0; 1024];
     let mut sheet = Sheet::new(&mut room);
     for octet in octets {
         match decoder.take(catalogue, *octet, &mut sheet) {
-            Ok(Progress::More) => decoder = again(catalogue, &decoder)?,
+            Ok(Progress::More) => decoder = again(catalogue, &decoder, minor)?,
             _ => return None,
         }
     }

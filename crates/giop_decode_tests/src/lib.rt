@@ -11,3 +11,5 @@ mod stored_tests;
 mod tests;
 #[cfg(test)]
 mod tracing;
+#[cfg(test)]
+mod wide_tests;

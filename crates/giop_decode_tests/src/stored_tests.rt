@@ -60,7 +60,7 @@ struct Stored<'a> {
 }
 
 /// The struct of an operation's parameters.
-fn parameters_of(catalogue: &Catalogue, operation: &str) -> Option<TypeId> {
+pub fn parameters_of(catalogue: &Catalogue, operation: &str) -> Option<TypeId> {
     let operation = catalogue.operation(operation.as_bytes())?;
     Some(catalogue.request_of(operation))
 }
@@ -72,7 +72,7 @@ fn taken(catalogue: &Catalogue, of: TypeId, root: Root, octets: &[u8]) -> Option
     if !catalogue.has(of) {
         return None;
     }
-    let mut decoder = Decoder::start(catalogue, of, Order::Big, 48, 1, root);
+    let mut decoder = Decoder::start(catalogue, of, Order::Big, 48, 1, root, 2);
     if decoder.is_done() {
         return None;
     }
@@ -100,7 +100,7 @@ fn restored(catalogue: &Catalogue, stored: &[u8]) -> Option<Decoder>
     ensures { IfSome result (λ d. Fits catalogue.now d) }
 {
     let (fixed, frames) = stored.split_first_chunk::<208>()?;
-    Decoder::restore(catalogue, fixed, frames)
+    Decoder::restore(catalogue, fixed, frames, 2)
 }
 
 /// What differs of a decoder that is stored and restored, or nothing.

@@ -12,7 +12,7 @@ pub fn differs(catalogue: &Catalogue, row: &Row) -> &'static str {
     if !catalogue.has(row.of) {
         return "the type";
     }
-    let mut decoder = Decoder::start(catalogue, row.of, row.order, row.offset, 1, row.root);
+    let mut decoder = Decoder::start(catalogue, row.of, row.order, row.offset, 1, row.root, 2);
     if decoder.is_done() || !tells(&decoder, "0 more - - -") {
         return "before any octet";
     }

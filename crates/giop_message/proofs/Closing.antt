@@ -5,8 +5,9 @@ use Rattle.std.proofs.lemmas.Bool.{false≢true, ne_eqb}
 use Rattle.giop_print.specs.Lines.{fault_line, end_line, rest_line}
 use Rattle.giop_sig.specs.declared.types.Shape.{Shape}
 use Rattle.giop_sig.specs.declared.types.Shape.TheVariants as shapes
-use Rattle.giop_sig.specs.Types.{Cases, Ty, Plain, Single, Struct, Union, shape_in}
-use Rattle.giop_sig.specs.Table.{Table}
+use Rattle.giop_sig.specs.Types.{Cases, Ty, Plain, Single, Struct, Union, Octets, Raw, WideText, WideChar, shape_in}
+use Rattle.giop_sig.specs.Table.{Table, in_version}
+use Rattle.giop_message.specs.Headers.{minor}
 use Rattle.giop_decode.specs.ReadResult.{Line, OpenPart, Leaf, Short}
 use Rattle.giop_decode.specs.Noted.{Noted}
 use Rattle.giop_message.specs.declared.message.Message.{Message as Struct_of}
@@ -43,6 +44,9 @@ lacks_members (Struct zero names parts) count e = search (arith, members_of)
 lacks_members (Struct (suc n) names parts) count e = search (arith, ne_eqb, suc_none, members_of)
 lacks_members (Single (Plain p)) count e = absurd cc
 lacks_members (Union (Cases n) scalar select names cases) count e = absurd cc
+lacks_members (Octets (Raw bound)) count e = absurd cc
+lacks_members (Octets WideText) count e = absurd cc
+lacks_members (Octets WideChar) count e = absurd cc
 lacks_members T count e = absurd cc
 
 pub lacks_none : (T : Ty) → ((count : ℕ) → shape_in T ≡ shapes.Members count → ⊥) →
@@ -71,7 +75,7 @@ module _ {C : Table} {answers : Answers} {number : ℕ} {header : List ℕ} {m :
   section_short {section} is = search (arith, stage_front, short_stage)
 
   pub padding_stage : {body_type_id : BodyTypeId} → m.part ≡ parts.Padding body_type_id →
-      At ≡ In_padding (body_type C body_type_id)
+      At ≡ In_padding (body_type (in_version (minor header) C) body_type_id)
   unfolding stage_of
   padding_stage is = search (arith)
 

@@ -6,7 +6,7 @@ use Rattle.std.proofs.lemmas.Bool.{false≢true}
 use Rattle.giop_cdr.specs.declared.prim.Primitive.TheVariants as prims
 use Rattle.giop_print.specs.declared.path.Root.TheVariants as roots
 use Rattle.giop_sig.specs.Types.{Octets, Plain, Text}
-use Rattle.giop_sig.specs.Table.{Table}
+use Rattle.giop_sig.specs.Table.{Table, seen}
 use Rattle.giop_decode.specs.declared.decoder.Decoder.{Decoder}
 use Rattle.giop_decode.specs.declared.leaf.Leaf.{Leaf as Innermost}
 use Rattle.giop_decode.specs.ReadResult.{plain, PathSegment, Value, Number, Piece, Line, Read, Done, lines_of}
@@ -66,7 +66,7 @@ section_over {C} {S} {number} {header} {s} {section} {d} e =
     ap (λ m. is_over (stage_of m)) e.is ∙ (ap is_over
     (stage_front e.before (section_and_rest S header section nothing_noted r))
     ∙ (ap (λ r. is_over (stage_of (section_and_rest S header section nothing_noted r))) e.reads.is
-    ∙ standing_over S header section C d e.reads.lines _ d.leaf))
+    ∙ standing_over S header section (seen d.narrow C) d e.reads.lines _ d.leaf))
 
 pub follows_goes : {C : Table} {answers : Answers} {number : ℕ} {header : List ℕ} {m : Struct_of}
     {s : List ℕ} → Follows C answers number header m s →
@@ -212,7 +212,8 @@ module _ {C : Table} {S : Signatures} {number : ℕ} {header s : List ℕ} {sect
   unfolding first_id
   id_noted in_it =
       let lines : lines_of noted_reading ≡ e.reads.lines =
-      ap lines_of e.reads.is ∙ lines_standing S header section C d e.reads.lines _ d.leaf in
+      ap lines_of e.reads.is
+      ∙ lines_standing S header section (seen d.narrow C) d e.reads.lines _ d.leaf in
       let emitted = subst (λ x. message_lines (message S header s)
       ≡ section_lines (root_of x) (calling S header x) nothing_noted e.reads.lines) in_it
       (header_told in_it) in

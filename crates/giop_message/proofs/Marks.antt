@@ -15,7 +15,7 @@ use Rattle.giop_decode.specs.Noted.{Noted, nothing_noted, noted, is_header_root}
 use Rattle.giop_decode.proofs.ReadingLaws.{reading_quiet, root_now}
 use Rattle.giop_message.specs.declared.part.Section.{Section}
 use Rattle.giop_message.specs.declared.part.Section.TheVariants as sections
-use Rattle.giop_message.specs.Headers.{order}
+use Rattle.giop_message.specs.Headers.{minor, order}
 use Rattle.giop_message.specs.Signatures.{Signatures, Answer, signatures_of}
 use Rattle.giop_message.specs.Messages.{no_calls, Mark, HeaderMark, NameMark, RestLine, line_at, Said, only_lines, nothing_said, BodyType, Untyped, Typed, UserException, SystemException, Stage, In_typed, In_padding, In_rest, Over, Message, ReadTo, with_front, name_mark, end_mark, section_then, rest_in, rest, typed, option_typed, after_exception, type_if, request_body, result_body, reply_body, locate_body, body, body_of, padded, after_header, of_header, message, message_marks, stage_of, root_of, after, section_and_rest}
 use Rattle.giop_message.specs.StageSteps.{rest_step, message_step, advance, goes_on}
@@ -99,16 +99,16 @@ module _ (header : List ℕ) where
   type_raises S (Some T) at s = refl
 
   request_raises : (S : Signatures) (key name : Option (List ℕ)) (at : ℕ) (s : List ℕ) →
-      Raising S (request_body S key name) at s ≡ []
+      Raising S (request_body S header key name) at s ≡ []
   unfolding request_body
   request_raises S key None at s = refl
-  request_raises S key (Some name) at s = type_raises S (S.request name key) at s
+  request_raises S key (Some name) at s = type_raises S (S.request (minor header) name key) at s
 
   result_raises : (S : Signatures) (id : Option ℕ) (at : ℕ) (s : List ℕ) →
-      Raising S (result_body S id) at s ≡ []
+      Raising S (result_body S header id) at s ≡ []
   unfolding result_body
   result_raises S None at s = refl
-  result_raises S (Some id) at s = type_raises S (S.reply id) at s
+  result_raises S (Some id) at s = type_raises S (S.reply (minor header) id) at s
 
   locate_raises : (S : Signatures) (status : Option ℕ) (at : ℕ) (s : List ℕ) →
       Raising S (locate_body S status) at s ≡ []
@@ -126,7 +126,8 @@ module _ (header : List ℕ) where
     Sy = signatures_of D y
 
     reply_same : (id status : Option ℕ) (at : ℕ) (s : List ℕ) →
-        Raising Sx (reply_body Sx id status) at s ≡ Raising Sy (reply_body Sy id status) at s
+        Raising Sx (reply_body Sx header id status) at s
+        ≡ Raising Sy (reply_body Sy header id status) at s
     unfolding reply_body signatures_of
     reply_same id None at s = refl
     reply_same id (Some status) at s = search (arith, result_raises)

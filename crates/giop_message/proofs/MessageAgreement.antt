@@ -30,11 +30,11 @@ header_read C x number header s d e =
     ap noted_in (marks_are C x header s ∙ (ap message_marks e.is ∙ (marks_front e.before m
     ∙ ap (λ (said : Said). said.marks ++ message_marks m) e.first.1)))
 
-members_agree : (C : Table) (x y : Answer) (name : Option (List ℕ)) →
-    members_of (signatures_of C x) name ≡ members_of (signatures_of C y) name
+members_agree : (C : Table) (x y : Answer) (header : List ℕ) (name : Option (List ℕ)) →
+    members_of (signatures_of C x) header name ≡ members_of (signatures_of C y) header name
 unfolding signatures_of members_of
-members_agree C x y None = refl
-members_agree C x y (Some name) = refl
+members_agree C x y header None = refl
+members_agree C x y header (Some name) = refl
 
 through_exception : (C : Table) (x y : Answer) (header : List ℕ) (r : Read) →
     section_and_rest (signatures_of C x) header sections.Exception nothing_noted r

@@ -4,7 +4,8 @@ use Rattle.std.proofs.lemmas.List.{length-take-le}
 use Rattle.std.proofs.lemmas.Bool.{lt-ltb, le-ltb}
 use Rattle.giop_cdr.specs.Alignment.{padding}
 use Rattle.giop_print.specs.Lines.{rest_line}
-use Rattle.giop_sig.specs.Table.{Table}
+use Rattle.giop_sig.specs.Table.{Table, in_version}
+use Rattle.giop_message.specs.Headers.{minor}
 use Rattle.giop_decode.proofs.ReadingLaws.{length_one_more}
 use Rattle.giop_message.specs.declared.message.Message.{Message as Struct_of}
 use Rattle.giop_message.specs.declared.part.Part.TheVariants as parts
@@ -74,7 +75,7 @@ module _ {C : Table} {answers : Answers} {number : ℕ} {header : List ℕ} {m :
     S = signatures_of C (answers number)
 
     abbrev T : BodyType
-    T = body_type C body_type_id
+    T = body_type (in_version (minor header) C) body_type_id
 
     abbrev Here : ℕ
     Here = 12 + length s

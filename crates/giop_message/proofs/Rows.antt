@@ -60,6 +60,7 @@ table = record {
   interfaces = no_interfaces;
   identities = [];
   fronts = first_fronts;
+  narrow = false;
 }
 
 -- 1 ask, 1 ask, 2 nop, 2 ask

@@ -11,7 +11,7 @@ use Rattle.giop_print.specs.Output.{OutLog, Wrote, WroteFront, Writes}
 use Rattle.giop_print.specs.declared.path.Root.{Root}
 use Rattle.giop_print.specs.declared.path.Root.TheVariants as roots
 use Rattle.giop_sig.specs.Types.{Ty}
-use Rattle.giop_sig.specs.Table.{Table}
+use Rattle.giop_sig.specs.Table.{Table, seen, in_version}
 use Rattle.giop_decode.specs.declared.decoder.Decoder.{Decoder}
 use Rattle.giop_decode.specs.declared.progress.Kind.{Kind}
 use Rattle.giop_decode.specs.declared.progress.Progress.{Progress}
@@ -19,20 +19,20 @@ use Rattle.giop_decode.specs.declared.progress.Progress.TheVariants as progress
 use Rattle.giop_decode.specs.ReadResult.{Read, Done, Short, Fault}
 use Rattle.giop_decode.specs.Noted.{nothing_noted, noted_of, is_header_root}
 use Rattle.giop_decode.specs.DecoderState as decoders
-use Rattle.giop_decode.specs.Runs.{AreAnswered, TakesRun, BreaksOff}
+use Rattle.giop_decode.specs.Runs.{AreAnswered, BreaksOff}
 use Rattle.giop_message.specs.declared.message.Message.{Message as Struct_of}
 use Rattle.giop_message.specs.declared.part.Section.{Section}
 use Rattle.giop_message.specs.declared.part.Part.TheVariants as parts
 use Rattle.giop_message.specs.declared.part.Section.TheVariants as sections
 use Rattle.giop_message.specs.declared.part.Rest.{Rest}
 use Rattle.giop_message.specs.declared.body_type.BodyTypeId.{BodyTypeId}
-use Rattle.giop_message.specs.Headers.{kind, order}
+use Rattle.giop_message.specs.Headers.{minor, kind, order}
 use Rattle.giop_message.specs.Signatures.{Signatures, Answer, Answers, signatures_of}
 use Rattle.giop_message.specs.Messages.{Mark, name_mark, end_mark, message_marks, section_then, message, message_lines, root_of, after}
 use Rattle.giop_message.specs.HeaderEnds.{HeaderEnd, CallEvent, Header_end, end_of, header_ends, operation_of, raise_event, after_event, after_ends, AgreesAtEnds}
 use Rattle.giop_message.specs.ReaderOfTable.{first_request_id}
 use Rattle.giop_message.specs.Text.{fault_word}
-use Rattle.giop_message.specs.MessageState.{due_text, body_type, Decodes, Stands, FitsPart, Fits, is_header, in_header, Follows, FaultedAt}
+use Rattle.giop_message.specs.MessageState.{due_text, body_type, Decodes, Stands, FitsVersion, FitsPart, Fits, is_header, in_header, Follows, FaultedAt}
 use Rattle.giop_message.specs.StageSteps.{goes_on}
 use Rattle.giop_message.specs.MessageSteps.{request_call, section_event, Arrives}
 use Rattle.giop_message.specs.DueOctets.{TakesFront}
@@ -67,13 +67,13 @@ pub record Standing : Type 0 where
   pub follows : Follows C answers number header m s
   pub section : Section
   pub is : m.part ≡ parts.Typed section
-  pub fits : decoders.Fits C m.decoder
+  pub fits : FitsVersion C (minor m.header) m.decoder
 
 abbrev pub standing : {C : Table} {answers : Answers} {number : ℕ} {header : List ℕ} {m : Struct_of}
     {s : List ℕ} {section : Section} → Follows C answers number header m s →
     m.part ≡ parts.Typed section → Fits C m → Standing
 standing {C} {m = m} f is fits =
-    let e = subst (FitsPart C m.at m.decoder) is fits in
+    let e = subst (FitsPart C (minor m.header) m.at m.decoder) is fits in
     record {
       C = C;
       answers = _;
@@ -114,8 +114,9 @@ module _ (t : Standing) where
 
   inside : Inside begun s octets_of
   inside =
-      let goes_on = ap (λ leaf. decoders.read_by_leaf C m.decoder leaf opened.reads.lines
-      (start begun + length octets_of)) t.fits.goes_on in
+      let goes_on = ap (λ leaf. decoders.read_by_leaf (seen m.decoder.narrow C) m.decoder leaf
+      opened.reads.lines
+      (start begun + length octets_of)) t.fits.fits.goes_on in
       record {
         since = opened.since;
         is = opened.is;
@@ -177,17 +178,17 @@ module _ (t : Standing) where
   pub record Took (octets : List ℕ) (n : ℕ) (d' : Decoder) (p : Progress) : Type 0 where
     pub within : n ≤ length octets
     pub some : 0 < n
-    pub takes : TakesRun C opened.T (order header) (start begun) number
+    pub takes : decoders.TakesRun C opened.T (order header) (start begun) number
         (root_of section) d' octets_of (take n octets) p
 
   abbrev pub took : {d' : Decoder} {p q : Progress} (octets : List ℕ) (n : ℕ) → n ≤ length octets →
-      0 < n → TakesRun C opened.T (order header) (start begun) number (root_of section) d' octets_of
-      (take n octets) q → q ≡ p → Took octets n d' p
+      0 < n → decoders.TakesRun C opened.T (order header) (start begun) number (root_of section) d'
+      octets_of (take n octets) q → q ≡ p → Took octets n d' p
   took octets n within some takes e = record {
     within = within;
     some = some;
-    takes = subst (TakesRun C opened.T (order header) (start begun) number (root_of section) _
-        octets_of (take n octets)) e takes;
+    takes = subst (decoders.TakesRun C opened.T (order header) (start begun) number
+        (root_of section) _ octets_of (take n octets)) e takes;
   }
 
 -- their text, and their lines
@@ -494,7 +495,8 @@ module _ {C : Table} {answers : Answers} {number : ℕ} {header : List ℕ} {m :
       unmarked C (answers number) number header s (x ∷ [])
       (ap message_marks (comes_more S header s x stands.0 (12 + length s) _ stands.1)
       ∙ (marks_front stands.0 _ ∙ (ap (λ (ms : List Mark). stands.0.marks ++ ms)
-      (padding_step_marks S header (12 + length s) (body_type C body_type_id) x)
+      (padding_step_marks S header (12 + length s)
+      (body_type (in_version (minor header) C) body_type_id) x)
       ∙ (append-nil stands.0.marks ∙ sym (ap message_marks stands.1)))))
 
   pub rest_none : {r : Rest} → m.part ≡ parts.Rest r → (more : List ℕ) →

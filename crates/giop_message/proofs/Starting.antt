@@ -12,7 +12,7 @@ use Rattle.giop_decode.specs.Noted.{Noted, nothing_noted}
 use Rattle.giop_message.specs.declared.part.Section.{Section}
 use Rattle.giop_message.specs.declared.part.Section.TheVariants as sections
 use Rattle.giop_message.specs.Headers.{minor, kind, order}
-use Rattle.giop_sig.specs.Table.{Table}
+use Rattle.giop_sig.specs.Table.{Table, in_version}
 use Rattle.giop_message.specs.Signatures.{Signatures, Answer, request_type, signatures_of}
 use Rattle.giop_message.specs.HeaderEnds.{operation_of}
 use Rattle.giop_message.specs.MessageState.{is_header}
@@ -111,12 +111,12 @@ some_not_empty T e empty = empty
 -- ---- by the message type
 
 pub request_wants : (S : Signatures) (header : List ℕ) (h : Noted) → kind header ≡ 0 →
-    body_of S header h ≡ request_body S h.key h.name
+    body_of S header h ≡ request_body S header h.key h.name
 unfolding body_of is_request
 request_wants S header h e = rw e refl
 
 pub reply_wants : (S : Signatures) (header : List ℕ) (h : Noted) → kind header ≡ 1 →
-    body_of S header h ≡ reply_body S h.request_id h.status
+    body_of S header h ≡ reply_body S header h.request_id h.status
 unfolding body_of is_request
 reply_wants S header h e = rw e refl
 
@@ -132,8 +132,9 @@ others_want S header h f g k = search (arith, ne_eqb)
 
 -- the body of a Request, by the operation that it names
 pub named_body : (C : Table) (answer : Answer) (header : List ℕ) (n : Noted) → kind header ≡ 0 →
-    type_if (option_map (request_type C) (operation_of C header n))
-    ≡ request_body (signatures_of C answer) n.key n.name
+    type_if (option_and_then (request_type (in_version (minor header) C))
+    (operation_of C header n))
+    ≡ request_body (signatures_of C answer) header n.key n.name
 unfolding operation_of signatures_of request_body type_if
 named_body C answer header n request = search (arith, option_map, option_and_then)
 

@@ -12,6 +12,7 @@ use Rattle.giop_message.specs.declared.part.Part.TheVariants as parts
 use Rattle.giop_message.specs.declared.part.Rest.{Rest}
 use Rattle.giop_message.specs.declared.body_type.BodyTypeId.{BodyTypeId}
 use Rattle.giop_message.specs.declared.body_type.BodyTypeId.TheVariants as body_type_ids
+use Rattle.giop_message.specs.Headers.{minor}
 use Rattle.giop_message.specs.Signatures.{Answers}
 use Rattle.giop_message.specs.MessageState.{FitsPart, Fits, in_header, Stands}
 use Rattle.giop_message.specs.Stored.{part_octet, kept_id, own_octets, padding_octets, rest_octets, IsOwnOf, IsPaddingOf, IsRestOf, PartStored, Stored, IsSameRest, GoesOn}
@@ -147,18 +148,20 @@ same_own e m at octet id = rw (octet, at, id) refl
 -- ---- a part that goes on for another
 
 -- the part that is read of the octets goes on for the one that was stored
-pub goes_on : (C : Table) (m : Message) (fixed frames octets : List ℕ) (at octet : ℕ)
+pub goes_on : (C : Table) (m : Message) (fixed frames octets : List ℕ) (at octet version : ℕ)
     (r : Option (Part × Decoder)) → Fits C m → Stored m fixed frames
     → ((n : ℕ) (rest : List ℕ) → n < 2 ^ 64 → drop 1 fixed ≡ eight n ++ rest → at ≡ n)
     → ((n : ℕ) (rest : List ℕ) → drop 0 fixed ≡ n ∷ rest → octet ≡ n) → octets ≡ drop 16 fixed
-    → ((d : Decoder) (p : Part) → FitsPart C at d p → part_octet p ≡ octet
+    → version ≡ minor m.header
+    → ((d : Decoder) (p : Part) → FitsPart C version at d p → part_octet p ≡ octet
     → PartStored d p octets frames → IsSomeAnd r (λ q. GoesOn C d p q.1 q.0))
     → IsSomeAnd r (λ q. GoesOn C m.decoder m.part q.1 q.0)
-goes_on C m fixed frames octets at octet r fits stored at_read octet_read octets_read again =
+goes_on C m fixed frames octets at octet version r fits stored at_read octet_read octets_read same
+    again =
     let fields = own_fields m fixed stored.own in
     let at_is : at ≡ m.at = at_read m.at _ stored.own.at fields.at in
     let octet_is = sym (octet_read _ _ fields.part) in
-    again m.decoder m.part (rw at_is fits) octet_is (rw octets_read stored.part)
+    again m.decoder m.part (rw (at_is, same) fits) octet_is (rw octets_read stored.part)
 
 pub same_place : (C : Table) (d e : Decoder) (p q : Part) → GoesOn C d p e q →
     in_header q ≡ in_header p

@@ -2,7 +2,7 @@
 -- what its calls write (state).
 use Rattle.std.specs.Prelude.{◌≡◌, ℕ, ◌+◌, ◌-◌, ◌<◌, ◌≤◌, Bool, true, false, cond, List, [], ◌∷◌, ◌++◌, length, take, drop, flat_map, Some, None, IfSome}
 use Rattle.giop_sig.specs.Types.{Ty}
-use Rattle.giop_sig.specs.Table.{Table, asked_number}
+use Rattle.giop_sig.specs.Table.{Table, in_version, asked_number}
 use Rattle.giop_sig.specs.Trees.{tree}
 use Rattle.giop_sig.specs.HeaderTypes.{header_type}
 use Rattle.giop_sig.specs.RequestList.{Entry, IsOf}
@@ -87,16 +87,21 @@ IsKnown C (body_type_ids.Type of) = of.0 < length C.types
 IsKnown C body_type_ids.Exception = Unit {0}
 IsKnown C body_type_ids.SystemException = Unit {0}
 
--- the part, which this decoder reads if it is a section, fits a message that has taken so many
--- octets
-abbrev pub FitsPart : Table → ℕ → Decoder → Part → Type 0
-FitsPart C at d (parts.Typed section) = decoder.Fits C d
-FitsPart C at d (parts.Padding body_type_id) = IsKnown C body_type_id
-FitsPart C at d (parts.Rest r) = r.offset + length r.held.items ≤ at
+-- a decoder that fits the table, and reads as messages of this minor version are read
+pub record FitsVersion (C : Table) (minor : ℕ) (d : Decoder) : Type 0 where
+  pub fits : decoder.Fits C d
+  pub version : decoder.IsOfVersion minor C d
+
+-- the part, which this decoder reads if it is a section, fits a message of this minor version that
+-- has taken this number of octets
+abbrev pub FitsPart : Table → ℕ → ℕ → Decoder → Part → Type 0
+FitsPart C minor at d (parts.Typed section) = FitsVersion C minor d
+FitsPart C minor at d (parts.Padding body_type_id) = IsKnown C body_type_id
+FitsPart C minor at d (parts.Rest r) = r.offset + length r.held.items ≤ at
 
 -- a message that isn't faulted, and whose types are those of the table
 abbrev pub Fits : Table → Message → Type 0
-Fits C m = FitsPart C m.at m.decoder m.part
+Fits C m = FitsPart C (minor m.header) m.at m.decoder m.part
 
 -- how many of its octets a message has taken, its header's 12 included
 abbrev pub reach : Message → ℕ
@@ -136,7 +141,8 @@ Stands C answers number header s d (parts.Typed section) =
     Decodes C (signatures_of C (answers number)) number header s section d
 Stands C answers number header s d (parts.Padding body_type_id) =
     (said : Said) × (message (signatures_of C (answers number)) header s
-    ≡ ReadTo said (12 + length s) (In_padding (body_type C body_type_id)))
+    ≡ ReadTo said (12 + length s)
+    (In_padding (body_type (in_version (minor header) C) body_type_id)))
 Stands C answers number header s d (parts.Rest r) =
     (said : Said) × (message (signatures_of C (answers number)) header s
     ≡ ReadTo said (12 + length s) (In_rest r.offset r.held.items))

@@ -49,7 +49,7 @@ request_call S number header h =
 -- the type of what follows a section, by what is noted of it
 abbrev pub body_type_after : Signatures → List ℕ → Section → Noted → BodyType
 body_type_after S header sections.Header h = body_of S header h
-body_type_after S header sections.Exception h = type_if (members_of S h.name)
+body_type_after S header sections.Exception h = type_if (members_of S header h.name)
 body_type_after S header sections.SystemException h = Untyped
 body_type_after S header sections.Body h = Untyped
 

@@ -186,13 +186,13 @@ unfoldable pub option_typed : Order → Option Ty → ℕ → List ℕ → Messa
 option_typed o None at s = rest at s
 option_typed o (Some T) at s = typed o T at s
 
-unfoldable pub members_of : Signatures → Option (List ℕ) → Option Ty
-members_of S None = None
-members_of S (Some repository) = S.members repository
+unfoldable pub members_of : Signatures → List ℕ → Option (List ℕ) → Option Ty
+members_of S header None = None
+members_of S header (Some repository) = S.members (minor header) repository
 
 -- the members of the exception whose repository id came
 unfoldable pub after_exception : Signatures → List ℕ → Noted → ℕ → List ℕ → Message
-after_exception S header h = option_typed (order header) (members_of S h.name)
+after_exception S header h = option_typed (order header) (members_of S header h.name)
 
 unfoldable pub body : Signatures → List ℕ → BodyType → ℕ → List ℕ → Message
 body S header Untyped at s = rest at s
@@ -209,20 +209,20 @@ type_if None = Untyped
 type_if (Some T) = Typed T
 
 -- of a Request, by its operation, which is the last string of its header, and by its object key
-unfoldable pub request_body : Signatures → Option (List ℕ) → Option (List ℕ) → BodyType
-request_body S key None = Untyped
-request_body S key (Some name) = type_if (S.request name key)
+unfoldable pub request_body : Signatures → List ℕ → Option (List ℕ) → Option (List ℕ) → BodyType
+request_body S header key None = Untyped
+request_body S header key (Some name) = type_if (S.request (minor header) name key)
 
-unfoldable pub result_body : Signatures → Option ℕ → BodyType
-result_body S None = Untyped
-result_body S (Some id) = type_if (S.reply id)
+unfoldable pub result_body : Signatures → List ℕ → Option ℕ → BodyType
+result_body S header None = Untyped
+result_body S header (Some id) = type_if (S.reply (minor header) id)
 
 -- of a Reply, by its status: NO_EXCEPTION, USER_EXCEPTION, SYSTEM_EXCEPTION, LOCATION_FORWARD,
 -- LOCATION_FORWARD_PERM, NEEDS_ADDRESSING_MODE
-unfoldable pub reply_body : Signatures → Option ℕ → Option ℕ → BodyType
-reply_body S id None = Untyped
-reply_body S id (Some status) =
-    if status == 0 then result_body S id
+unfoldable pub reply_body : Signatures → List ℕ → Option ℕ → Option ℕ → BodyType
+reply_body S header id None = Untyped
+reply_body S header id (Some status) =
+    if status == 0 then result_body S header id
     else (if status == 1 then UserException
     else (if status == 2 then SystemException
     else (if (status == 3) || (status == 4) then Typed S.forward
@@ -248,8 +248,8 @@ locate_body S (Some status) =
 -- by what is noted of the header; a message of another type has no body
 unfoldable pub body_of : Signatures → List ℕ → Noted → BodyType
 body_of S header h =
-    if is_request header then request_body S h.key h.name
-    else (if kind header == 1 then reply_body S h.request_id h.status
+    if is_request header then request_body S header h.key h.name
+    else (if kind header == 1 then reply_body S header h.request_id h.status
     else (if kind header == 4 then locate_body S h.status
     else Untyped))
 

@@ -1,29 +1,30 @@
 -- The types of a message's parts, by a catalogue and the operations that the ids of replies answer:
 -- those of headers, and those that bodies can have (meaning).
-use Rattle.std.specs.Prelude.{ℕ, Bool, List, Option, nat_le}
-use Rattle.std.specs.Option.{option_map}
+use Rattle.std.specs.Prelude.{ℕ, Bool, ◌&&◌, cond, List, Option, None, Some, nat_le}
+use Rattle.std.specs.Option.{option_map, option_and_then}
 use Rattle.giop_sig.specs.declared.types.OpId.{OpId}
+use Rattle.giop_sig.specs.declared.types.TypeId.{TypeId}
 use Rattle.giop_sig.specs.declared.types.Fixed.TheVariants.{ExceptionId, SystemException, Forward, Addressing}
 use Rattle.giop_sig.specs.Types.{Ty}
 use Rattle.giop_decode.specs.DecoderState.{whose}
-use Rattle.giop_sig.specs.Table.{Table, operation_for, operation_at, exception_in, interface_name}
-use Rattle.giop_sig.specs.Trees.{tree}
+use Rattle.giop_sig.specs.Table.{Table, in_version, operation_for, operation_at, exception_in, interface_name}
+use Rattle.giop_sig.specs.Trees.{tree, wide_in}
 use Rattle.giop_sig.specs.HeaderTypes.{header_type, fixed_type}
 use Rattle.giop_sig.specs.RequestList.{kept_operation}
 
 pub record Signatures : Type 0 where
   -- the type of a header, by the minor version and the message type
   pub header : ℕ → ℕ → Option Ty
-  -- the struct of an operation's parameters, by its name and the object key, and that of its
-  -- results, by the id of the request
-  pub request : List ℕ → Option (List ℕ) → Option Ty
-  pub reply : ℕ → Option Ty
+  -- In a message of a minor version: the struct of an operation's parameters, by its name and the
+  -- object key, and that of its results, by the id of the request.
+  pub request : ℕ → List ℕ → Option (List ℕ) → Option Ty
+  pub reply : ℕ → ℕ → Option Ty
   -- the repository id of the interface of an object key
   pub interface : Option (List ℕ) → Option (List ℕ)
   -- whether a LocateReply has a typed body
   pub has_locate_bodies : Bool
-  -- the struct of an exception's members, by its repository id
-  pub members : List ℕ → Option Ty
+  -- in a message of a minor version, the struct of an exception's members, by its repository id
+  pub members : ℕ → List ℕ → Option Ty
   -- the repository id of an exception, and the bodies of the other replies
   pub exception_id : Ty
   pub system_exception : Ty
@@ -46,11 +47,19 @@ Answers = ℕ → Answer
 abbrev pub by_list : RequestTable → Answers
 by_list request_table number id = kept_operation request_table id
 
-abbrev pub request_type : Table → OpId → Ty
-request_type C o = tree C (operation_at C o.0).request
+-- The type of a body: none if it has wide text in a message of 1.0 or 1.1, in which that has no
+-- form that is sure (CDR Transfer Syntax, Strings and Wide Strings).
+abbrev pub body_tree : Table → ℕ → Option Ty
+body_tree C i = cond (C.narrow && wide_in C.types i) None (Some (tree C i))
 
-abbrev pub reply_type : Table → OpId → Ty
-reply_type C o = tree C (operation_at C o.0).reply
+abbrev pub request_type : Table → OpId → Option Ty
+request_type C o = body_tree C (operation_at C o.0).request
+
+abbrev pub reply_type : Table → OpId → Option Ty
+reply_type C o = body_tree C (operation_at C o.0).reply
+
+abbrev pub members_type : Table → TypeId → Option Ty
+members_type C t = body_tree C t.0
 
 -- the operation of a Request, by its name and the object key
 abbrev pub called_operation : Table → Option (List ℕ) → List ℕ → Option OpId
@@ -63,11 +72,13 @@ interface_of C key = option_map (λ i. interface_name C i.0) (whose C key)
 unfoldable pub signatures_of : Table → Answer → Signatures
 signatures_of C answer = record {
   header = header_type;
-  request = λ name key. option_map (request_type C) (called_operation C key name);
-  reply = λ id. option_map (reply_type C) (answer id);
+  request = λ minor name key.
+      option_and_then (request_type (in_version minor C)) (called_operation C key name);
+  reply = λ minor id. option_and_then (reply_type (in_version minor C)) (answer id);
   interface = interface_of C;
   has_locate_bodies = nat_le 3 C.version;
-  members = λ repository. option_map (λ t. tree C t.0) (exception_in C repository);
+  members = λ minor repository.
+      option_and_then (members_type (in_version minor C)) (exception_in C repository);
   exception_id = fixed_type ExceptionId;
   system_exception = fixed_type SystemException;
   forward = fixed_type Forward;

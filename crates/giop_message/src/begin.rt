@@ -2,15 +2,16 @@
 
 ghost use Rattle.std.specs.Prelude.{◌≡◌, ℕ, ◌+◌, ◌<◌, List, [], length, true, false, cond, nat_lt};
 ghost use Rattle.giop_sig.specs.Trees.{tree};
+ghost use Rattle.giop_sig.specs.HeaderTypes.{fixed_type};
 ghost use Rattle.giop_sig.specs.Fits.{IsEmptyStruct};
 ghost use Rattle.giop_decode.specs.ReadResult.{Read as MessageReader};
 ghost use Rattle.giop_decode.specs.Noted.{noted_of, is_header_root};
 ghost use Rattle.giop_decode.specs.DecoderState.{KeepsNoted};
-ghost use Rattle.giop_message.specs.Headers.{kind};
+ghost use Rattle.giop_message.specs.Headers.{minor, kind};
 ghost use Rattle.giop_message.specs.Messages.{root_of, is_aligned};
 ghost use Rattle.giop_message.specs.MessageState.{is_header};
 ghost use Rattle.giop_message.specs.declared.part.Part.TheVariants as parts;
-ghost use Rattle.giop_sig.specs.Table.{Table};
+ghost use Rattle.giop_sig.specs.Table.{Table, in_version};
 
 use crate::body_type::{BodyTypeId, body_type_after, is_empty};
 use crate::correspondent::Correspondent;
@@ -56,7 +57,7 @@ fn is_aligned(header: &[u8]) -> bool
 /// A decoder for a message that is in no section.
 pub(crate) fn idle(catalogue: &Catalogue) -> Decoder {
     let of = catalogue.fixed(Fixed::ExceptionId);
-    Decoder::start(catalogue, of, Order::Big, 12, 0, Root::Exception)
+    Decoder::start(catalogue, of, Order::Big, 12, 0, Root::Exception, 2)
 }
 
 impl Message {
@@ -79,7 +80,8 @@ impl Message {
         self.header = header;
         self.id = None;
         self.at = 12;
-        match catalogue.header(minor_of(&header), kind_of(&header)) {
+        let minor = minor_of(&header);
+        match catalogue.in_version(minor).header(minor, kind_of(&header)) {
             Some(of) => self.begin(catalogue, Section::Header, of),
             None => self.begin_rest(),
         }
@@ -102,7 +104,8 @@ impl Message {
     /// Begins a section of this type, which has octets.
     fn begin(&mut self, catalogue: &Catalogue, section: Section, of: TypeId)
         requires known { of.0 < length catalogue.now.types }
-        requires some { IsEmptyStruct (tree catalogue.now of.0) → ⊥ }
+        requires some { IsEmptyStruct
+            (tree (in_version (minor self.old.header) catalogue.now) of.0) → ⊥ }
         ensures number { self.new.number ≡ self.old.number }
         ensures header { self.new.header ≡ self.old.header }
         ensures id { self.new.id ≡ self.old.id }
@@ -111,13 +114,30 @@ impl Message {
         ensures fits { Fits catalogue.now self.new }
         ensures enters { (answers : Answers) (number : ℕ) (header s : List ℕ) →
             Enters catalogue.now answers number header self.old self.new s section
-            (tree catalogue.now of.0) }
+            (tree (in_version (minor header) catalogue.now) of.0) }
     {
         let order = order_of(&self.header);
         let root = section.root();
+        let minor = minor_of(&self.header);
         self.decoder
-            .restart(catalogue, of, order, self.at, self.number, root);
+            .restart(catalogue, of, order, self.at, self.number, root, minor);
         self.part = Part::Typed(section);
+    }
+
+    /// Begins a section of a type that no signature file declares.
+    fn begin_fixed(&mut self, catalogue: &Catalogue, section: Section, fixed: Fixed)
+        ensures number { self.new.number ≡ self.old.number }
+        ensures header { self.new.header ≡ self.old.header }
+        ensures id { self.new.id ≡ self.old.id }
+        ensures at { self.new.at ≡ self.old.at }
+        ensures within { in_header self.new.part ≡ is_header section }
+        ensures fits { Fits catalogue.now self.new }
+        ensures enters { (answers : Answers) (number : ℕ) (header s : List ℕ) →
+            Enters catalogue.now answers number header self.old self.new s section
+            (fixed_type fixed) }
+    {
+        let of = catalogue.in_version(minor_of(&self.header)).fixed(fixed);
+        self.begin(catalogue, section, of);
     }
 
     /// Begins a body of this type.
@@ -131,9 +151,9 @@ impl Message {
         ensures fits { Fits catalogue.now self.new }
         ensures arrives { (answers : Answers) (number : ℕ) (header s : List ℕ) →
             Arrives catalogue.now answers number header self.old self.new s (typed (order header)
-            (tree catalogue.now of.0) (12 + length s) []) }
+            (tree (in_version (minor header) catalogue.now) of.0) (12 + length s) []) }
     {
-        if is_empty(catalogue, of) {
+        if is_empty(&catalogue.in_version(minor_of(&self.header)), of) {
             self.begin_rest();
         } else {
             self.begin(catalogue, Section::Body, of);
@@ -152,19 +172,17 @@ impl Message {
         ensures arrives { (answers : Answers) (number : ℕ) (header s : List ℕ) →
             Arrives catalogue.now answers number header self.old self.new s (body
             (signatures_of catalogue.now (answers number)) header
-            (body_type catalogue.now body_type_id)
+            (body_type (in_version (minor header) catalogue.now) body_type_id)
             (12 + length s) []) }
     {
         match body_type_id {
             BodyTypeId::Nothing => self.begin_rest(),
             BodyTypeId::Type(of) => self.begin_typed(catalogue, of),
             BodyTypeId::Exception => {
-                let of = catalogue.fixed(Fixed::ExceptionId);
-                self.begin(catalogue, Section::Exception, of);
+                self.begin_fixed(catalogue, Section::Exception, Fixed::ExceptionId)
             }
             BodyTypeId::SystemException => {
-                let of = catalogue.fixed(Fixed::SystemException);
-                self.begin(catalogue, Section::SystemException, of);
+                self.begin_fixed(catalogue, Section::SystemException, Fixed::SystemException)
             }
         }
     }

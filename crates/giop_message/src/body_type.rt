@@ -1,9 +1,12 @@
 //! Which type a body has (GIOP Message Formats, Request Body, Reply Body).
 
 ghost use Rattle.std.specs.Prelude.{◌≡◌, ◌<◌, length, nat_le, true};
-ghost use Rattle.std.specs.Option.{option_map};
+ghost use Rattle.std.specs.Option.{option_map, option_and_then};
+ghost use Rattle.giop_sig.specs.Table.{in_version};
+ghost use Rattle.giop_sig.specs.HeaderTypes.{fixed_type};
 ghost use Rattle.giop_sig.specs.Trees.{tree};
-ghost use Rattle.giop_message.specs.Signatures.{Answer, request_type, signatures_of};
+ghost use Rattle.giop_message.specs.Headers.{minor};
+ghost use Rattle.giop_message.specs.Signatures.{Answer, body_tree, request_type, signatures_of};
 ghost use Rattle.giop_decode.specs.ReadResult.{Read};
 ghost use Rattle.giop_decode.specs.Noted.{noted_of, is_header_root};
 ghost use Rattle.giop_decode.specs.DecoderState.{KeepsNoted};
@@ -13,11 +16,11 @@ ghost use Rattle.giop_message.specs.HeaderEnds.{IsKnownOperation, operation_of};
 ghost use Rattle.giop_message.specs.MessageSteps.{body_type_after};
 
 use crate::correspondent::Correspondent;
-use crate::header::kind_of;
+use crate::header::{kind_of, minor_of};
 use crate::part::Section;
 use giop_decode::Decoder;
 use giop_print::Root;
-use giop_sig::{Catalogue, Fixed, OpId, Shape, TypeId};
+use giop_sig::{Catalogue, Fixed, OpId, SeenCatalogue, Shape, TypeId};
 
 /// The type of a body: none, this one, that of the exception whose repository id comes first, or that of a system
 /// exception.
@@ -44,14 +47,14 @@ pub fn body_type_after<Q: Correspondent>(
     ensures is { (r : Read) → KeepsNoted catalogue.now (root_of section) decoder.now r →
         (is_header section ≡ true → operation
         ≡ operation_of catalogue.now header.now (noted_of true r)) →
-        body_type catalogue.now result ≡ body_type_after
+        body_type (in_version (minor header.now) catalogue.now) result ≡ body_type_after
         (signatures_of catalogue.now (Q.answer (Q.state correspondent.now)))
         header.now section (noted_of (is_header_root (root_of section)) r) }
     ensures known { IsKnown catalogue.now result }
 {
     match section {
         Section::Header => header_body(catalogue, correspondent, header, decoder, operation),
-        Section::Exception => members_body(catalogue, decoder.name()),
+        Section::Exception => members_body(catalogue, header, decoder.name()),
         Section::SystemException => BodyTypeId::Nothing,
         Section::Body => BodyTypeId::Nothing,
     }
@@ -70,54 +73,59 @@ fn header_body<Q: Correspondent>(
     requires operation { IsKnownOperation catalogue.now operation }
     ensures is { (r : Read) → KeepsNoted catalogue.now Root.Header decoder.now r →
         operation ≡ operation_of catalogue.now header.now (noted_of true r) →
-        body_type catalogue.now result ≡ body_type_after
+        body_type (in_version (minor header.now) catalogue.now) result ≡ body_type_after
         (signatures_of catalogue.now (Q.answer (Q.state correspondent.now)))
         header.now Section.Header (noted_of true r) }
     ensures known { IsKnown catalogue.now result }
 {
     if kind_of(header) == 0 {
-        return request_body(catalogue, operation);
+        return request_body(catalogue, header, operation);
     }
     if kind_of(header) == 1 {
         return reply_body(
             catalogue,
             correspondent,
+            header,
             decoder.request_id(),
             decoder.status(),
         );
     }
     if kind_of(header) == 4 {
-        return locate_body(catalogue, decoder.status());
+        return locate_body(catalogue, header, decoder.status());
     }
     BodyTypeId::Nothing
 }
 
 /// The type of an exception's members, by its repository id.
 #[tactic(auto, unfolding(crate::specs::Messages::members_of, crate::specs::Messages::type_if, crate::specs::Signatures::signatures_of))]
-fn members_body(catalogue: &Catalogue, repository: Option<&[u8]>) -> BodyTypeId
-    ensures is { (answer : Answer) → body_type catalogue.now result ≡ type_if (members_of
-        (signatures_of catalogue.now answer) (option_map (λ x. x.now) repository.entry)) }
+fn members_body(catalogue: &Catalogue, header: &[u8], repository: Option<&[u8]>) -> BodyTypeId
+    requires { length header.now ≡ 12 }
+    ensures is { (answer : Answer) →
+        body_type (in_version (minor header.now) catalogue.now) result ≡ type_if (members_of
+        (signatures_of catalogue.now answer) header.now
+        (option_map (λ x. x.now) repository.entry)) }
     ensures known { IsKnown catalogue.now result }
 {
     let Some(repository) = repository else {
         return BodyTypeId::Nothing;
     };
     match catalogue.exception(repository) {
-        Some(of) => BodyTypeId::Type(of),
+        Some(of) => readable(catalogue, header, of),
         None => BodyTypeId::Nothing,
     }
 }
 
 /// The type of a Request's body, by its operation.
 #[tactic(auto, unfolding(crate::specs::Messages::type_if))]
-fn request_body(catalogue: &Catalogue, operation: Option<OpId>) -> BodyTypeId
-    requires { IsKnownOperation catalogue.now operation }
-    ensures is { body_type catalogue.now result
-        ≡ type_if (option_map (request_type catalogue.now) operation) }
+fn request_body(catalogue: &Catalogue, header: &[u8], operation: Option<OpId>) -> BodyTypeId
+    requires header { length header.now ≡ 12 }
+    requires operation { IsKnownOperation catalogue.now operation }
+    ensures is { body_type (in_version (minor header.now) catalogue.now) result ≡ type_if
+        (option_and_then (request_type (in_version (minor header.now) catalogue.now)) operation) }
     ensures known { IsKnown catalogue.now result }
 {
     match operation {
-        Some(operation) => BodyTypeId::Type(catalogue.request_of(operation)),
+        Some(operation) => readable(catalogue, header, catalogue.request_of(operation)),
         None => BodyTypeId::Nothing,
     }
 }
@@ -127,18 +135,20 @@ fn request_body(catalogue: &Catalogue, operation: Option<OpId>) -> BodyTypeId
 fn result_body<Q: Correspondent>(
     catalogue: &Catalogue,
     correspondent: &Q,
+    header: &[u8],
     id: Option<u32>,
 ) -> BodyTypeId
-    requires { AreKnown catalogue.now (Q.answer (Q.state correspondent.now)) }
-    ensures is { body_type catalogue.now result ≡ result_body
-        (signatures_of catalogue.now (Q.answer (Q.state correspondent.now))) id }
+    requires header { length header.now ≡ 12 }
+    requires of { AreKnown catalogue.now (Q.answer (Q.state correspondent.now)) }
+    ensures is { body_type (in_version (minor header.now) catalogue.now) result ≡ result_body
+        (signatures_of catalogue.now (Q.answer (Q.state correspondent.now))) header.now id }
     ensures known { IsKnown catalogue.now result }
 {
     let Some(id) = id else {
         return BodyTypeId::Nothing;
     };
     match correspondent.operation(id) {
-        Some(operation) => BodyTypeId::Type(catalogue.reply_of(operation)),
+        Some(operation) => readable(catalogue, header, catalogue.reply_of(operation)),
         None => BodyTypeId::Nothing,
     }
 }
@@ -148,23 +158,26 @@ fn result_body<Q: Correspondent>(
 fn reply_body<Q: Correspondent>(
     catalogue: &Catalogue,
     correspondent: &Q,
+    header: &[u8],
     id: Option<u32>,
     status: Option<u32>,
 ) -> BodyTypeId
-    requires { AreKnown catalogue.now (Q.answer (Q.state correspondent.now)) }
-    ensures is { body_type catalogue.now result ≡ reply_body
-        (signatures_of catalogue.now (Q.answer (Q.state correspondent.now))) id status }
+    requires header { length header.now ≡ 12 }
+    requires of { AreKnown catalogue.now (Q.answer (Q.state correspondent.now)) }
+    ensures is { body_type (in_version (minor header.now) catalogue.now) result ≡ reply_body
+        (signatures_of catalogue.now (Q.answer (Q.state correspondent.now)))
+        header.now id status }
     ensures known { IsKnown catalogue.now result }
 {
     let Some(status) = status else {
         return BodyTypeId::Nothing;
     };
     match status {
-        0 => result_body(catalogue, correspondent, id),
+        0 => result_body(catalogue, correspondent, header, id),
         1 => BodyTypeId::Exception,
         2 => BodyTypeId::SystemException,
-        3 | 4 => BodyTypeId::Type(catalogue.fixed(Fixed::Forward)),
-        5 => BodyTypeId::Type(catalogue.fixed(Fixed::Addressing)),
+        3 | 4 => fixed_body(catalogue, header, Fixed::Forward),
+        5 => fixed_body(catalogue, header, Fixed::Addressing),
         _ => BodyTypeId::Nothing,
     }
 }
@@ -178,8 +191,10 @@ fn has_locate_bodies(catalogue: &Catalogue) -> bool
 
 /// The type of a LocateReply's body, by its status.
 #[tactic(auto, unfolding(crate::specs::Messages::locate_body, crate::specs::Signatures::signatures_of))]
-fn locate_body(catalogue: &Catalogue, status: Option<u32>) -> BodyTypeId
-    ensures is { (answer : Answer) → body_type catalogue.now result
+fn locate_body(catalogue: &Catalogue, header: &[u8], status: Option<u32>) -> BodyTypeId
+    requires { length header.now ≡ 12 }
+    ensures is { (answer : Answer) →
+        body_type (in_version (minor header.now) catalogue.now) result
         ≡ locate_body (signatures_of catalogue.now answer) status }
     ensures known { IsKnown catalogue.now result }
 {
@@ -190,15 +205,39 @@ fn locate_body(catalogue: &Catalogue, status: Option<u32>) -> BodyTypeId
         return BodyTypeId::Nothing;
     }
     match status {
-        2 | 3 => BodyTypeId::Type(catalogue.fixed(Fixed::Forward)),
-        4 => BodyTypeId::Type(catalogue.fixed(Fixed::SystemException)),
-        5 => BodyTypeId::Type(catalogue.fixed(Fixed::Addressing)),
+        2 | 3 => fixed_body(catalogue, header, Fixed::Forward),
+        4 => fixed_body(catalogue, header, Fixed::SystemException),
+        5 => fixed_body(catalogue, header, Fixed::Addressing),
         _ => BodyTypeId::Nothing,
     }
 }
 
-/// Whether a message may end where this body would begin.
-pub fn body_may_be_missing(catalogue: &Catalogue, body_type_id: BodyTypeId) -> bool
+/// The body of a type, or none, if it has wide text in a message of 1.0 or 1.1.
+fn readable(catalogue: &Catalogue, header: &[u8], of: TypeId) -> BodyTypeId
+    requires header { length header.now ≡ 12 }
+    requires known { of.0 < length catalogue.now.types }
+    ensures is { body_type (in_version (minor header.now) catalogue.now) result
+        ≡ type_if (body_tree (in_version (minor header.now) catalogue.now) of.0) }
+    ensures known { IsKnown catalogue.now result }
+{
+    if catalogue.is_narrow(minor_of(header)) && catalogue.has_wide_text(of) {
+        return BodyTypeId::Nothing;
+    }
+    BodyTypeId::Type(of)
+}
+
+/// The body of a type that no signature file declares.
+fn fixed_body(catalogue: &Catalogue, header: &[u8], fixed: Fixed) -> BodyTypeId
+    requires { length header.now ≡ 12 }
+    ensures is { body_type (in_version (minor header.now) catalogue.now) result
+        ≡ Typed (fixed_type fixed) }
+    ensures known { IsKnown catalogue.now result }
+{
+    BodyTypeId::Type(catalogue.in_version(minor_of(header)).fixed(fixed))
+}
+
+/// Whether a message may end where this body would begin, by the catalogue in the message's version.
+pub fn body_may_be_missing(catalogue: &SeenCatalogue<'_>, body_type_id: BodyTypeId) -> bool
     requires { IsKnown catalogue.now body_type_id }
     ensures { result ≡ body_may_be_missing (body_type catalogue.now body_type_id) }
 {
@@ -211,7 +250,7 @@ pub fn body_may_be_missing(catalogue: &Catalogue, body_type_id: BodyTypeId) -> b
 }
 
 /// Whether a type is the struct without members.
-pub fn is_empty(catalogue: &Catalogue, of: TypeId) -> bool
+pub fn is_empty(catalogue: &SeenCatalogue<'_>, of: TypeId) -> bool
     requires { of.0 < length catalogue.now.types }
     ensures { result ≡ body_may_be_missing (Typed (tree catalogue.now of.0)) }
 {

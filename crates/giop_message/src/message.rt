@@ -6,6 +6,7 @@ ghost use Rattle.giop_print.specs.Output.{Writes};
 use crate::begin::{id_behind, idle};
 use crate::body_type::body_may_be_missing;
 use crate::correspondent::Correspondent;
+use crate::header::minor_of;
 use crate::part::{Part, Rest};
 use giop_decode::Decoder;
 use giop_print::{Out, OutFault, end_line, fault_line};
@@ -163,7 +164,9 @@ impl Message {
     {
         match &self.part {
             Part::Typed(_) => true,
-            Part::Padding(body_type_id) => !body_may_be_missing(catalogue, *body_type_id),
+            Part::Padding(body_type_id) => {
+                !body_may_be_missing(&catalogue.in_version(minor_of(&self.header)), *body_type_id)
+            }
             Part::Rest(_) => false,
         }
     }

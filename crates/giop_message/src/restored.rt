@@ -7,6 +7,7 @@ ghost use Rattle.giop_sig.specs.Table.{Table};
 
 use crate::begin::idle;
 use crate::body_type::BodyTypeId;
+use crate::header::minor_of;
 use crate::message::Message;
 use crate::part::{Part, Rest, Section};
 use arrayvec::ArrayVec;
@@ -122,21 +123,23 @@ impl Part {
         at: u64,
         octets: &[u8; 208],
         frames: &[u8],
+        minor: u8,
     ) -> Option<(Part, Decoder)>
-        ensures fits { IfSome result (λ p. FitsPart catalogue.now at p.1 p.0) }
+        ensures fits { IfSome result (λ p. FitsPart catalogue.now minor at p.1 p.0) }
         ensures stored { IfSome result (λ p. PartStored p.1 p.0 octets.now frames.now) }
         ensures octet { IfSome result (λ p. part_octet p.0 ≡ octet) }
-        ensures again { (d : StoredDecoder) (p : StoredPart) → FitsPart catalogue.now at d p →
-            part_octet p ≡ octet → PartStored d p octets.now frames.now →
+        ensures again { (d : StoredDecoder) (p : StoredPart) →
+            FitsPart catalogue.now minor at d p → part_octet p ≡ octet →
+            PartStored d p octets.now frames.now →
             IsSomeAnd result (λ other. GoesOn catalogue.now d p other.1 other.0) }
     {
         match octet {
-            0 => Part::restore_typed(catalogue, Section::Header, octets, frames),
-            1 => Part::restore_typed(catalogue, Section::Exception, octets, frames),
-            2 => Part::restore_typed(catalogue, Section::Body, octets, frames),
+            0 => Part::restore_typed(catalogue, Section::Header, octets, frames, minor),
+            1 => Part::restore_typed(catalogue, Section::Exception, octets, frames, minor),
+            2 => Part::restore_typed(catalogue, Section::Body, octets, frames, minor),
             3 => Part::restore_padding(catalogue, octets, frames),
             4 => Part::restore_rest(catalogue, at, octets, frames),
-            5 => Part::restore_typed(catalogue, Section::SystemException, octets, frames),
+            5 => Part::restore_typed(catalogue, Section::SystemException, octets, frames, minor),
             _ => None,
         }
     }
@@ -147,16 +150,17 @@ impl Part {
         section: Section,
         octets: &[u8; 208],
         frames: &[u8],
+        minor: u8,
     ) -> Option<(Part, Decoder)>
-        ensures fits { (at : ℕ) → IfSome result (λ p. FitsPart catalogue.now at p.1 p.0) }
+        ensures fits { (at : ℕ) → IfSome result (λ p. FitsPart catalogue.now minor at p.1 p.0) }
         ensures stored { IfSome result (λ p. PartStored p.1 p.0 octets.now frames.now) }
         ensures octet { IfSome result (λ p. part_octet p.0 ≡ section_octet section) }
         ensures again { (at : ℕ) (d : StoredDecoder) (p : StoredPart) →
-            FitsPart catalogue.now at d p → part_octet p ≡ section_octet section →
+            FitsPart catalogue.now minor at d p → part_octet p ≡ section_octet section →
             PartStored d p octets.now frames.now →
             IsSomeAnd result (λ other. GoesOn catalogue.now d p other.1 other.0) }
     {
-        let Some(decoder) = Decoder::restore(catalogue, octets, frames) else {
+        let Some(decoder) = Decoder::restore(catalogue, octets, frames, minor) else {
             return None;
         };
         Some((Part::Typed(section), decoder))
@@ -168,11 +172,12 @@ impl Part {
         octets: &[u8; 208],
         frames: &[u8],
     ) -> Option<(Part, Decoder)>
-        ensures fits { (at : ℕ) → IfSome result (λ p. FitsPart catalogue.now at p.1 p.0) }
+        ensures fits { (version at : ℕ) →
+            IfSome result (λ p. FitsPart catalogue.now version at p.1 p.0) }
         ensures stored { IfSome result (λ p. PartStored p.1 p.0 octets.now frames.now) }
         ensures octet { IfSome result (λ p. part_octet p.0 ≡ 3) }
-        ensures again { (at : ℕ) (d : StoredDecoder) (p : StoredPart) →
-            FitsPart catalogue.now at d p → part_octet p ≡ 3 →
+        ensures again { (version at : ℕ) (d : StoredDecoder) (p : StoredPart) →
+            FitsPart catalogue.now version at d p → part_octet p ≡ 3 →
             PartStored d p octets.now frames.now →
             IsSomeAnd result (λ other. GoesOn catalogue.now d p other.1 other.0) }
     {
@@ -192,11 +197,12 @@ impl Part {
         octets: &[u8; 208],
         frames: &[u8],
     ) -> Option<(Part, Decoder)>
-        ensures fits { (C : Table) → IfSome result (λ p. FitsPart C at p.1 p.0) }
+        ensures fits { (C : Table) (version : ℕ) →
+            IfSome result (λ p. FitsPart C version at p.1 p.0) }
         ensures stored { IfSome result (λ p. PartStored p.1 p.0 octets.now frames.now) }
         ensures octet { IfSome result (λ p. part_octet p.0 ≡ 4) }
-        ensures again { (C : Table) (d : StoredDecoder) (p : StoredPart) → FitsPart C at d p →
-            part_octet p ≡ 4 → PartStored d p octets.now frames.now →
+        ensures again { (C : Table) (version : ℕ) (d : StoredDecoder) (p : StoredPart) →
+            FitsPart C version at d p → part_octet p ≡ 4 → PartStored d p octets.now frames.now →
             IsSomeAnd result (λ other. GoesOn C d p other.1 other.0) }
     {
         let Some(rest) = Rest::restore(octets, at) else {
@@ -228,7 +234,7 @@ impl Message {
         ensures header { IfSome result (λ m. m.header ≡ header) }
         ensures fits { IfSome result (λ m. Fits catalogue.now m) }
         ensures stored { IfSome result (λ m. Stored m fixed.now frames.now) }
-        ensures again { (m : StoredMessage) → Fits catalogue.now m →
+        ensures again { (m : StoredMessage) → Fits catalogue.now m → m.header ≡ header →
             Stored m fixed.now frames.now → IsSome result }
         // It follows whatever list the stored one follows.
         ensures follows { IfSome result (λ e. (m : StoredMessage) → Fits catalogue.now m →
@@ -247,6 +253,7 @@ impl Message {
             at,
             &octets,
             frames,
+            minor_of(&header),
         ) else {
             return None;
         };

@@ -91,9 +91,10 @@ impl Part {
     /// none.
     fn store(&self, decoder: &Decoder, octets: &mut [u8; 208], frames: &mut [u8; 576]) -> u8
         ensures few { result ≤ 24 }
-        ensures depth { (C : Table) (at : ℕ) → IsTable C → FitsPart C at decoder.now self.now →
+        ensures depth { (C : Table) (minor at : ℕ) → IsTable C →
+            FitsPart C minor at decoder.now self.now →
             result ≤ catalogue_depth C }
-        ensures stored { (C : Table) (at : ℕ) → FitsPart C at decoder.now self.now →
+        ensures stored { (C : Table) (minor at : ℕ) → FitsPart C minor at decoder.now self.now →
             PartStored decoder.now self.now octets.new (take (frame_size * result) frames.new) }
         ensures behind { drop (frame_size * result) frames.new
             ≡ drop (frame_size * result) frames.old }

@@ -81,10 +81,14 @@ value_line message path (values.Count count) =
 abbrev pub piece_octets : Piece → List ℕ
 piece_octets (pieces.Text octets) = octets.now
 piece_octets (pieces.Octets octets) = octets.now
+piece_octets (pieces.WideText octets) = octets.now
+piece_octets (pieces.WideChar octets) = octets.now
 
 abbrev pub piece_word : Piece → List ℕ
 piece_word (pieces.Text octets) = codes " string @"
 piece_word (pieces.Octets octets) = codes " octets @"
+piece_word (pieces.WideText octets) = codes " wstring @"
+piece_word (pieces.WideChar octets) = codes " wchar @"
 
 -- a space and the digits of some octets
 abbrev pub spaced_hex : List ℕ → List ℕ
@@ -93,12 +97,12 @@ spaced_hex (x ∷ xs) = codes " " ++ hex (x ∷ xs)
 
 abbrev pub piece_text : Piece → List ℕ
 piece_text (pieces.Text octets) = codes " " ++ quoted octets.now
-piece_text (pieces.Octets octets) = spaced_hex octets.now
+piece_text piece = spaced_hex (piece_octets piece)
 
 -- the same of a piece whose octets are followed by more
 abbrev pub split_text : Piece → List ℕ → List ℕ
 split_text (pieces.Text octets) next = codes " " ++ quoted (octets.now ++ next)
-split_text (pieces.Octets octets) next = spaced_hex (octets.now ++ next)
+split_text piece next = spaced_hex (piece_octets piece ++ next)
 
 -- a part of a content: its offset there, its text, and whether more comes
 unfoldable pub content_line : ℕ → List ℕ → List ℕ → ℕ → List ℕ → List ℕ → List ℕ

@@ -3,7 +3,7 @@
 ghost use Rattle.std.specs.Prelude.{◌≡◌, ◌≤◌, ◌<◌, ◌+◌, ◌-◌, ◌*◌, [], ◌∷◌, ◌++◌, length, take, drop, decimal};
 ghost use Rattle.std.specs.Fmt.{signed_decimal};
 ghost use Rattle.giop_print.specs.Text.{hex_octet, hex, hex_number, escaped_octet, escaped, quoted};
-ghost use Rattle.giop_print.specs.Lines.{piece_octets, split_text};
+ghost use Rattle.giop_print.specs.Lines.{piece_octets, spaced_hex, split_text};
 
 use crate::digits::{digit_pairs, number_digits};
 use crate::value::Piece;
@@ -313,7 +313,7 @@ impl Line {
     }
 
     /// Puts what a piece has after its offset, where `next` follows its octets, before what was spelled: a space and
-    /// its text between quotes, or a space and its digits where it has octets.
+    /// its text between quotes, or, of any but a string, a space and its digits where it has octets.
     #[inline(always)]
     pub(crate) fn put_piece(&mut self, piece: Piece<'_>, next: &[u8])
         requires size { length (piece_octets piece) + length next.now ≤ 32 }
@@ -329,14 +329,26 @@ impl Line {
                 self.put(b'"');
                 self.put(b' ');
             }
-            Piece::Octets(octets) => {
-                let size = octets.len() + next.len();
-                if size > 0 {
-                    self.put_hex(next);
-                    self.put_hex(octets);
-                    self.put(b' ');
-                }
-            }
+            Piece::Octets(octets) => self.put_spaced_hex(octets, next),
+            Piece::WideText(octets) => self.put_spaced_hex(octets, next),
+            Piece::WideChar(octets) => self.put_spaced_hex(octets, next),
+        }
+    }
+
+    /// Puts a space and two digits for each octet, or nothing where there is none, before what was spelled.
+    #[inline(always)]
+    fn put_spaced_hex(&mut self, octets: &[u8], next: &[u8])
+        requires size { length octets.now + length next.now ≤ 32 }
+        requires room { 65 ≤ line_room self.old }
+        ensures text { line_text self.new
+            ≡ spaced_hex (octets.now ++ next.now) ++ line_text self.old }
+        ensures room { line_room self.old ≤ line_room self.new + 65 }
+    {
+        let size = octets.len() + next.len();
+        if size > 0 {
+            self.put_hex(next);
+            self.put_hex(octets);
+            self.put(b' ');
         }
     }
 }

@@ -271,7 +271,7 @@ pub fn put_piece_end(line: &mut Line, piece: SplitPiece<'_>)
     ensures text { line_text line.new ≡ piece_word piece.entry.held
         ++ (decimal piece.entry.offset ++ (split_text piece.entry.held piece.entry.rest.now
         ++ (more_word piece.entry.more ++ codes "\n"))) }
-    ensures room { 90 ≤ line_room line.new }
+    ensures room { 89 ≤ line_room line.new }
 {
     put_content(line, piece);
     put_piece_word(line, piece.held);

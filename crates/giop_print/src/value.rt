@@ -20,6 +20,10 @@ pub enum Piece<'a> {
     Text(&'a [u8]),
     /// Of an octet sequence.
     Octets(&'a [u8]),
+    /// Of a wide string.
+    WideText(&'a [u8]),
+    /// Of a wide character.
+    WideChar(&'a [u8]),
 }
 
 /// A piece of a content that came in two, and where it stands.

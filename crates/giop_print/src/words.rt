@@ -99,12 +99,14 @@ pub fn put_kind(line: &mut Line, prim: Prim)
 /// Puts the word of a piece's kind, up to its offset, before what was spelled of a line.
 #[inline(always)]
 pub fn put_piece_word(line: &mut Line, piece: Piece<'_>)
-    requires { 9 ≤ line_room line.old }
+    requires { 10 ≤ line_room line.old }
     ensures text { line_text line.new ≡ piece_word piece.entry ++ line_text line.old }
-    ensures room { line_room line.old ≤ line_room line.new + 9 }
+    ensures room { line_room line.old ≤ line_room line.new + 10 }
 {
     match piece {
         Piece::Text(_) => line.put_octets(b" string @"),
         Piece::Octets(_) => line.put_octets(b" octets @"),
+        Piece::WideText(_) => line.put_octets(b" wstring @"),
+        Piece::WideChar(_) => line.put_octets(b" wchar @"),
     }
 }

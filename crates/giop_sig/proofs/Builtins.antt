@@ -204,6 +204,8 @@ builtin_are = record {
 }
 
 plain_test : Node → Bool
+plain_test nodes.wide_text = false
+plain_test nodes.wide_char = false
 plain_test (nodes.marked mark) = false
 plain_test (nodes.any code) = false
 plain_test (nodes.typecode wide kind cases) = false
@@ -211,6 +213,8 @@ plain_test node = true
 
 plain_by : (node : Node) → plain_test node ≡ true → IsPlain node
 unfolding plain_test
+plain_by nodes.wide_text e = absurd cc
+plain_by nodes.wide_char e = absurd cc
 plain_by (nodes.marked mark) e = absurd cc
 plain_by (nodes.any code) e = absurd cc
 plain_by (nodes.typecode wide kind cases) e = absurd cc
@@ -361,7 +365,7 @@ shallow_by : (v : Bool) → depth_of (cond v (builtin_types ++ third_types) buil
 shallow_by true = third_are.shallow
 shallow_by false = builtin_are.shallow
 
-few_by : (v : Bool) → length (cond v (builtin_types ++ third_types) builtin_types) ≤ 88
+few_by : (v : Bool) → length (cond v (builtin_types ++ third_types) builtin_types) ≤ 92
 unfolding builtin_types third_types
 few_by true = lit≤ tt
 few_by false = lit≤ tt
@@ -379,7 +383,7 @@ more_by false false on = lit≤ tt
 pub first_shallow : (version : ℕ) → depth_of (first_types version) ≤ 24
 first_shallow version = shallow_by (version == 3)
 
-pub first_few : (version : ℕ) → length (first_types version) ≤ 88
+pub first_few : (version : ℕ) → length (first_types version) ≤ 92
 first_few version = few_by (version == 3)
 
 -- the table with which a file of a version begins

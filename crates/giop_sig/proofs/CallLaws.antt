@@ -20,7 +20,7 @@ use Rattle.giop_sig.specs.declared.read_calls.Direction.{Direction}
 use Rattle.giop_sig.specs.declared.read_calls.Direction.TheVariants as directions
 use Rattle.giop_sig.specs.Table.{Node, Part, Operation, operation_key, keyed_number, with_listed}
 use Rattle.giop_sig.specs.Table as nodes
-use Rattle.giop_sig.specs.Grammar.{TypeExpr, Base, Text, Reference, AnyType, CodeType, Named, SequenceOf, EncapsulationOf, Param, base_word, direction_word, spell_type, spell_item, spell_param, spell_more_params, spell_params, spell_return, spell_interfaces, Call, KeyOf}
+use Rattle.giop_sig.specs.Grammar.{TypeExpr, Base, Text, Reference, AnyType, CodeType, WideChar, WideText, Named, SequenceOf, EncapsulationOf, Param, base_word, direction_word, spell_type, spell_item, spell_param, spell_more_params, spell_params, spell_return, spell_interfaces, Call, KeyOf}
 use Rattle.giop_sig.specs.Scopes.{Names, is_third, Scope, AddedType, with_key_of, part, item_part, with_node, add_item, add_params, add_return, onto_request, onto_reply, declare}
 use Rattle.giop_sig.specs.Validity.{Kind, OfItem, OfItems, OfType, OfReturn, OfOperation, OfList, OfParts, OfKey, OfDeclaration, items_of}
 use Rattle.giop_sig.specs.TypeReading.{type_at}
@@ -61,6 +61,8 @@ no_void (Text o) names more free = refl
 no_void Reference names more free = refl
 no_void AnyType names more free = refl
 no_void CodeType names more free = refl
+no_void WideChar names more free = refl
+no_void (WideText bound) names more free = refl
 no_void (Named w) names more free = is_not (is_third names) w (codes "void") free refl
 no_void (SequenceOf e o) names more free = refl
 no_void (EncapsulationOf e) names more free = refl
@@ -78,6 +80,9 @@ type_no_void (Text o) names text more free h = search (arith, if_no_void, no_voi
 type_no_void Reference names text more free h = search (arith, if_no_void, no_void)
 type_no_void AnyType names text more free h = search (arith, if_no_void, no_void)
 type_no_void CodeType names text more free h = search (arith, if_no_void, no_void)
+type_no_void WideChar names text more free h = search (arith, if_no_void, no_void)
+type_no_void (WideText bound) names text more free h =
+    search (arith, if_no_void, no_void)
 type_no_void (Named w) names text more free h =
     if_no_void text (word w) more (no_void (Named w) names more free) h
 type_no_void (SequenceOf e o) names text more free h = search (arith, if_no_void, no_void)

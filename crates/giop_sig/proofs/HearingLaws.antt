@@ -1,6 +1,6 @@
 -- What a TypeCode of an any tells, in signals and in what they stand for.
 use Rattle.std.proofs.lemmas.Slice.Eq.{bytes_eq-Decides}
-use Rattle.std.proofs.Common.{◌≡◌, ℕ, zero, suc, ◌+◌, ◌-◌, ◌<◌, ◌≤◌, Bool, true, false, cond, nat_lt, ◌&&◌, take, drop, nat_le, List, [], ◌∷◌, length, map, get_or, Option, Some, None, refl, sym, ap, ◌∙◌, ◌⊎◌, inl, inr, subst, arith}
+use Rattle.std.proofs.Common.{◌≡◌, ℕ, zero, suc, ◌+◌, ◌-◌, ◌<◌, ◌≤◌, Bool, true, false, cond, nat_lt, not, ◌&&◌, take, drop, nat_le, List, [], ◌∷◌, ◌++◌, length, map, get_or, Option, Some, None, refl, sym, ap, ◌∙◌, ◌⊎◌, inl, inr, subst, arith}
 use Rattle.std.specs.Prelude.{position, slice_index_or}
 use Rattle.std.specs.Str.{bytes_eq}
 use Rattle.std.specs.List.{All}
@@ -14,15 +14,16 @@ use Rattle.giop_sig.specs.declared.types.Shape.{Shape}
 use Rattle.giop_sig.specs.declared.types.Shape.TheVariants as shapes
 use Rattle.giop_sig.specs.declared.types.Sign.{Sign as Heard}
 use Rattle.giop_sig.specs.declared.types.Signal.{Signal}
+use Rattle.giop_sig.specs.declared.types.TypeId.{TypeId}
 use Rattle.giop_sig.specs.declared.types.Signal.TheVariants as signals
 use Rattle.giop_sig.specs.HeaderTypes.{IsIdentity, IsTable}
-use Rattle.giop_sig.specs.Heard.{found_as, front_told, hears, id_told, identity_told, next_sequence, selects}
+use Rattle.giop_sig.specs.Heard.{bound_told, counted, found_as, front_at, front_told, hears, id_told, identity_told, next_sequence, selects, spelt}
 use Rattle.giop_sig.proofs.Tables.{shape_at}
 use Rattle.giop_sig.specs.Hearings.{deaf, hearing_in, sign_is, signal_after, signal_by_node, signal_of, told_of}
-use Rattle.giop_sig.specs.Table.{Node, Identity, Table, identified_in, identity_at, no_identity, node_at, shape_of, takes_octet}
+use Rattle.giop_sig.specs.Table.{Node, Identity, Table, identified_in, identity_at, no_identity, node_at, seen, shape_of, takes_octet}
 use Rattle.giop_sig.specs.Table as nodes
-use Rattle.giop_sig.specs.Trees.{any_hearing, depth_in, follows, grow, in_room, octet_type, tree_at}
-use Rattle.giop_sig.specs.Types.{Sign, Told, Untold, Awaits, Offers, Is, Empty, Unknown, Then, Stops, Hearing, Ty, sequel, shape_in}
+use Rattle.giop_sig.specs.Trees.{any_hearing, depth_in, wide_in, follows, grow, in_room, octet_type, tree_at}
+use Rattle.giop_sig.specs.Types.{Sign, MarkedNumber, Counted, Spelt, Told, Untold, Awaits, Offers, Is, Empty, Unknown, Then, Stops, Hearing, Ty, sequel, shape_in}
 
 -- what was told comes back from its signal
 told_again : (told : Told) → told_of (signal_of told) ≡ told
@@ -79,6 +80,8 @@ led_any (nodes.prim p) e = absurd cc
 led_any (nodes.enumeration names) e = absurd cc
 led_any (nodes.text bound) e = absurd cc
 led_any (nodes.octets bound) e = absurd cc
+led_any nodes.wide_text e = absurd cc
+led_any nodes.wide_char e = absurd cc
 led_any (nodes.members parts) e = absurd cc
 led_any (nodes.union switch cases otherwise) e = absurd cc
 led_any (nodes.sequence bound element) e = absurd cc
@@ -87,6 +90,53 @@ led_any (nodes.encapsulation held) e = absurd cc
 led_any (nodes.tagged special tag inner other) e = absurd cc
 led_any (nodes.marked mark) e = absurd cc
 led_any (nodes.typecode wide kind cases) e = absurd cc
+
+-- ---- the same in each version
+
+identity_seen : (n : Bool) (t : Table) (octets : List ℕ)
+    → identity_told (seen n t) octets ≡ identity_told t octets
+identity_seen n t [] = refl
+identity_seen n t (kind ∷ id) = found_seen (identified_in t id)
+  where
+    found_seen : (o : Option TypeId) → found_as (seen n t) kind o ≡ found_as t kind o
+    found_seen None = refl
+    found_seen (Some i) = refl
+
+id_seen : (n : Bool) (t : Table) (octets : List ℕ) (more : Bool)
+    → id_told (seen n t) octets more ≡ id_told t octets more
+id_seen n t octets true = refl
+id_seen n t octets false = identity_seen n t octets
+
+spelt_seen : (n : Bool) (t : Table) (told : Told) (octets : List ℕ) (more : Bool)
+    → spelt (seen n t) told octets more ≡ spelt t told octets more
+spelt_seen n t (Awaits k) octets more = id_seen n t (front_at t k ++ octets) more
+spelt_seen n t _ octets more = refl
+
+bound_seen : (n : Bool) (t : Table) (told : Told) → bound_told (seen n t) told ≡ bound_told t told
+bound_seen n t (Is i) = refl
+bound_seen n t _ = refl
+
+counted_seen : (n : Bool) (t : Table) (told : Told) (k : ℕ)
+    → counted (seen n t) told k ≡ counted t told k
+counted_seen n t (Offers i) k = refl
+counted_seen n t _ k = refl
+
+-- what is heard
+hears_seen : (n : Bool) (t : Table) (told : Told) (sign : Sign)
+    → hears (seen n t) told sign ≡ hears t told sign
+hears_seen n t told (MarkedNumber zero k) = refl
+hears_seen n t told (MarkedNumber (suc zero) k) = bound_seen n t told
+hears_seen n t told (MarkedNumber (suc (suc mark)) k) = refl
+hears_seen n t told (Counted k) = counted_seen n t told k
+hears_seen n t told (Spelt octets more) = spelt_seen n t told octets more
+
+-- what was heard by a table is heard by it as it is seen
+pub seen_hears : (n : Bool) (t u : Table) (told : Told) (sign : Sign) (result : Signal)
+    → seen n t ≡ u → result ≡ signal_of (hears t told sign)
+    → result ≡ signal_of (hears u told sign)
+seen_hears n t u told sign result view is =
+    is ∙ ap signal_of (sym (hears_seen n t told sign))
+    ∙ ap (λ v. signal_of (hears v told sign)) view
 
 -- ---- what an any hears, and what follows
 
@@ -148,7 +198,8 @@ pub follows_known : (t : Table) (room i : ℕ) → follows t room i ≡ true →
 follows_known t room i e = by_place (nat_lt i (length t.types)) refl e
   where
     by_place : (v : Bool) → nat_lt i (length t.types) ≡ v
-        → v && takes_octet (node_at t i) && nat_le (depth_in t.types i) room ≡ true
+        → v && takes_octet (node_at t i) && nat_le (depth_in t.types i) room
+        && not (t.narrow && wide_in t.types i) ≡ true
         → i < length t.types
     by_place true is e = ltb-true i (length t.types) is
     by_place false is e = absurd cc
@@ -250,6 +301,8 @@ led_or (shapes.Prim p) = inr (λ e. absurd cc)
 led_or (shapes.Enumeration n) = inr (λ e. absurd cc)
 led_or (shapes.Text bound) = inr (λ e. absurd cc)
 led_or (shapes.Octets bound) = inr (λ e. absurd cc)
+led_or shapes.WideText = inr (λ e. absurd cc)
+led_or shapes.WideChar = inr (λ e. absurd cc)
 led_or (shapes.Members n) = inr (λ e. absurd cc)
 led_or (shapes.Union n) = inr (λ e. absurd cc)
 led_or (shapes.Sequence bound) = inr (λ e. absurd cc)

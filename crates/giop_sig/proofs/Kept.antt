@@ -1,6 +1,6 @@
--- The entries of a catalogue's types with their depths: one entry that is looked up, and one that
--- is added.
-use Rattle.std.proofs.Common.{◌≡◌, ℕ, zero, suc, ◌+◌, ◌^◌, ◌<◌, ◌≤◌, max, List, [], ◌∷◌, ◌++◌, length, get_or, map, sym, ap, ◌∙◌, subst, ◌⊎◌, inl, inr, lit<, lit≤, arith}
+-- The entries of a catalogue's types with what is kept of them: one entry that is looked up, and one
+-- that is added.
+use Rattle.std.proofs.Common.{◌≡◌, ℕ, zero, suc, ◌+◌, ◌^◌, ◌<◌, ◌≤◌, max, Bool, false, List, [], ◌∷◌, ◌++◌, length, get_or, map, sym, ap, ◌∙◌, subst, ◌⊎◌, inl, inr, lit<, lit≤, arith}
 use Rattle.std.proofs.lemmas.List.{length-append, get_or_append_left, length-map, map-append}
 use Rattle.std.proofs.Math.Seq.{get_or-append_seam}
 use Rattle.std.proofs.lemmas.Bool.{cases_lt}
@@ -9,9 +9,10 @@ use Rattle.giop_sig.specs.declared.entries.EntryWithDepth.{EntryWithDepth}
 use Rattle.giop_sig.specs.Types.{most}
 use Rattle.giop_sig.specs.Table.{Node, node_in, part_at, type_of, shape_of, IsFormed}
 use Rattle.giop_sig.specs.Table as nodes
-use Rattle.giop_sig.specs.Trees.{depth_in, depth_of, node_depth, AreFormed}
+use Rattle.giop_sig.specs.Trees.{depth_in, depth_of, node_depth, node_wide, wide_in, AreFormed}
 use Rattle.giop_sig.specs.Views.{node_view, nodes_view, IsKept, IsSized}
 use Rattle.giop_sig.proofs.Depths.{by_same, depth_moved, depth_parts, most_same, type_small}
+use Rattle.giop_sig.proofs.Wides.{wide_added, wide_stays}
 use Rattle.giop_sig.proofs.Formed.{formed_stays, part_formed, sized}
 
 pub node_read : (ps : List EntryWithDepth) (i : ℕ) (p : EntryWithDepth) → i < length ps →
@@ -21,12 +22,12 @@ node_read [] i p lt h = absurd (omega arith)
 node_read (x ∷ ps) zero p lt h = search (arith)
 node_read (x ∷ ps) (suc i) p lt h = node_read ps i p (omega arith) h
 
-depth_kept : (ps : List EntryWithDepth) (i : ℕ) (p : EntryWithDepth) → i < length ps →
-    p ≡ get_or ps i p
-    → get_or (map (λ q. q.depth) ps) i 0 ≡ p.depth
-depth_kept [] i p lt h = absurd (omega arith)
-depth_kept (x ∷ ps) zero p lt h = search (arith)
-depth_kept (x ∷ ps) (suc i) p lt h = depth_kept ps i p (omega arith) h
+-- what is kept of an entry
+kept_of : {X : Type 0} (f : EntryWithDepth → X) (d : X) (ps : List EntryWithDepth) (i : ℕ)
+    (p : EntryWithDepth) → i < length ps → p ≡ get_or ps i p → get_or (map f ps) i d ≡ f p
+kept_of f d [] i p lt h = absurd (omega arith)
+kept_of f d (x ∷ ps) zero p lt h = ap f (sym h)
+kept_of f d (x ∷ ps) (suc i) p lt h = kept_of f d ps i p (omega arith) h
 
 inside : (ps : List EntryWithDepth) (types : List Node) (i : ℕ) → nodes_view ps ≡ types
     → i < length types → i < length ps
@@ -53,7 +54,18 @@ pub depth_read : (ps : List EntryWithDepth) (deepest : ℕ) (types : List Node) 
     → p.depth ≡ depth_in types i
 depth_read ps deepest types i p is view lt h =
     let there = inside ps types i view lt in
-    sym (depth_kept ps i p there h) ∙ is.each i there ∙ ap (λ ts. depth_in ts i) view
+    sym (kept_of (λ q. q.depth) 0 ps i p there h) ∙ is.each i there
+    ∙ ap (λ ts. depth_in ts i) view
+
+-- whether it has wide text
+pub wide_read : (ps : List EntryWithDepth) (deepest : ℕ) (types : List Node) (i : ℕ)
+    (p : EntryWithDepth)
+    → IsKept ps deepest → nodes_view ps ≡ types → i < length types → p ≡ get_or ps i p
+    → p.wide ≡ wide_in types i
+wide_read ps deepest types i p is view lt h =
+    let there = inside ps types i view lt in
+    sym (kept_of (λ q. q.wide) false ps i p there h) ∙ is.wide i there
+    ∙ ap (λ ts. wide_in ts i) view
 
 pub small_read : (ps : List EntryWithDepth) (deepest : ℕ) (types : List Node) (i : ℕ)
     (p : EntryWithDepth)
@@ -129,54 +141,65 @@ deepest_added types node are formed more =
       ap (λ n. most n all) e,
     )
 
-each_added : (ps : List EntryWithDepth) (p : EntryWithDepth) (i : ℕ)
-    → AreFormed (nodes_view ps)
-    → ((k : ℕ) → k < length ps → get_or (map (λ q. q.depth) ps) k 0 ≡ depth_in (nodes_view ps) k)
-    → p.depth ≡ depth_in (nodes_view ps ++ node_view p.entry ∷ []) (length (nodes_view ps))
+-- what is kept of each entry is so with one more
+each_added : {X : Type 0} (f : EntryWithDepth → X) (d : X) (of : List Node → ℕ → X)
+    (ps : List EntryWithDepth) (p : EntryWithDepth) (i : ℕ)
+    → ((k : ℕ) → k < length ps → get_or (map f ps) k d ≡ of (nodes_view ps) k)
+    → ((k : ℕ) → k < length (nodes_view ps)
+    → of (nodes_view ps) k ≡ of (nodes_view ps ++ node_view p.entry ∷ []) k)
+    → f p ≡ of (nodes_view ps ++ node_view p.entry ∷ []) (length (nodes_view ps))
     → i < length (ps ++ p ∷ []) → (i < length ps) ⊎ (length ps ≤ i)
-    → get_or (map (λ q. q.depth) ps ++ p.depth ∷ []) i 0
-    ≡ depth_in (nodes_view ps ++ node_view p.entry ∷ []) i
-each_added ps p i are each deep lt (inl h) =
-    let len = length-map ps (λ (q : EntryWithDepth). q.depth) in
+    → get_or (map f ps ++ f p ∷ []) i d ≡ of (nodes_view ps ++ node_view p.entry ∷ []) i
+each_added f d of ps p i each stays last lt (inl h) =
+    let len = length-map ps f in
     let size = length-map ps (λ (q : EntryWithDepth). node_view q.entry) in
-    get_or_append_left (map (λ q. q.depth) ps) (p.depth ∷ []) 0 i (omega (arith, len))
-    ∙ each i h ∙ depth_stays (nodes_view ps) (node_view p.entry) i are (omega (arith, size))
-each_added ps p i are each deep lt (inr h) =
-    let len = length-map ps (λ (q : EntryWithDepth). q.depth) in
+    get_or_append_left (map f ps) (f p ∷ []) d i (omega (arith, len))
+    ∙ each i h ∙ stays i (omega (arith, size))
+each_added f d of ps p i each stays last lt (inr h) =
+    let len = length-map ps f in
     let size = length-map ps (λ (q : EntryWithDepth). node_view q.entry) in
     let more = length-append ps (p ∷ []) in
-    let e : i ≡ length (map (λ (q : EntryWithDepth). q.depth) ps) = omega (arith, len, more) in
-    let f : length (nodes_view ps) ≡ i = omega (arith, size, len) in
-    ap (λ k. get_or (map (λ q. q.depth) ps ++ p.depth ∷ []) k 0) e
-    ∙ get_or-append_seam (map (λ q. q.depth) ps) p.depth [] 0
-    ∙ deep ∙ ap (depth_in (nodes_view ps ++ node_view p.entry ∷ [])) f
+    let e : i ≡ length (map f ps) = omega (arith, len, more) in
+    let g : length (nodes_view ps) ≡ i = omega (arith, size, len) in
+    ap (λ k. get_or (map f ps ++ f p ∷ []) k d) e
+    ∙ get_or-append_seam (map f ps) (f p) [] d
+    ∙ last ∙ ap (of (nodes_view ps ++ node_view p.entry ∷ [])) g
 
 pub kept_more : (ps : List EntryWithDepth) (deepest : ℕ) (p : EntryWithDepth) → IsKept ps deepest
     → length (nodes_view ps) + 1 < 2 ^ 32
     → IsFormed (nodes_view ps) (length (nodes_view ps)) (node_view p.entry)
     → p.depth ≡ node_depth (nodes_view ps) (node_view p.entry)
+    → p.wide ≡ node_wide (nodes_view ps) (node_view p.entry)
     → IsKept (ps ++ p ∷ []) (max deepest p.depth)
-kept_more ps deepest p is few formed deep =
+kept_more ps deepest p is few formed deep wide =
     let types = nodes_view ps in
     let node = node_view p.entry in
     let more = types_added types node is.types few formed in
     let view : nodes_view (ps ++ p ∷ []) ≡ types ++ node ∷ [] =
     map-append (λ (q : EntryWithDepth). node_view q.entry) ps (p ∷ []) in
     let last = deep ∙ depth_added types node is.types formed more in
+    let so = wide ∙ wide_added types node is.types formed more in
     record {
       types = subst AreFormed (sym view) more;
       each = λ i lt.
           ap (λ ds. get_or ds i 0) (map-append (λ (q : EntryWithDepth). q.depth) ps (p ∷ []))
-          ∙ each_added ps p i is.types is.each last lt (cases_lt i (length ps))
+          ∙ each_added (λ q. q.depth) 0 depth_in ps p i is.each
+          (λ k h. depth_stays types node k is.types h) last lt (cases_lt i (length ps))
           ∙ ap (λ ts. depth_in ts i) (sym view);
+      wide = λ i lt.
+          ap (λ ws. get_or ws i false) (map-append (λ (q : EntryWithDepth). q.wide) ps (p ∷ []))
+          ∙ each_added (λ q. q.wide) false wide_in ps p i is.wide
+          (λ k h. wide_stays types node k is.types h) so lt (cases_lt i (length ps))
+          ∙ ap (λ ts. wide_in ts i) (sym view);
       greatest = ap (λ n. max n p.depth) is.greatest ∙ ap (max (depth_of types)) deep
           ∙ deepest_added types node is.types formed more ∙ ap depth_of (sym view);
     }
 
-record CanStand (types : List Node) (node : Node) (d : ℕ) : Type 0 where
+record CanStand (types : List Node) (node : Node) (d : ℕ) (w : Bool) : Type 0 where
   few : length types + 1 < 2 ^ 32
   formed : IsFormed types (length types) node
   deep : d ≡ node_depth types node
+  wide : w ≡ node_wide types node
 
 -- the entries after a push
 pub kept_pushed : (ps new : List EntryWithDepth) (deepest d : ℕ) (p : EntryWithDepth)
@@ -184,10 +207,11 @@ pub kept_pushed : (ps new : List EntryWithDepth) (deepest d : ℕ) (p : EntryWit
     → IsKept ps deepest → nodes_view ps ≡ types
     → length types + 1 < 2 ^ 32 → IsFormed types (length types) (node_view p.entry)
     → p.depth ≡ node_depth types (node_view p.entry)
+    → p.wide ≡ node_wide types (node_view p.entry)
     → new ≡ ps ++ p ∷ [] → d ≡ max deepest p.depth → IsKept new d
-kept_pushed ps new deepest d p types is view few formed deep added greatest =
-    let can : CanStand types (node_view p.entry) p.depth =
-    record { few = few; formed = formed; deep = deep } in
-    let here = subst (λ ts. CanStand ts (node_view p.entry) p.depth) (sym view) can in
-    let more = kept_more ps deepest p is here.few here.formed here.deep in
+kept_pushed ps new deepest d p types is view few formed deep wide added greatest =
+    let can : CanStand types (node_view p.entry) p.depth p.wide =
+    record { few = few; formed = formed; deep = deep; wide = wide } in
+    let here = subst (λ ts. CanStand ts (node_view p.entry) p.depth p.wide) (sym view) can in
+    let more = kept_more ps deepest p is here.few here.formed here.deep here.wide in
     subst (λ qs. IsKept qs d) (sym added) (subst (IsKept (ps ++ p ∷ [])) (sym greatest) more)

@@ -17,7 +17,7 @@ use Rattle.giop_tokens.specs.Readers.{is_the_word, mark_at, keyword_if}
 use Rattle.giop_tokens.specs.Names.{is_reserved}
 use Rattle.giop_tokens.proofs.ReaderLaws.{if_other, mark_again, keyword_again, keyword_if_again}
 use Rattle.giop_sig.specs.Table.{Node}
-use Rattle.giop_sig.specs.Grammar.{TypeExpr, Base, Text, Reference, AnyType, CodeType, Named, SequenceOf, EncapsulationOf, base_word, Value, Plain, Below, Truth, Enumerator, Label, Default, Of, spell_type, spell_value, spell_label, spell_labels}
+use Rattle.giop_sig.specs.Grammar.{TypeExpr, Base, Text, Reference, AnyType, CodeType, WideChar, WideText, Named, SequenceOf, EncapsulationOf, base_word, Value, Plain, Below, Truth, Enumerator, Label, Default, Of, spell_type, spell_value, spell_label, spell_labels}
 use Rattle.giop_sig.specs.Scopes.{Names, is_third, label_number, label_numbers, has_default}
 use Rattle.giop_sig.specs.Validity.{Kind, IsFree, OfType, OfEnumerator, OfFit, OfValueName, OfLabelValue, same_label, OfNewLabel, OfLabel, OfLabels}
 use Rattle.giop_sig.specs.Outcomes.{refused}
@@ -243,6 +243,8 @@ type_no_label (Text o) names text more free h = search (arith, no_label)
 type_no_label Reference names text more free h = search (arith, no_label)
 type_no_label AnyType names text more free h = search (arith, no_label)
 type_no_label CodeType names text more free h = search (arith, no_label)
+type_no_label WideChar names text more free h = search (arith, no_label)
+type_no_label (WideText bound) names text more free h = search (arith, no_label)
 type_no_label (Named w) names text more free h = not_label (is_third names) text w more free h
 type_no_label (SequenceOf e o) names text more free h = search (arith, no_label)
 type_no_label (EncapsulationOf e) names text more free h = search (arith, no_label)

@@ -2,6 +2,7 @@ mod Nodes
 mod Formed
 mod KindWords
 mod Depths
+mod Wides
 mod Rooms
 mod Kept
 mod Finds

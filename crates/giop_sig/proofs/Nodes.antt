@@ -6,7 +6,7 @@ use Rattle.std.specs.Option.{option_map}
 use Rattle.giop_cdr.specs.declared.number.Number.{Number}
 use Rattle.giop_sig.specs.declared.types.Shape.{Shape}
 use Rattle.giop_sig.specs.declared.types.Shape.TheVariants as shapes
-use Rattle.giop_sig.specs.Types.{Cases, Enum, Ty, Single, Struct, Union, Sequence, Array, Hearing, IsUnion, shape_in, HasShape, HasMember, HasPlace, HasInner, part_of, name_in, enum_name_in, switch_of, select_in, interpreted_in, Tag, Encapsulation, Led}
+use Rattle.giop_sig.specs.Types.{Cases, Enum, Ty, Single, Struct, Union, Sequence, Array, Hearing, IsUnion, shape_in, HasShape, HasMember, HasPlace, HasInner, part_of, name_in, enum_name_in, switch_of, select_in, interpreted_in, Tag, Encapsulation, Led, Octets, Raw}
 use Rattle.giop_sig.specs.Table.{Node, Part, Case, TakesOctet, shape_of, part_at, switch_at, type_of, name_of, name_at, selected, case_part}
 use Rattle.giop_sig.specs.Table as nodes
 use Rattle.giop_sig.specs.Trees.{grow, in_room, name_or, wide_room}
@@ -25,6 +25,7 @@ has_shape (Encapsulation T) = (T, refl)
 has_shape (Sequence bound T) = (T, refl)
 has_shape (Array count T) = (T, refl)
 has_shape (Led h F parts) = (h, F, parts, refl)
+has_shape (Octets (Raw bound)) = refl
 has_shape _ = refl
 
 read_below : (ps : List Part) (i : ℕ) → i < length ps → (p : Part) × (slice_get ps i ≡ Some p)

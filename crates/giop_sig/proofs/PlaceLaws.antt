@@ -5,7 +5,7 @@ use Rattle.std.proofs.lemmas.List.{length-append}
 use Rattle.giop_sig.specs.Table.{Node, Table, node_at, with_type, with_identity, with_variant, with_variants, with_listed}
 use Rattle.giop_sig.specs.Table as nodes
 use Rattle.giop_sig.specs.Trees.{depth_in, depth_of}
-use Rattle.giop_sig.specs.Grammar.{TypeExpr, Base, Text, Reference, AnyType, CodeType, Named, SequenceOf, EncapsulationOf, Item, UnionCase, Param, Declaration, Enumeration, Structure, DeclaredUnion, DeclaredException, Call, KeyOf}
+use Rattle.giop_sig.specs.Grammar.{TypeExpr, Base, Text, Reference, AnyType, CodeType, WideChar, WideText, Named, SequenceOf, EncapsulationOf, Item, UnionCase, Param, Declaration, Enumeration, Structure, DeclaredUnion, DeclaredException, Call, KeyOf}
 use Rattle.giop_sig.specs.Scopes.{Scope, AddedType, with_node, with_id_fronts, with_named, place, add_array, add_item, add_items, add_cases, default_from, add_params, add_return, add_struct_type, declare, scope_after}
 use Rattle.giop_sig.proofs.Depths.{deepest_more}
 
@@ -49,6 +49,8 @@ place_names s (Text (Some n)) = refl
 place_names s Reference = refl
 place_names s AnyType = refl
 place_names s CodeType = refl
+place_names s WideChar = refl
+place_names s (WideText bound) = refl
 place_names s (Named w) = refl
 place_names s (SequenceOf e bound) = place_names s e
 place_names s (EncapsulationOf e) = place_names s e
@@ -90,6 +92,8 @@ place_operations s (Text (Some n)) = refl
 place_operations s Reference = refl
 place_operations s AnyType = refl
 place_operations s CodeType = refl
+place_operations s WideChar = refl
+place_operations s (WideText bound) = refl
 place_operations s (Named w) = refl
 place_operations s (SequenceOf e bound) = place_operations s e
 place_operations s (EncapsulationOf e) = place_operations s e
@@ -102,6 +106,8 @@ place_called s (Text (Some n)) = refl
 place_called s Reference = refl
 place_called s AnyType = refl
 place_called s CodeType = refl
+place_called s WideChar = refl
+place_called s (WideText bound) = refl
 place_called s (Named w) = refl
 place_called s (SequenceOf e bound) = place_called s e
 place_called s (EncapsulationOf e) = place_called s e

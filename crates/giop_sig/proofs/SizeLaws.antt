@@ -7,7 +7,7 @@ use Rattle.giop_tokens.specs.Tokens.{Token, word, mark}
 use Rattle.giop_sig.specs.Table.{Node, Table, node_at, with_type, with_identity}
 use Rattle.giop_sig.specs.Table as nodes
 use Rattle.giop_sig.specs.Trees.{depth_in}
-use Rattle.giop_sig.specs.Grammar.{TypeExpr, Text, SequenceOf, EncapsulationOf, spell_most, spell_type, Item, spell_length, spell_item, spell_items, spell_names, spell_labels, UnionCase, spell_cases, Param, spell_more_params, spell_params, spell_return, spell_interfaces, Declaration, Enumeration, Structure, DeclaredUnion, DeclaredException, Call, KeyOf, spell, spell_all}
+use Rattle.giop_sig.specs.Grammar.{TypeExpr, Text, WideText, SequenceOf, EncapsulationOf, spell_most, spell_type, Item, spell_length, spell_item, spell_items, spell_names, spell_labels, UnionCase, spell_cases, Param, spell_more_params, spell_params, spell_return, spell_interfaces, Declaration, Enumeration, Structure, DeclaredUnion, DeclaredException, Call, KeyOf, spell, spell_all}
 use Rattle.giop_sig.specs.Scopes.{Scope, AddedType, with_node, with_identified, with_id_fronts, add_struct_type, sequence_node, place, add_array, add_item, add_items, add_cases, default_from, add_params, add_return, declare, scope_after}
 use Rattle.giop_sig.proofs.PlaceLaws.{size, listed_types}
 use Rattle.giop_sig.proofs.SpellLaws.{most, names, label, labels, interfaces, identity}
@@ -33,6 +33,7 @@ typed : (s : Scope) (e : TypeExpr) (more : List Token)
     → size (place s e).0 + length more < size s + length (spell_type e more)
 unfolding place
 typed s (Text (Some n)) more = search (arith, one_more)
+typed s (WideText (Some n)) more = omega arith
 typed s (SequenceOf e o) more =
     let p = place s e in
     omega (

@@ -6,7 +6,7 @@ use Rattle.std.proofs.lemmas.List.{get_or_past}
 use Rattle.std.proofs.lemmas.List.Elements.{recursion_from_All}
 use Rattle.std.proofs.lemmas.Bool.{leb-true, ltb-false, ltb-true}
 use Rattle.std.specs.List.{AllByRecursion}
-use Rattle.std.specs.Prelude.{nat_le, nat_lt, slice_get}
+use Rattle.std.specs.Prelude.{nat_le, nat_lt, not, slice_get}
 use Rattle.giop_cdr.specs.declared.number.Number.{Number}
 use Rattle.giop_cdr.specs.declared.prim.Primitive.TheVariants.{Octet}
 use Rattle.giop_sig.specs.declared.types.Selected.{Selected}
@@ -15,7 +15,7 @@ use Rattle.giop_sig.specs.Types.{interpreted_by, Ty, HasMember, HasInner, Hearin
 use Rattle.giop_sig.specs.Fits.{IsFit, IsRoot, IsEmptyStruct}
 use Rattle.giop_sig.specs.Table.{Node, Part, Case, Table, case_part, node_at, node_in, takes_octet, shape_of, part_at, type_of, switch_at, selected, case_or, IsFormed, IsCaseBelow, TakesOctet}
 use Rattle.giop_sig.specs.Table as nodes
-use Rattle.giop_sig.specs.Trees.{any_hearing, follows, in_room, wide_room, AreWide, IsWide, IsWidePart, grow, octet_type, scalar_of, selected_by, tree_at, tree, depth_in, AreFormed, AreTypes}
+use Rattle.giop_sig.specs.Trees.{any_hearing, has_room, follows, in_room, wide_room, AreWide, IsWide, IsWidePart, grow, octet_type, scalar_of, selected_by, tree_at, tree, depth_in, wide_in, AreFormed, AreTypes}
 use Rattle.giop_sig.proofs.Nodes.{case_below, inner_place, part_grown}
 use Rattle.giop_sig.proofs.Formed.{part_formed}
 use Rattle.giop_sig.proofs.Depths.{depth_within, part_shallower, some_depth}
@@ -120,7 +120,8 @@ takes_by _ e = tt
 pub can_follow : (t : Table) (room i : ℕ) → follows t room i ≡ true → CanFollow t room i
 can_follow t room i e =
     let a = both (nat_lt i (length t.types) && takes_octet (node_at t i))
-    (nat_le (depth_in t.types i) room) e in
+    (nat_le (depth_in t.types i) room)
+    (both (has_room t room i) (not (t.narrow && wide_in t.types i)) e).0 in
     let b = both (nat_lt i (length t.types)) (takes_octet (node_at t i)) a.0 in
     record {
       known = ltb-true i (length t.types) b.0;

@@ -1,6 +1,7 @@
 -- The entry at a type's number agrees with the table and its tree.
-use Rattle.std.proofs.Common.{◌≡◌, ℕ, zero, suc, ◌<◌, ◌≤◌, List, length, Some, refl, sym, ap, ◌∙◌, subst, arith}
+use Rattle.std.proofs.Common.{◌≡◌, ℕ, zero, suc, ◌<◌, ◌≤◌, Bool, false, List, length, get_or, Some, refl, sym, ap, ◌∙◌, subst, arith}
 use Rattle.std.specs.Prelude.{IfSome}
+use Rattle.std.proofs.lemmas.List.{length-map}
 use Rattle.giop_cdr.specs.declared.number.Number.{Number}
 use Rattle.giop_sig.specs.declared.types.Shape.{Shape}
 use Rattle.giop_sig.specs.declared.types.Shape.TheVariants as shapes
@@ -8,14 +9,66 @@ use Rattle.giop_sig.specs.declared.types.Selected.{Selected}
 use Rattle.giop_sig.specs.declared.types.Selected.TheVariants as selecteds
 use Rattle.giop_sig.specs.Types.{part_of, name_in, enum_name_in, switch_of, select_in, interpreted_in, shape_in, HasShape, HasMember, HasPlace, HasInner, IsUnion}
 use Rattle.giop_sig.specs.Fits.{IsRoot}
-use Rattle.giop_sig.specs.Table.{Node, Table, node_at, shape_of, part_at, type_of, name_of, name_at, switch_at, selected, IsFormed}
+use Rattle.giop_sig.specs.Table.{Node, Table, seen, node_at, node_in, shape_of, part_at, type_of, name_of, name_at, switch_at, selected, IsFormed}
 use Rattle.giop_sig.specs.Table as nodes
 use Rattle.giop_sig.specs.Trees.{any_hearing, in_room, octet_type, part_number_in, tree_at, tree, AreTypes, AreWide}
 use Rattle.giop_sig.specs.HeaderTypes.{IsTable}
+use Rattle.giop_sig.specs.Views.{node_view, IsSeen, IsSized}
+use Rattle.giop_sig.specs.declared.entries.EntryWithDepth.{EntryWithDepth}
 use Rattle.giop_sig.proofs.Rooms.{scalar_room, single_at, switch_grown}
 use Rattle.giop_sig.proofs.Nodes.{in_enum_name, in_name, in_part, in_selected, in_shape, shape_grown, has_shape, part_grown, name_grown, enum_name_grown, select_grown}
-use Rattle.giop_sig.proofs.Formed.{part_formed, name_short, switch_formed, enum_name_short}
+use Rattle.giop_sig.proofs.Kept.{node_read}
+use Rattle.giop_sig.proofs.Formed.{sized, part_formed, name_short, switch_formed, enum_name_short}
 use Rattle.giop_sig.proofs.Solid.{any_room, root_at, selected_below}
+
+-- ---- a table as it is seen
+
+pub seen_table : (narrow : Bool) (t : Table) → IsTable t → IsTable (seen narrow t)
+seen_table narrow t is = record {
+  types = is.types;
+  begins = is.begins;
+  operations = is.operations;
+  exceptions = is.exceptions;
+  operations_distinct = is.operations_distinct;
+  exceptions_distinct = is.exceptions_distinct;
+  operations_few = is.operations_few;
+  exceptions_few = is.exceptions_few;
+  declared_few = is.declared_few;
+  called_few = is.called_few;
+  identities = is.identities;
+  identities_distinct = is.identities_distinct;
+  interfaces_few = is.interfaces_few;
+  anys = is.anys;
+}
+
+-- a catalogue's own table is not narrow
+pub seen_own : (view t : Table) (narrow : Bool) → view.narrow ≡ false → view ≡ t
+    → narrow ≡ false → seen narrow t ≡ t
+seen_own view t narrow own same e =
+    ap (λ b. seen b t) (e ∙ sym own ∙ ap (λ (u : Table). u.narrow) same)
+
+-- the entries of a table as it is seen
+pub seen_place : (t u : Table) (ps : List EntryWithDepth) (i : ℕ) → IsSeen t ps → t ≡ u
+    → i < length u.types → i < length ps
+seen_place t u ps i is same lt =
+    let size = length-map ps (λ (q : EntryWithDepth). node_view q.entry) in
+    let all = ap length is.entries ∙ ap (λ (v : Table). length v.types) same in
+    omega (arith, size, all)
+
+pub seen_node : (t u : Table) (ps : List EntryWithDepth) (i : ℕ) (p : EntryWithDepth)
+    → IsSeen t ps → t ≡ u → i < length u.types → p ≡ get_or ps i p
+    → node_view p.entry ≡ node_at u i
+seen_node t u ps i p is same lt h =
+    sym (node_read ps i p (seen_place t u ps i is same lt) h)
+    ∙ ap (λ ns. node_in ns i) is.entries ∙ ap (λ v. node_at v i) same
+
+pub seen_sized : (t u : Table) (ps : List EntryWithDepth) (i : ℕ) (p : EntryWithDepth)
+    → IsSeen t ps → t ≡ u → i < length u.types → p ≡ get_or ps i p → IsSized p.entry
+seen_sized t u ps i p is same lt h =
+    let formed = subst (λ (v : Table). AreTypes v.types) same is.table.types in
+    sized u.types i p.entry
+    (subst (IsFormed u.types i) (sym (seen_node t u ps i p is same lt h))
+    (formed.placed.formed i lt))
 
 -- ---- a node and its tree, in each room
 

@@ -13,12 +13,13 @@ use Rattle.giop_tokens.specs.Reading.{◌>>=◌}
 use Rattle.giop_tokens.specs.Readers.{word_at, mark_at}
 use Rattle.giop_tokens.specs.Names.{is_reserved}
 use Rattle.giop_tokens.proofs.ReaderLaws.{word_again, mark_again}
-use Rattle.giop_sig.specs.Grammar.{TypeExpr, Base, Text, Reference, AnyType, CodeType, Named, SequenceOf, EncapsulationOf, base_word, spell_bound, spell_most, spell_type}
+use Rattle.giop_sig.specs.Grammar.{TypeExpr, Base, Text, Reference, AnyType, CodeType, WideChar, WideText, Named, SequenceOf, EncapsulationOf, base_word, spell_bound, spell_most, spell_type}
 use Rattle.giop_sig.specs.Scopes.{Names, has_encapsulations, is_third, Scope, named, base_number, number_or, sequence_node, add_text_type, add_sequence_type, place}
 use Rattle.giop_sig.specs.Validity.{Kind, IsFree, OfTypeName, OfVersion, OfThird, OfType}
 use Rattle.giop_sig.specs.Outcomes.{refused}
+use Rattle.giop_sig.specs.declared.numbers.TheConstants.{WIDE_STRING}
 use Rattle.giop_sig.specs.declared.read_types.Opener.TheVariants as openers
-use Rattle.giop_sig.specs.TypeReading.{enclosed_at, most_at, TypeRead, base_of, read_as, text_at, closed_by, found_type, named_type, leaf_after, leaf_at, opener_at, nested_at, type_at}
+use Rattle.giop_sig.specs.TypeReading.{enclosed_at, most_at, TypeRead, base_of, read_as, text_at, wide_text_at, closed_by, found_type, named_type, leaf_after, leaf_at, opener_at, nested_at, type_at}
 use Rattle.giop_sig.proofs.PlaceLaws.{within_same, Grown, node_more}
 use Rattle.giop_sig.proofs.SizeReads.{enclosed_reads, most_reads}
 use Rattle.giop_sig.proofs.TokensFew.{tokens_few}
@@ -97,6 +98,21 @@ text_reads s o rest more apart h =
     (enclosed_reads s.table.types marks.OpenAngle marks.CloseAngle rest o more apart h)
     (λ r m keeps. good r m keeps) (λ k w. w) (text_more s o)
 
+pub third_keeps : (names : Names) → is_third names ≡ true → (k : Kind) → OfThird k names
+third_keeps names third kinds.Syntax = third
+third_keeps names third _ = tt
+
+wide_text_reads : (s : Scope) (o : Option ℕ) (rest : List ℕ) (more : List Token)
+    → is_third s.names ≡ true → Apart marks.OpenAngle more → AreTokens rest (spell_bound o more)
+    → Out (placed s (WideText o)) (λ k. OfType k s.names (WideText o))
+    (place s (WideText o)).0.table.types more (wide_text_at s rest)
+unfolding wide_text_at OfType place
+wide_text_reads s o rest more third apart h =
+    out_bind {Y = TypeRead} (enclosed_at marks.OpenAngle marks.CloseAngle rest)
+    (λ b. Ok (s, WIDE_STRING, b.1))
+    (enclosed_reads s.table.types marks.OpenAngle marks.CloseAngle rest o more apart h)
+    (λ r m keeps. good r m (λ k. (third_keeps s.names third k, keeps k))) (λ k w. w.1) within_same
+
 named_keeps : (names : Names) (w : List ℕ) (i : ℕ) → IsFree (is_third names) w → length w ≤ 64
     → named names w ≡ Some i → (k : Kind) → OfTypeName k names w
 named_keeps names w i free short is kinds.Syntax = free
@@ -146,6 +162,8 @@ name_reads left s w text more free h =
       is_not third w (codes "Object") free refl,
       no_later third w (codes "any") free refl,
       no_later third w (codes "TypeCode") free refl,
+      no_later third w (codes "wchar") free refl,
+      no_later third w (codes "wstring") free refl,
     ) (named_reads s text w h.0 more free h.2)
 
 -- what closes a sequence, after its element
@@ -162,10 +180,6 @@ closed_reads s e o rest more m keeps apart =
     (λ r n bound. rw (mark_again marks.CloseAngle r more n)
     (good n.0 n.2 (λ k. (keeps k, bound k))))
     (λ k w. w.1) (node_more (place s e).0 (sequence_node o (place s e).1))
-
-pub third_keeps : (names : Names) → is_third names ≡ true → (k : Kind) → OfThird k names
-third_keeps names third kinds.Syntax = third
-third_keeps names third _ = tt
 
 version_keeps : (names : Names) → has_encapsulations names ≡ true → (k : Kind) → OfVersion k names
 version_keeps names has kinds.Syntax = has
@@ -239,6 +253,20 @@ nested_reads (suc left) s CodeType text more lt free apart h =
       free,
     )
     (good h.0 h.2 (λ k. third_keeps s.names free k))
+nested_reads (suc left) s WideChar text more lt free apart h =
+    rw (
+      leaf_first left s text (codes "wchar") h.0
+          (word_again text (codes "wchar") more h) refl refl,
+      free,
+    )
+    (good h.0 h.2 (λ k. third_keeps s.names free k))
+nested_reads (suc left) s (WideText o) text more lt free apart h =
+    rw (
+      leaf_first left s text (codes "wstring") h.0
+          (word_again text (codes "wstring") (spell_bound o more) h) refl refl,
+      free.0,
+    )
+    (wide_text_reads s o h.0 more free.0 apart h.2)
 nested_reads (suc left) s (Named w) text more lt free apart h =
     name_reads left s w text more free h
 nested_reads (suc left) s (SequenceOf e o) text more lt free apart h =

@@ -12,7 +12,7 @@ use Rattle.giop_cdr.specs.declared.prim.Primitive.TheVariants as prims
 use Rattle.giop_tokens.specs.declared.fault.Refusal.{Refusal}
 use Rattle.giop_tokens.specs.declared.fault.SigFaultKind.TheVariants as kinds
 use Rattle.giop_tokens.specs.declared.marks.Mark.TheVariants as marks
-use Rattle.giop_sig.specs.declared.numbers.TheConstants.{IOR, TYPE_CODE, ANY, BUILTIN_LEN, THIRD_LEN}
+use Rattle.giop_sig.specs.declared.numbers.TheConstants.{IOR, TYPE_CODE, ANY, WIDE_CHAR, WIDE_STRING, BUILTIN_LEN, THIRD_LEN}
 use Rattle.giop_tokens.specs.Tokens.{Token, word, mark, AreTokens}
 use Rattle.giop_tokens.specs.Readers.{misplaced, word_at, mark_at}
 use Rattle.giop_tokens.specs.Reading.{◌>>=◌}
@@ -23,14 +23,14 @@ use Rattle.giop_sig.specs.Table as nodes
 use Rattle.giop_sig.specs.Builtin.{builtin_types}
 use Rattle.giop_sig.specs.AnyTypes.{third_types, first_types}
 use Rattle.giop_sig.specs.RequestList.{flat}
-use Rattle.giop_sig.specs.Grammar.{TypeExpr, Base, Text, Reference, AnyType, CodeType, Named, SequenceOf, EncapsulationOf, base_word, spell_most, spell_type}
+use Rattle.giop_sig.specs.Grammar.{TypeExpr, Base, Text, Reference, AnyType, CodeType, WideChar, WideText, Named, SequenceOf, EncapsulationOf, base_word, spell_most, spell_type}
 use Rattle.giop_sig.specs.declared.read_types.Opener.{Opener}
 use Rattle.giop_sig.specs.declared.read_types.Opener.TheVariants as openers
 use Rattle.giop_sig.specs.Scopes.{Names, has_encapsulations, is_third, Scope, AddedType, named, base_number, with_node, sequence_node, add_text_type, add_sequence_type, add_encapsulation_type}
 use Rattle.giop_sig.specs.Validity.{OfType}
 use Rattle.giop_sig.specs.ScopeViews.{IsKnown, IsDeclaredName, IsScope}
 use Rattle.giop_sig.specs.Outcomes.{refused}
-use Rattle.giop_sig.specs.TypeReading.{TypeRead, most_at, base_of, read_as, text_at, closed_by, found_type, named_type, is_later, leaf_after, leaf_at, Opened, opened_by, opener_after, opener_at, type_after, nested_at, type_at}
+use Rattle.giop_sig.specs.TypeReading.{TypeRead, most_at, base_of, read_as, text_at, wide_text_at, closed_by, found_type, named_type, is_later, leaf_after, leaf_at, Opened, opened_by, opener_after, opener_at, type_after, nested_at, type_at}
 use Rattle.giop_sig.proofs.SizeTaken.{enclosed_takes, most_takes, bound_free}
 use Rattle.giop_sig.proofs.ScopeLaws.{known_stays, scope_grows}
 use Rattle.giop_sig.proofs.ReadingLaws.{Took}
@@ -244,40 +244,84 @@ later_is : (w v : List ℕ) (third : Bool) → (third && bytes_eq w v) ≡ true
 later_is w v true e = (refl, (bytes_eq-Decides w v).0 e)
 later_is w v false e = absurd cc
 
+-- a type by a word of version 3 alone
+later_took : (s : Scope) (text w v rest : List ℕ) (k : ℕ) (expr : TypeExpr)
+    → Takes text (word w) rest → is_later s w v ≡ true
+    → ((more : List Token) → spell_type expr more ≡ word v ∷ more)
+    → (is_third s.names ≡ true → OfType kinds.Syntax s.names expr) → k < THIRD_LEN
+    → TakesOctet (node_in (builtin_types ++ third_types) k) → TakenType s text (s, k, rest)
+later_took s text w v rest k expr t later spells free lt takes =
+    let is = later_is w v (is_third s.names) later in
+    record {
+      expr = expr;
+      took = record {
+        free = free is.0;
+        front = λ more m. subst (AreTokens text) (sym (spells more))
+            (subst (λ u. Takes text (word u) rest) is.1 t more m);
+      };
+      grows = grows_none s;
+      sound = λ h. third_known s k h is.0 lt takes;
+    }
+
+wide_text_took : (s : Scope) (text w rest : List ℕ) (x : TypeRead) → Takes text (word w) rest
+    → is_later s w (codes "wstring") ≡ true → wide_text_at s rest ≡ Ok x → TakenType s text x
+unfolding wide_text_at OfType builtin_types third_types
+wide_text_took s text w rest x t later e =
+    let is = later_is w (codes "wstring") (is_third s.names) later in
+    let b = bind_ok {A = Option ℕ × List ℕ} _ _ x e in
+    let bound = enclosed_takes marks.OpenAngle marks.CloseAngle rest b.0 b.1 in
+    subst (TakenType s text) (ok_is (s, WIDE_STRING, (b.0).1) x b.2) (record {
+      expr = WideText (b.0).0;
+      took = record {
+        free = (is.0, bound_free (b.0).0);
+        front =
+            λ more m. subst (λ v. Takes text (word v) rest) is.1 t _ (bound.front more m);
+      };
+      grows = grows_none s;
+      sound = λ h. third_known s WIDE_STRING h is.0 (lit< tt) tt;
+    })
+
+wide_by : (s : Scope) (text w rest : List ℕ) (x : TypeRead) → Takes text (word w) rest
+    → (a b : Bool) → is_later s w (codes "wchar") ≡ a → is_later s w (codes "wstring") ≡ b
+    → cond a (Ok (s, WIDE_CHAR, rest)) (cond b (wide_text_at s rest) (named_type s text w rest))
+    ≡ Ok x → TakenType s text x
+unfolding OfType builtin_types third_types
+wide_by s text w rest x t true b p q e =
+    subst (TakenType s text) (ok_is (s, WIDE_CHAR, rest) x e)
+    (later_took s text w (codes "wchar") rest WIDE_CHAR WideChar t p (λ more. refl) (λ is. is)
+    (lit< tt) tt)
+wide_by s text w rest x t false true p q e = wide_text_took s text w rest x t q e
+wide_by s text w rest x t false false p q e = search (arith, named_took)
+
+-- wide text by its word, or a type by its name
+abbrev wide_or_named : Scope → List ℕ → List ℕ → List ℕ → Result TypeRead Refusal
+wide_or_named s text w rest =
+    cond (is_later s w (codes "wchar")) (Ok (s, WIDE_CHAR, rest))
+    (cond (is_later s w (codes "wstring")) (wide_text_at s rest) (named_type s text w rest))
+
 later_by : (s : Scope) (text w rest : List ℕ) (x : TypeRead) → Takes text (word w) rest
     → (a b : Bool) → is_later s w (codes "any") ≡ a → is_later s w (codes "TypeCode") ≡ b
-    → cond a (Ok (s, ANY, rest)) (cond b (Ok (s, TYPE_CODE, rest)) (named_type s text w rest))
+    → cond a (Ok (s, ANY, rest)) (cond b (Ok (s, TYPE_CODE, rest)) (wide_or_named s text w rest))
     ≡ Ok x → TakenType s text x
 unfolding OfType builtin_types third_types
 later_by s text w rest x t true b p q e =
-    let is = later_is w (codes "any") (is_third s.names) p in
-    subst (TakenType s text) (ok_is (s, ANY, rest) x e) (record {
-      expr = AnyType;
-      took = record {
-        free = is.0;
-        front = subst (λ v. Takes text (word v) rest) is.1 t;
-      };
-      grows = grows_none s;
-      sound = λ h. third_known s ANY h is.0 (lit< tt) tt;
-    })
+    subst (TakenType s text) (ok_is (s, ANY, rest) x e)
+    (later_took s text w (codes "any") rest ANY AnyType t p (λ more. refl) (λ is. is)
+    (lit< tt) tt)
 later_by s text w rest x t false true p q e =
-    let is = later_is w (codes "TypeCode") (is_third s.names) q in
-    subst (TakenType s text) (ok_is (s, TYPE_CODE, rest) x e) (record {
-      expr = CodeType;
-      took = record {
-        free = is.0;
-        front = subst (λ v. Takes text (word v) rest) is.1 t;
-      };
-      grows = grows_none s;
-      sound = λ h. third_known s TYPE_CODE h is.0 (lit< tt) tt;
-    })
-later_by s text w rest x t false false p q e = search (arith, named_took)
+    subst (TakenType s text) (ok_is (s, TYPE_CODE, rest) x e)
+    (later_took s text w (codes "TypeCode") rest TYPE_CODE CodeType t q (λ more. refl) (λ is. is)
+    (lit< tt) tt)
+later_by s text w rest x t false false p q e =
+    wide_by s text w rest x t (is_later s w (codes "wchar")) (is_later s w (codes "wstring")) refl
+    refl e
 
 -- a type by a word of version 3, or by its name
 abbrev later_or_named : Scope → List ℕ → List ℕ → List ℕ → Result TypeRead Refusal
 later_or_named s text w rest =
     cond (is_later s w (codes "any")) (Ok (s, ANY, rest))
-    (cond (is_later s w (codes "TypeCode")) (Ok (s, TYPE_CODE, rest)) (named_type s text w rest))
+    (cond (is_later s w (codes "TypeCode")) (Ok (s, TYPE_CODE, rest))
+    (wide_or_named s text w rest))
 
 leaf_by : (s : Scope) (text w rest : List ℕ) (x : TypeRead) → Takes text (word w) rest
     → (a b : Bool) → bytes_eq w (codes "string") ≡ a → bytes_eq w (codes "Object") ≡ b

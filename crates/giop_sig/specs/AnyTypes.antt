@@ -1,9 +1,9 @@
--- The types that a file of version 3 begins with beside the built-in ones: any, TypeCode, and what
--- these are made of (CDR Transfer Syntax, Pseudo-Object Types; meaning). A TypeCode on the way from
+-- The types that a file of version 3 begins with beside the built-in ones: any, TypeCode, what these
+-- are made of, and wide text (CDR Transfer Syntax, Pseudo-Object Types; meaning). A TypeCode on the way from
 -- an any to its value is heard, and so are its kind and the bound of a sequence; others are not.
 use Rattle.std.specs.Prelude.{ℕ, ◌+◌, ◌==◌, cond, ◌∷◌, ◌++◌, List, [], map, None, Some, codes}
 use Rattle.giop_cdr.specs.declared.number.Number.TheVariants.{Unsigned}
-use Rattle.giop_sig.specs.declared.numbers.TheConstants.{CHAR, BOOLEAN, SHORT, USHORT, LONG, ULONG, LONGLONG, ULONGLONG, FLOAT, DOUBLE, STRING, IOR, SEQUENCES, HEARD_KIND, KIND, HEARD_BOUND, FIXED_PARAMETERS, HEARD_TYPE_CODE, TYPE_CODE, ANY, NAMED, NAMED_DATA, TYPE_MEMBER, TYPE_MEMBERS, STRUCT, STRUCT_DATA, UNION, UNION_DATA, ENUM, ENUM_DATA, HEARD_SEQUENCE, HEARD_SEQUENCE_DATA, SEQUENCE, SEQUENCE_DATA, ARRAY, ARRAY_DATA, HEARD_ALIAS, HEARD_ALIAS_DATA, ALIAS, ALIAS_DATA, VALUE_MEMBER, VALUE_MEMBERS, VALUE, VALUE_DATA, VALUE_BOX, VALUE_BOX_DATA}
+use Rattle.giop_sig.specs.declared.numbers.TheConstants.{CHAR, BOOLEAN, SHORT, USHORT, LONG, ULONG, LONGLONG, ULONGLONG, FLOAT, DOUBLE, STRING, IOR, SEQUENCES, HEARD_KIND, KIND, HEARD_BOUND, FIXED_PARAMETERS, HEARD_TYPE_CODE, TYPE_CODE, ANY, NAMED, NAMED_DATA, TYPE_MEMBER, TYPE_MEMBERS, STRUCT, STRUCT_DATA, UNION, UNION_DATA, ENUM, ENUM_DATA, HEARD_SEQUENCE, HEARD_SEQUENCE_DATA, SEQUENCE, SEQUENCE_DATA, ARRAY, ARRAY_DATA, HEARD_ALIAS, HEARD_ALIAS_DATA, ALIAS, ALIAS_DATA, VALUE_MEMBER, VALUE_MEMBERS, VALUE, VALUE_DATA, VALUE_BOX, VALUE_BOX_DATA, WIDE_CHAR, WIDE_STRING}
 use Rattle.giop_sig.specs.Table.{Part, Case, Node}
 use Rattle.giop_sig.specs.Table as nodes
 use Rattle.giop_sig.specs.Builtin.{builtin_types, member}
@@ -98,6 +98,11 @@ third_types =
     ∷ (nodes.encapsulation VALUE)
     ∷ (named_with (member (codes "boxed") TYPE_CODE ∷ []))
     ∷ (nodes.encapsulation VALUE_BOX)
+    -- wide text
+    ∷ nodes.wide_char
+    ∷ (nodes.sequence None WIDE_CHAR)
+    ∷ nodes.wide_text
+    ∷ (nodes.sequence None WIDE_STRING)
     ∷ []
 
 -- the types with which a file of a version begins

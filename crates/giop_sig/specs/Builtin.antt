@@ -1,7 +1,7 @@
 -- The built-in types, with which every catalogue begins: the primitives, and what the headers and
 -- bodies of GIOP are made of (GIOP Message Formats; Interoperable Object References; meaning). The
 -- type of a number is the one at that place of the list.
-use Rattle.std.specs.Prelude.{ℕ, pos, List, [], ◌∷◌, None, codes}
+use Rattle.std.specs.Prelude.{ℕ, pos, false, List, [], ◌∷◌, None, codes}
 use Rattle.giop_cdr.specs.declared.prim.Primitive.TheVariants as prims
 use Rattle.giop_cdr.specs.declared.number.Number.TheVariants.{Signed}
 use Rattle.giop_sig.specs.declared.numbers.TheConstants.{OCTET, BOOLEAN, SHORT, USHORT, ULONG, STRING, OCTETS, CODE_SETS, CODE_SETS_DATA, SERVICE_CONTEXT, SERVICE_CONTEXTS, IIOP, IIOP_DATA, TAGGED_PROFILE, TAGGED_PROFILES, IOR, IOR_ADDRESS, TARGET, COMPLETED, RESERVED, REPLY_STATUS, REPLY_STATUS_1_2, LOCATE_STATUS, LOCATE_STATUS_1_2}
@@ -213,4 +213,5 @@ builtin_table = record {
   interfaces = no_interfaces;
   identities = [];
   fronts = first_fronts;
+  narrow = false;
 }

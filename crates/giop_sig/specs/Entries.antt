@@ -1,5 +1,5 @@
 -- The fields of a catalogue as contracts see them: its table (state).
-use Rattle.std.specs.Prelude.{ℕ, List, map}
+use Rattle.std.specs.Prelude.{ℕ, false, List, map}
 use Rattle.arrayvec.specs.ArrayVec.{ArrayVec}
 use Rattle.giop_sig.specs.declared.types.TypeId.{TypeId}
 use Rattle.giop_sig.specs.declared.catalogue.Signature.{Signature}
@@ -29,4 +29,5 @@ table_view version types operations exceptions declared called interfaces identi
       interfaces = interfaces;
       identities = map identity_view identities;
       fronts = map (λ f. f.items) fronts;
+      narrow = false;
     }

@@ -21,6 +21,9 @@ pub data TypeExpr : Type 0 where
   AnyType : TypeExpr
   -- a TypeCode alone
   CodeType : TypeExpr
+  -- a wide character, and a wide string, perhaps with a bound, which counts characters
+  WideChar : TypeExpr
+  WideText : Option ℕ → TypeExpr
   -- an enum, struct or union by its name
   Named : List ℕ → TypeExpr
   SequenceOf : TypeExpr → Option ℕ → TypeExpr
@@ -60,6 +63,8 @@ spell_type (Text bound) more = word (codes "string") ∷ spell_bound bound more
 spell_type Reference more = word (codes "Object") ∷ more
 spell_type AnyType more = word (codes "any") ∷ more
 spell_type CodeType more = word (codes "TypeCode") ∷ more
+spell_type WideChar more = word (codes "wchar") ∷ more
+spell_type (WideText bound) more = word (codes "wstring") ∷ spell_bound bound more
 spell_type (Named w) more = word w ∷ more
 spell_type (SequenceOf e bound) more =
     word (codes "sequence") ∷ mark marks.OpenAngle

@@ -85,6 +85,8 @@ pub record IsIdentity (types : List Node) (e : Identity) : Type 0 where
 
 -- a node of a type that no file of version 1 or 2 needs
 abbrev pub IsPlain : Node → Type 0
+IsPlain nodes.wide_text = ⊥
+IsPlain nodes.wide_char = ⊥
 IsPlain (nodes.marked mark) = ⊥
 IsPlain (nodes.any code) = ⊥
 IsPlain (nodes.typecode wide kind cases) = ⊥
@@ -99,8 +101,8 @@ AreDistinct name_in d xs =
     (i j : ℕ) → i < length xs → j < length xs
     → name_in (slice_index_or xs i d) ≡ name_in (slice_index_or xs j d) → i ≡ j
 
--- Types and fronts of ids by which the value of an any is known. Only those of version 3 have anys,
--- TypeCodes and what these are made of.
+-- Types and fronts of ids by which the value of an any is known. Only those of version 3 have wide
+-- text, anys, TypeCodes and what these are made of.
 pub record KnowsAnys (version : ℕ) (types : List Node) (fronts : List (List ℕ)) : Type 0 where
   pub plain : (version ≡ 3 → ⊥) → ArePlain types
   pub wide : AreWide types

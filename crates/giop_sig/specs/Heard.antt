@@ -3,7 +3,7 @@
 use Rattle.std.specs.Prelude.{ℕ, zero, suc, ◌+◌, ◌==◌, nat_le, nat_lt, cond, Bool, true, false, List, [], ◌∷◌, ◌++◌, length, take, Option, Some, None, position, slice_index_or}
 use Rattle.std.specs.List.{list_any}
 use Rattle.std.specs.Str.{bytes_eq}
-use Rattle.giop_sig.specs.declared.numbers.TheConstants.{OCTET, CHAR, BOOLEAN, SHORT, USHORT, LONG, ULONG, LONGLONG, ULONGLONG, FLOAT, DOUBLE, STRING, OCTETS, IOR, ANY, TYPE_CODE, SEQUENCES, REFERENCES}
+use Rattle.giop_sig.specs.declared.numbers.TheConstants.{OCTET, CHAR, BOOLEAN, SHORT, USHORT, LONG, ULONG, LONGLONG, ULONGLONG, FLOAT, DOUBLE, STRING, OCTETS, IOR, ANY, TYPE_CODE, SEQUENCES, REFERENCES, WIDE_CHAR, WIDE_STRING}
 use Rattle.giop_sig.specs.declared.types.TypeId.{TypeId}
 use Rattle.giop_sig.specs.Types.{Sign, MarkedNumber, Counted, Spelt, Told, Awaits, Offers, Is, Empty, Unknown, Sequel, Then, Ends, Stops}
 use Rattle.giop_sig.specs.Table.{Node, Table, node_at, identified_in}
@@ -18,7 +18,7 @@ told_kinds =
     Empty ∷ Empty ∷ Is SHORT ∷ Is LONG ∷ Is USHORT ∷ Is ULONG ∷ Is FLOAT ∷ Is DOUBLE ∷ Is BOOLEAN
     ∷ Is CHAR ∷ Is OCTET ∷ Is ANY ∷ Is TYPE_CODE ∷ Is OCTETS ∷ Is IOR ∷ Awaits 0
     ∷ Awaits 1 ∷ Awaits 2 ∷ Is STRING ∷ Unknown ∷ Unknown ∷ Unknown ∷ Unknown
-    ∷ Is LONGLONG ∷ Is ULONGLONG ∷ []
+    ∷ Is LONGLONG ∷ Is ULONGLONG ∷ Unknown ∷ Is WIDE_CHAR ∷ Is WIDE_STRING ∷ []
 
 abbrev pub told_by : ℕ → Told
 told_by kind = slice_index_or told_kinds kind Unknown
@@ -29,7 +29,7 @@ abbrev pub is_sequence_of : ℕ → Node → Bool
 is_sequence_of i (nodes.sequence None element) = element == i
 is_sequence_of i node = false
 
--- the sequence of a type that has an id is the next type
+-- the sequence of a type that has an id, or of wide text, is the next type
 abbrev pub next_sequence : Table → ℕ → Told
 next_sequence t i = cond (is_sequence_of i (node_at t (i + 1))) (Is (i + 1)) Unknown
 

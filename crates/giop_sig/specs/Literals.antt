@@ -25,6 +25,8 @@ abbrev pub literal_node : Literal → Node
 literal_node (literals.Prim p) = nodes.prim p
 literal_node literals.Text = nodes.text None
 literal_node literals.Octets = nodes.octets None
+literal_node literals.WideText = nodes.wide_text
+literal_node literals.WideChar = nodes.wide_char
 literal_node (literals.Names names) = nodes.enumeration (map (λ n. n.now) names.now)
 literal_node (literals.Members parts) = nodes.members (map literal_part parts.now)
 literal_node (literals.Target switch cases) =

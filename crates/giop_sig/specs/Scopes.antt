@@ -7,7 +7,7 @@ use Rattle.giop_cdr.specs.declared.prim.Primitive.{Primitive}
 use Rattle.giop_cdr.specs.declared.prim.Primitive.TheVariants as prims
 use Rattle.giop_cdr.specs.declared.number.Number.{Number}
 use Rattle.giop_cdr.specs.declared.number.Number.TheVariants as numbers
-use Rattle.giop_sig.specs.declared.numbers.TheConstants.{STRING, IOR, TYPE_CODE, ANY}
+use Rattle.giop_sig.specs.declared.numbers.TheConstants.{STRING, IOR, TYPE_CODE, ANY, WIDE_CHAR, WIDE_STRING}
 use Rattle.giop_sig.specs.declared.read_calls.Direction.{Direction}
 use Rattle.giop_sig.specs.declared.read_calls.Direction.TheVariants as directions
 use Rattle.giop_sig.specs.declared.types.Selected.{Selected}
@@ -20,7 +20,7 @@ use Rattle.giop_sig.specs.Interfaces.{with_key}
 use Rattle.giop_sig.specs.Builtin.{builtin_table}
 use Rattle.giop_sig.specs.AnyTypes.{first_types}
 use Rattle.giop_sig.specs.RequestList.{flat}
-use Rattle.giop_sig.specs.Grammar.{TypeExpr, Base, Text, Reference, AnyType, CodeType, Named, SequenceOf, EncapsulationOf, Item, Value, Plain, Below, Truth, Enumerator, Label, Default, Of, UnionCase, Param, Declaration, Enumeration, Structure, DeclaredUnion, DeclaredException, Call, KeyOf, SignatureFile}
+use Rattle.giop_sig.specs.Grammar.{TypeExpr, Base, Text, Reference, AnyType, CodeType, WideChar, WideText, Named, SequenceOf, EncapsulationOf, Item, Value, Plain, Below, Truth, Enumerator, Label, Default, Of, UnionCase, Param, Declaration, Enumeration, Structure, DeclaredUnion, DeclaredException, Call, KeyOf, SignatureFile}
 
 -- The type names of a file: the file's version, and the names of enums, structs and unions, each
 -- with its type's number, and of exceptions, with none.
@@ -103,6 +103,8 @@ place s (Text bound) = add_text_type s bound
 place s Reference = (s, IOR)
 place s AnyType = (s, ANY)
 place s CodeType = (s, TYPE_CODE)
+place s WideChar = (s, WIDE_CHAR)
+place s (WideText bound) = (s, WIDE_STRING)
 place s (Named w) = (s, number_or (named s.names w))
 place s (SequenceOf e bound) = add_sequence_type bound (place s e)
 place s (EncapsulationOf e) = add_encapsulation_type (place s e)

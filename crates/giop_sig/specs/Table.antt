@@ -1,6 +1,6 @@
 -- The table that a catalogue is: one node for each type, which names the types of its parts by
 -- their numbers, and the operations and exceptions by their names (meaning).
-use Rattle.std.specs.Prelude.{ℕ, zero, suc, nat_lt, ◌+◌, ◌/◌, ◌%◌, ◌<◌, ◌≤◌, ◌==◌, Bool, true, false, cond, List, [], ◌∷◌, ◌++◌, length, Option, Some, None, slice_index_or, slice_get, position}
+use Rattle.std.specs.Prelude.{ℕ, zero, suc, nat_lt, ◌+◌, ◌/◌, ◌%◌, ◌<◌, ◌≤◌, ◌==◌, ◌&&◌, Bool, true, false, cond, List, [], ◌∷◌, ◌++◌, length, Option, Some, None, slice_index_or, slice_get, position}
 use Rattle.std.specs.Ordering.{int_eq}
 use mathlib.Core.Bool.{beq}
 use Rattle.std.specs.List.{list_any, All}
@@ -38,6 +38,8 @@ pub data Node : Type 0 where
   enumeration : List (List ℕ) → Node
   text : Option ℕ → Node
   octets : Option ℕ → Node
+  wide_text : Node
+  wide_char : Node
   members : List Part → Node
   -- the discriminator's type, the cases, and what is selected where no label is the number
   union : ℕ → List Case → Selected → Node
@@ -65,6 +67,8 @@ shape_of (prim p) = shapes.Prim p
 shape_of (enumeration names) = shapes.Enumeration (length names)
 shape_of (text bound) = shapes.Text bound
 shape_of (octets bound) = shapes.Octets bound
+shape_of wide_text = shapes.WideText
+shape_of wide_char = shapes.WideChar
 shape_of (members parts) = shapes.Members (length parts)
 shape_of (union switch cases otherwise) = shapes.Union (length cases)
 shape_of (sequence bound element) = shapes.Sequence bound
@@ -181,7 +185,8 @@ pub record Identity : Type 0 where
   pub type : ℕ
 
 -- the version is that of the signature file, 1 where there is none; the built-in types come first;
--- declared is how many enums, structs and unions the file added, and called how many operations
+-- declared is how many enums, structs and unions the file added, and called how many operations; it
+-- is narrow where a message of 1.0 or 1.1 is read by it, in which wide text has no room
 pub record Table : Type 0 where
   pub version : ℕ
   pub types : List Node
@@ -194,6 +199,19 @@ pub record Table : Type 0 where
   -- the fronts of these ids, each after the octet of its kind: in each kind the empty one, and the
   -- first 32, 64 and 96 octets of those that have more
   pub fronts : List (List ℕ)
+  pub narrow : Bool
+
+-- the table as messages of 1.0 and 1.1 are read by it, or as others are
+abbrev pub seen : Bool → Table → Table
+seen narrow t = record t { narrow = narrow }
+
+-- Whether wide text has no room in messages of a minor version: only tables of version 3 have any.
+abbrev pub is_narrow : ℕ → Table → Bool
+is_narrow minor t = nat_lt minor 2 && t.version == 3
+
+-- the table as messages of a minor version are read by it
+abbrev pub in_version : ℕ → Table → Table
+in_version minor t = seen (is_narrow minor t) t
 
 abbrev pub node_at : Table → ℕ → Node
 node_at t i = node_in t.types i
@@ -370,6 +388,8 @@ IsFormed types n (prim p) = Unit {0}
 IsFormed types n (enumeration names) = (length names ≤ 1024) × All (λ name. length name ≤ 64) names
 IsFormed types n (text bound) = Unit {0}
 IsFormed types n (octets bound) = Unit {0}
+IsFormed types n wide_text = Unit {0}
+IsFormed types n wide_char = Unit {0}
 IsFormed types n (members parts) = (length parts ≤ 256) × All (IsPart types n) parts
 IsFormed types n (union switch cases otherwise) =
     IsSwitch types n switch × (length cases ≤ 256) × All (λ c. IsPart types n c.part) cases

@@ -1,5 +1,5 @@
 -- The trees of a table's types, and what holds of a table as a whole (meaning).
-use Rattle.std.specs.Prelude.{ℕ, zero, suc, ◌+◌, ◌^◌, ◌<◌, ◌≤◌, ◌==◌, ◌&&◌, nat_lt, nat_le, cond, Bool, max, List, [], length, Option, Some, None, slice_index_or, slice_get}
+use Rattle.std.specs.Prelude.{ℕ, zero, suc, ◌+◌, ◌^◌, ◌<◌, ◌≤◌, ◌==◌, ◌&&◌, ◌||◌, not, nat_lt, nat_le, cond, Bool, true, false, max, List, [], length, Option, Some, None, slice_index_or, slice_get}
 use Rattle.std.specs.List.{All}
 use Rattle.giop_cdr.specs.declared.prim.Primitive.TheVariants as prims
 use Rattle.giop_cdr.specs.declared.number.Number.{Number}
@@ -7,7 +7,7 @@ use Rattle.giop_sig.specs.declared.types.Shape.{Shape}
 use Rattle.giop_sig.specs.declared.types.Shape.TheVariants as shapes
 use Rattle.giop_sig.specs.declared.types.Selected.{Selected}
 use Rattle.giop_sig.specs.declared.types.Selected.TheVariants.{Nothing}
-use Rattle.giop_sig.specs.Types.{Choice, Cases, Tag, Scalar, Plain, Enum, interpreted_by, Ty, Single, Text, Octets, Struct, Union, Sequence, Array, Encapsulation, Led, Marked, Hearing, most}
+use Rattle.giop_sig.specs.Types.{Choice, Cases, Tag, Scalar, Plain, Enum, interpreted_by, Ty, Single, Text, Octets, Raw, WideText, WideChar, Struct, Union, Sequence, Array, Encapsulation, Led, Marked, Hearing, most}
 use Rattle.giop_sig.specs.Heard.{hears, selects}
 use Rattle.giop_sig.specs.Table.{Part, Node, Table, IsFormed, TakesOctet, takes_octet, name_of, node_at, node_in, part_at, shape_of, switch_at, type_of, selected}
 use Rattle.giop_sig.specs.Table as nodes
@@ -55,7 +55,9 @@ grow h tree (nodes.typecode wide kind cases) =
 grow h tree (nodes.enumeration names) =
     Single (Enum (length names) (λ i. name_or (slice_get names i)))
 grow h tree (nodes.text bound) = Text bound
-grow h tree (nodes.octets bound) = Octets bound
+grow h tree (nodes.octets bound) = Octets (Raw bound)
+grow h tree nodes.wide_text = Octets WideText
+grow h tree nodes.wide_char = Octets WideChar
 grow h tree (nodes.members parts) =
     Struct (length parts) (λ i. name_of (slice_get parts i))
     (λ i. grown_part tree (slice_get parts i))
@@ -108,6 +110,45 @@ node_depth types node = depth_by (shape_of node) (part_depth types node)
 unfoldable pub depth_of : List Node → ℕ
 depth_of types = most (length types) (depth_in types)
 
+-- ---- wide text
+
+-- whether one of the first so many is
+abbrev pub some_of : ℕ → (ℕ → Bool) → Bool
+some_of zero f = false
+some_of (suc n) f = some_of n f || f n
+
+-- Whether a shape has wide text: it is one, or one of its parts has it. What an any carries is
+-- aside.
+abbrev pub wide_by : Shape → (ℕ → Bool) → Bool
+wide_by shapes.WideText f = true
+wide_by shapes.WideChar f = true
+wide_by (shapes.Members count) f = some_of count f
+wide_by (shapes.Union count) f = some_of count f
+wide_by shapes.Tagged f = some_of 3 f
+wide_by (shapes.Sequence bound) f = f 0
+wide_by (shapes.Array count) f = f 0
+wide_by shapes.Encapsulation f = f 0
+wide_by s f = false
+
+-- whether the type with a number has it, where the parts that are so far down have none
+unfoldable pub wide_at : List Node → ℕ → ℕ → Bool
+wide_at types zero i = false
+wide_at types (suc n) i =
+    wide_by (shape_of (node_in types i))
+    (λ k. wide_at types n (type_of (part_at (node_in types i) k)))
+
+-- whether a type has wide text; its parts have smaller numbers
+abbrev pub wide_in : List Node → ℕ → Bool
+wide_in types i = wide_at types (i + suc greatest_depth) i
+
+-- whether the type that a node names in a place has it
+abbrev pub part_wide : List Node → Node → ℕ → Bool
+part_wide types node k = wide_in types (type_of (part_at node k))
+
+-- whether a node's type would have it
+abbrev pub node_wide : List Node → Node → Bool
+node_wide types node = wide_by (shape_of node) (part_wide types node)
+
 -- ---- the trees, in so much room
 
 -- how much room the parameters of a TypeCode take: an encapsulation, its struct, the members, a
@@ -125,11 +166,14 @@ in_room room node = node
 abbrev pub part_number_in : Table → ℕ → ℕ → ℕ → ℕ
 part_number_in t room id i = type_of (part_at (in_room room (node_at t id)) i)
 
--- whether a type can follow in an any: there is one of that number, it takes some octet, and it has
--- room
-abbrev pub follows : Table → ℕ → ℕ → Bool
-follows t room i =
+-- whether there is a type of a number that takes some octet, and has room
+abbrev pub has_room : Table → ℕ → ℕ → Bool
+has_room t room i =
     nat_lt i (length t.types) && takes_octet (node_at t i) && nat_le (depth_in t.types i) room
+
+-- whether it can follow in an any: in a message of 1.0 or 1.1 wide text has no room
+abbrev pub follows : Table → ℕ → ℕ → Bool
+follows t room i = has_room t room i && not (t.narrow && wide_in t.types i)
 
 -- how an any is heard
 abbrev pub any_hearing : Table → ℕ → Hearing

@@ -8,7 +8,7 @@ use Rattle.giop_tokens.specs.declared.marks.Mark.TheVariants as marks
 use Rattle.giop_tokens.specs.Reading.{◌>>=◌}
 use Rattle.giop_tokens.specs.Readers.{misplaced, word_at, number_at, mark_at, mark_if}
 use Rattle.giop_tokens.specs.Names.{is_reserved}
-use Rattle.giop_sig.specs.declared.numbers.TheConstants.{IOR, TYPE_CODE, ANY}
+use Rattle.giop_sig.specs.declared.numbers.TheConstants.{IOR, TYPE_CODE, ANY, WIDE_CHAR, WIDE_STRING}
 use Rattle.giop_sig.specs.declared.read_types.Opener.{Opener}
 use Rattle.giop_sig.specs.declared.read_types.Opener.TheVariants as openers
 use Rattle.giop_sig.specs.Scopes.{has_encapsulations, is_third, Scope, AddedType, named, add_text_type, add_sequence_type, add_encapsulation_type}
@@ -79,6 +79,12 @@ text_at s rest = do
   b ← enclosed_at marks.OpenAngle marks.CloseAngle rest
   Ok (read_as (add_text_type s b.0) b.1)
 
+-- a wide string, after its word
+unfoldable pub wide_text_at : Scope → List ℕ → Result TypeRead Refusal
+wide_text_at s rest = do
+  b ← enclosed_at marks.OpenAngle marks.CloseAngle rest
+  Ok (s, WIDE_STRING, b.1)
+
 -- a sequence, after the type of its elements: perhaps a bound, and the closing mark
 abbrev pub after_element : TypeRead → Result TypeRead Refusal
 after_element e = do
@@ -118,8 +124,10 @@ leaf_after s text w rest None =
     if bytes_eq w (codes "string") then text_at s rest else
     (if bytes_eq w (codes "Object") then Ok (s, IOR, rest) else
     (if is_later s w (codes "any") then Ok (s, ANY, rest) else
-    (if is_later s w (codes "TypeCode") then Ok (s, TYPE_CODE, rest)
-    else named_type s text w rest)))
+    (if is_later s w (codes "TypeCode") then Ok (s, TYPE_CODE, rest) else
+    (if is_later s w (codes "wchar") then Ok (s, WIDE_CHAR, rest) else
+    (if is_later s w (codes "wstring") then wide_text_at s rest
+    else named_type s text w rest)))))
 
 -- a type that has no other in angle brackets
 unfoldable pub leaf_at : Scope → List ℕ → Result TypeRead Refusal

@@ -93,12 +93,31 @@ abbrev pub sequel : Hearing → Told → Sequel
 sequel h Untold = Ends
 sequel h told = h.selects told
 
+-- Octets with their number in front: those of a sequence, perhaps with a bound, of a wide string, or
+-- of a wide character (CDR Transfer Syntax, Strings and Wide Strings, Wide Characters). The bound of
+-- a wide string counts characters, and is none of its octets.
+pub data OctetKind : Type 0 where
+  Raw : Option ℕ → OctetKind
+  WideText : OctetKind
+  WideChar : OctetKind
+
+-- how many octets their number takes
+abbrev pub size_width : OctetKind → ℕ
+size_width (Raw bound) = 4
+size_width WideText = 4
+size_width WideChar = 1
+
+-- how many there may be
+abbrev pub bound_of : OctetKind → Option ℕ
+bound_of (Raw bound) = bound
+bound_of kind = None
+
 pub data Ty : Type 0 where
   Single : Scalar → Ty
   -- a string, perhaps with a bound
   Text : Option ℕ → Ty
-  -- a sequence of octets, perhaps with a bound
-  Octets : Option ℕ → Ty
+  -- octets of a kind
+  Octets : OctetKind → Ty
   -- how many parts, their names, their types
   Struct : ℕ → (ℕ → List ℕ) → (ℕ → Ty) → Ty
   -- the choice, the discriminator, what each of its numbers selects, the cases' names and types
@@ -160,13 +179,18 @@ abbrev pub union_shape : Choice → Shape
 union_shape (Cases n) = shapes.Union n
 union_shape Tag = shapes.Tagged
 
+abbrev pub octets_shape : OctetKind → Shape
+octets_shape (Raw bound) = shapes.Octets bound
+octets_shape WideText = shapes.WideText
+octets_shape WideChar = shapes.WideChar
+
 -- what a type's outermost form is
 abbrev pub shape_in : Ty → Shape
 shape_in (Single (Plain p)) = shapes.Prim p
 shape_in (Single (Enum count names)) = shapes.Enumeration count
 shape_in (Single (Marked mark)) = shapes.Marked mark
 shape_in (Text bound) = shapes.Text bound
-shape_in (Octets bound) = shapes.Octets bound
+shape_in (Octets kind) = octets_shape kind
 shape_in (Struct count names parts) = shapes.Members count
 shape_in (Union choice scalar select names cases) = union_shape choice
 shape_in (Sequence bound T) = shapes.Sequence bound
@@ -181,7 +205,9 @@ HasShape T (shapes.Enumeration count) = (names : ℕ → List ℕ) × (T ≡ Sin
 HasShape T (shapes.Marked mark) = T ≡ Single (Marked mark)
 HasShape T shapes.Led = (h : Hearing) × (F : Ty) × (parts : ℕ → Ty) × (T ≡ Led h F parts)
 HasShape T (shapes.Text bound) = T ≡ Text bound
-HasShape T (shapes.Octets bound) = T ≡ Octets bound
+HasShape T (shapes.Octets bound) = T ≡ Octets (Raw bound)
+HasShape T shapes.WideText = T ≡ Octets WideText
+HasShape T shapes.WideChar = T ≡ Octets WideChar
 HasShape T (shapes.Members count) =
     (names : ℕ → List ℕ) × (parts : ℕ → Ty) × (T ≡ Struct count names parts)
 HasShape T (shapes.Union count) =
@@ -234,7 +260,7 @@ most (suc n) f = max (most n f) (f n)
 unfoldable pub depth : Ty → ℕ
 depth (Single scalar) = 1
 depth (Text bound) = 1
-depth (Octets bound) = 1
+depth (Octets kind) = 1
 depth (Struct count names parts) = 1 + most count (λ i. depth (parts i))
 depth (Union choice scalar select names cases) =
     1 + max 1 (most (places_of choice) (λ i. depth (cases i)))

@@ -16,7 +16,7 @@ use Rattle.giop_sig.specs.Interfaces.{Interfaces, is_key, number_of, of_text}
 use Rattle.giop_sig.specs.Table.{Part, Node, Table, node_at, operation_key, keyed_number, with_variant, exception_in, identified_in}
 use Rattle.giop_sig.specs.Table as nodes
 use Rattle.giop_sig.specs.Trees.{depth_of}
-use Rattle.giop_sig.specs.Grammar.{TypeExpr, Base, Text, Reference, AnyType, CodeType, Named, SequenceOf, EncapsulationOf, Item, Value, Plain, Below, Truth, Enumerator, Label, Default, Of, UnionCase, Param, Declaration, Enumeration, Structure, DeclaredUnion, DeclaredException, Call, KeyOf, SignatureFile, is_version, spell_file}
+use Rattle.giop_sig.specs.Grammar.{TypeExpr, Base, Text, Reference, AnyType, CodeType, WideChar, WideText, Named, SequenceOf, EncapsulationOf, Item, Value, Plain, Below, Truth, Enumerator, Label, Default, Of, UnionCase, Param, Declaration, Enumeration, Structure, DeclaredUnion, DeclaredException, Call, KeyOf, SignatureFile, is_version, spell_file}
 use Rattle.giop_sig.specs.Scopes.{Names, has_encapsulations, is_third, Scope, AddedType, first_scope, AddedParameters, add_struct_type, add_params, add_return, named, place, label_number, labels_of, declare, scope_after}
 
 abbrev pub Kind : Type 0
@@ -67,7 +67,7 @@ abbrev pub OfVersion : Kind → Names → Type 0
 OfVersion kinds.Syntax names = has_encapsulations names ≡ true
 OfVersion k names = Unit {0}
 
--- only a file of version 3 has interfaces, anys and TypeCodes
+-- only a file of version 3 has interfaces, anys, TypeCodes and wide text
 abbrev pub OfThird : Kind → Names → Type 0
 OfThird kinds.Syntax names = is_third names ≡ true
 OfThird k names = Unit {0}
@@ -78,6 +78,8 @@ OfType k names (Text bound) = OfBound k bound
 OfType k names Reference = Unit {0}
 OfType k names AnyType = OfThird k names
 OfType k names CodeType = OfThird k names
+OfType k names WideChar = OfThird k names
+OfType k names (WideText bound) = OfThird k names × OfBound k bound
 OfType k names (Named w) = OfTypeName k names w
 OfType k names (SequenceOf e bound) = OfType k names e × OfBound k bound
 OfType k names (EncapsulationOf e) = OfVersion k names × OfType k names e

@@ -1,12 +1,13 @@
 -- The entries of a catalogue's types as contracts see them (state).
-use Rattle.std.specs.Prelude.{◌≡◌, ℕ, ◌<◌, ◌≤◌, List, length, map, slice_index_or, Some}
+use Rattle.std.specs.Prelude.{◌≡◌, ℕ, ◌<◌, ◌≤◌, false, List, length, map, slice_index_or, Some}
 use Rattle.giop_sig.specs.declared.entries.TagEntry.{TagEntry}
 use Rattle.giop_sig.specs.declared.entries.Entry.{Entry}
 use Rattle.giop_sig.specs.declared.entries.Entry.TheVariants as entries
 use Rattle.giop_sig.specs.declared.entries.EntryWithDepth.{EntryWithDepth}
 use Rattle.giop_sig.specs.declared.entries.TypeCodeEntry.{TypeCodeEntry}
-use Rattle.giop_sig.specs.Table.{Node, prim, enumeration, text, octets, members, union, sequence, array, encapsulation, tagged, marked, any, typecode}
-use Rattle.giop_sig.specs.Trees.{AreFormed, depth_in, depth_of}
+use Rattle.giop_sig.specs.HeaderTypes.{IsTable}
+use Rattle.giop_sig.specs.Table.{Node, Table, prim, enumeration, text, octets, wide_text, wide_char, members, union, sequence, array, encapsulation, tagged, marked, any, typecode}
+use Rattle.giop_sig.specs.Trees.{AreFormed, depth_in, depth_of, wide_in}
 use Rattle.giop_sig.specs.UnionCases.{part_view}
 
 abbrev pub tag_view : TagEntry → Node
@@ -20,6 +21,8 @@ node_view (entries.Prim p) = prim p
 node_view (entries.Enumeration names) = enumeration (map (λ n. n.items) names.items)
 node_view (entries.Text bound) = text bound
 node_view (entries.Octets bound) = octets bound
+node_view entries.WideText = wide_text
+node_view entries.WideChar = wide_char
 node_view (entries.Members parts) = members (map part_view parts.items)
 node_view (entries.Union switch cases otherwise) =
     union switch.0 cases otherwise
@@ -42,9 +45,16 @@ IsSized entry = Unit {0}
 abbrev pub nodes_view : List EntryWithDepth → List Node
 nodes_view ps = map (λ p. node_view p.entry) ps
 
--- entries with the depths of their types, and the greatest of these
+-- a table as it is seen, and the entries of its types
+pub record IsSeen (t : Table) (ps : List EntryWithDepth) : Type 0 where
+  pub table : IsTable t
+  pub entries : nodes_view ps ≡ t.types
+
+-- entries with the depths of their types, whether these have wide text, and the greatest depth
 pub record IsKept (ps : List EntryWithDepth) (deepest : ℕ) : Type 0 where
   pub types : AreFormed (nodes_view ps)
   pub each : (i : ℕ) → i < length ps
       → slice_index_or (map (λ p. p.depth) ps) i 0 ≡ depth_in (nodes_view ps) i
+  pub wide : (i : ℕ) → i < length ps
+      → slice_index_or (map (λ p. p.wide) ps) i false ≡ wide_in (nodes_view ps) i
   pub greatest : deepest ≡ depth_of (nodes_view ps)

@@ -1,5 +1,5 @@
-//! The types that every catalogue of a file of version 3 has beside the built-in ones: `any`, `TypeCode`, and what these
-//! are made of (CDR, TypeCode and any).
+//! The types that every catalogue of a file of version 3 has beside the built-in ones: `any`, `TypeCode`, what these are
+//! made of (CDR, TypeCode and any), and wide text.
 
 ghost use Rattle.std.specs.Prelude.{◌≡◌, ◌-◌, ◌<◌, ◌≤◌};
 ghost use Rattle.giop_sig.specs.AnyTypes.{third_types};
@@ -14,6 +14,7 @@ use crate::numbers::{
     LONG, NAMED, NAMED_DATA, REFERENCES, SEQUENCE, SEQUENCE_DATA, SEQUENCES, SHORT, STRING, STRUCT,
     STRUCT_DATA, THIRD_LEN, TYPE_CODE, TYPE_CODES, TYPE_MEMBER, TYPE_MEMBERS, ULONG, UNION,
     UNION_DATA, USHORT, VALUE, VALUE_BOX, VALUE_BOX_DATA, VALUE_DATA, VALUE_MEMBER, VALUE_MEMBERS,
+    WIDE_CHAR, WIDE_CHARS, WIDE_STRING, WIDE_STRINGS,
 };
 
 /// The name of what follows most kinds.
@@ -29,8 +30,10 @@ pub(crate) fn third_literal(number: u32) -> Literal
         coded(number)
     } else if number < HEARD_SEQUENCE {
         named(number)
-    } else {
+    } else if number < WIDE_CHAR {
         holding(number)
+    } else {
+        wide(number)
     }
 }
 
@@ -129,7 +132,7 @@ fn named(number: u32) -> Literal
 #[tactic(auto, unfolding(crate::specs::AnyTypes::third_types))]
 fn holding(number: u32) -> Literal
     requires low { HEARD_SEQUENCE ≤ number }
-    requires high { number < THIRD_LEN }
+    requires high { number < WIDE_CHAR }
     ensures { literal_node result ≡ node_in third_types (number - BUILTIN_LEN) }
 {
     match number {
@@ -174,6 +177,22 @@ fn holding(number: u32) -> Literal
             Named(b"boxed", TYPE_CODE),
         ]),
         VALUE_BOX_DATA => Literal::Encapsulation(VALUE_BOX),
+        _ => unreachable!(),
+    }
+}
+
+/// Wide text, and sequences of it.
+#[tactic(auto, unfolding(crate::specs::AnyTypes::third_types))]
+fn wide(number: u32) -> Literal
+    requires low { WIDE_CHAR ≤ number }
+    requires high { number < THIRD_LEN }
+    ensures { literal_node result ≡ node_in third_types (number - BUILTIN_LEN) }
+{
+    match number {
+        WIDE_CHAR => Literal::WideChar,
+        WIDE_CHARS => Literal::Sequence(WIDE_CHAR),
+        WIDE_STRING => Literal::WideText,
+        WIDE_STRINGS => Literal::Sequence(WIDE_STRING),
         _ => unreachable!(),
     }
 }

@@ -32,6 +32,8 @@ pub(crate) enum Literal {
     Prim(Prim),
     Text,
     Octets,
+    WideText,
+    WideChar,
     Names(&'static [&'static [u8]]),
     Members(&'static [Named]),
     /// The discriminator's type, and the only cases.
@@ -400,6 +402,8 @@ fn entry_of(alloc: Global, literal: Literal) -> Result<Entry, AllocError>
         Literal::Prim(p) => Entry::Prim(p),
         Literal::Text => Entry::Text(None),
         Literal::Octets => Entry::Octets(None),
+        Literal::WideText => Entry::WideText,
+        Literal::WideChar => Entry::WideChar,
         Literal::Names(names) => Entry::Enumeration(names_of(alloc, names)?),
         Literal::Members(parts) => Entry::Members(parts_of(alloc, parts)?),
         Literal::Target(switch, cases) => {

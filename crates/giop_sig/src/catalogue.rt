@@ -5,15 +5,14 @@ ghost use Rattle.giop_sig.specs.Types.{sequel, depth, part_of, name_in, enum_nam
 ghost use Rattle.giop_sig.specs.Fits.{IsFit, IsRoot};
 ghost use Rattle.giop_sig.specs.Interfaces.{IsInterfaceOf};
 ghost use Rattle.giop_sig.specs.Table.{node_at, shape_of, part_number, part_at, name_of, name_at, switch_at, selected, op_id, operation_key, keyed_number, operation_in, operation_for, interface_in, has_keys, named_interface, interface_name, operation_at, exception_in, identified_in, IsFormed, with_type, with_declared, with_operation, with_exception};
-ghost use Rattle.giop_sig.specs.Trees.{tree, tree_at, grow, catalogue_depth, depth_in, part_number_in};
+ghost use Rattle.giop_sig.specs.Trees.{tree, tree_at, grow, catalogue_depth, depth_in, part_number_in, wide_in};
 ghost use Rattle.giop_sig.specs.HeaderTypes.{header_number, header_type, fixed_number, fixed_type, IdStandsFirst, BeginsWithId, IsTable};
 
-use crate::builtin::{builtin_list, fixed_id, header_id};
+use crate::builtin::builtin_list;
 use crate::draft::THIRD_VERSION;
 use crate::entries::{Entry, Types};
 use crate::fronts::{Front, first_fronts};
 use crate::interfaces::InterfaceTable;
-use crate::part_name::PartName;
 use crate::types::{
     Counts, Fixed, Following, InterfaceId, OpId, Selected, Shape, Sign, Signal, TypeId,
 };
@@ -163,7 +162,7 @@ impl Catalogue {
         ensures shapes { (n : ℕ) → HasShape (tree_at self.now n t.0) result }
         ensures root { IsRoot (tree self.now t.0) }
     {
-        self.types.entry(t).shape()
+        self.seen(false).shape(t)
     }
 
     /// The type of the part at a place: of a member, a case or a tagged type's part by its place from 0; the element of
@@ -180,7 +179,7 @@ impl Catalogue {
         ensures rooms { (IsUnion (shape_in (tree self.now t.0)) → ⊥) → (n : ℕ) →
             tree_at self.now n result.0 ≡ part_of (tree_at self.now (suc n) t.0) place }
     {
-        self.types.entry(t).part(place)
+        self.seen(false).part(t, place)
     }
 
     /// The name of the member, case or tagged type's part at a place.
@@ -192,7 +191,7 @@ impl Catalogue {
         ensures rooms { (n : ℕ) → result.now ≡ name_in (tree_at self.now n t.0) place }
         ensures short { length result.now ≤ 64 }
     {
-        self.kept_name(t, place).octets()
+        self.seen(false).part_name(t, place)
     }
 
     /// The same name after a dot, which is the 16th of its octets: those before it say nothing, so that a short name
@@ -207,20 +206,7 @@ impl Catalogue {
         ensures size { 16 ≤ length result.now }
         ensures short { length result.now ≤ 80 }
     {
-        self.kept_name(t, place).dotted()
-    }
-
-    /// The same name, as it is kept.
-    #[inline(always)]
-    fn kept_name(&self, t: TypeId, place: u32) -> &PartName
-        requires known { t.0 < length self.now.types }
-        requires place { HasMember (shape_in (tree self.now t.0)) place }
-        ensures name { result.now ≡ name_of (part_at (node_at self.now t.0) place) }
-        ensures tree { result.now ≡ name_in (tree self.now t.0) place }
-        ensures rooms { (n : ℕ) → result.now ≡ name_in (tree_at self.now n t.0) place }
-        ensures short { length result.now ≤ 64 }
-    {
-        self.types.entry(t).part_name(place)
+        self.seen(false).dotted_name(t, place)
     }
 
     /// The name of an enum's number; None where the type is no enum, or has fewer names.
@@ -232,7 +218,7 @@ impl Catalogue {
             option_map (λ x. x.now) result ≡ enum_name_in (tree_at self.now n t.0) number }
         ensures short { IfSome result (λ x. length x.now ≤ 64) }
     {
-        self.types.entry(t).enum_name(number)
+        self.seen(false).enum_name(t, number)
     }
 
     /// The type of a union's discriminator, or of a tagged type's tag.
@@ -247,7 +233,7 @@ impl Catalogue {
         ensures rooms { (m n : ℕ) →
             tree_at self.now m result.0 ≡ switch_of (tree_at self.now (suc n) t.0) }
     {
-        self.types.entry(t).switch_type()
+        self.seen(false).switch_type(t)
     }
 
     /// What the value of a discriminator selects, or of a tagged type's tag; Nothing where the type is neither a union
@@ -263,7 +249,7 @@ impl Catalogue {
         ensures place { (i : ℕ) → result ≡ Selected.Case i
             → HasMember (shape_in (tree self.now t.0)) i }
     {
-        self.types.entry(t).select(number)
+        self.seen(false).select(t, number)
     }
 
     /// The header type of a message: of its minor version, and of the number of its message type. None for a message
@@ -277,8 +263,7 @@ impl Catalogue {
         ensures id { IdStandsFirst minor kind
             → IfSome result (λ t. BeginsWithId (tree self.now t.0)) }
     {
-        self.laws();
-        header_id(minor, kind)
+        self.seen(false).header(minor, kind)
     }
 
     /// The type of a body that no signature file declares.
@@ -288,8 +273,7 @@ impl Catalogue {
         ensures tree { tree self.now result.0 ≡ fixed_type fixed }
         ensures fit { IsFit 24 (tree self.now result.0) }
     {
-        self.laws();
-        fixed_id(fixed)
+        self.seen(false).fixed(fixed)
     }
 
     /// The operation of a name that has no interface. It takes no memory; a name of more than 128 octets has none.
@@ -433,6 +417,15 @@ impl Catalogue {
         self.signature(operation).reply
     }
 
+    /// Whether a type has wide text: it is a wide character or a wide string, or has a part with one. What an any carries
+    /// is aside.
+    pub fn has_wide_text(&self, t: TypeId) -> bool
+        requires { t.0 < length self.now.types }
+        ensures { result ≡ wide_in self.now.types t.0 }
+    {
+        self.types.is_wide(t)
+    }
+
     /// The depth of a type.
     pub(crate) fn depth_at(&self, t: TypeId) -> u32
         requires { t.0 < length self.now.types }
@@ -452,7 +445,7 @@ impl Catalogue {
         ensures tree { tree_at self.now room result.0
             ≡ part_of (tree_at self.now (suc room) t.0) place }
     {
-        self.types.entry(t).part_in(place, room)
+        self.seen(false).part_in(t, place, room)
     }
 
     /// The entry of a type.

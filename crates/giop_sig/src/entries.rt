@@ -5,7 +5,7 @@ ghost use Rattle.giop_sig.specs.Types.{most, HasPlace, HasMember, IsUnion};
 ghost use Rattle.giop_sig.specs.Heard.{has_count, is_sequence_of, kind_of, of_kind};
 ghost use Rattle.giop_sig.specs.Hearings.{signal_of};
 ghost use Rattle.giop_sig.specs.Table.{takes_octet, node_in, IsFormed, shape_of, part_at, type_of, name_of, name_at, switch_at, selected};
-ghost use Rattle.giop_sig.specs.Trees.{in_room, depth_in, depth_of, node_depth, part_depth, AreFormed};
+ghost use Rattle.giop_sig.specs.Trees.{in_room, depth_in, depth_of, node_depth, part_depth, some_of, wide_in, node_wide, part_wide, AreFormed};
 ghost use Rattle.giop_sig.specs.UnionCases.{part_view};
 
 use crate::cases::UnionCases;
@@ -84,6 +84,10 @@ pub(crate) enum Entry {
     Text(Option<u32>),
     /// A sequence of octets, perhaps with a bound.
     Octets(Option<u32>),
+    /// A wide string.
+    WideText,
+    /// A wide character.
+    WideChar,
     /// A struct.
     Members(Vec<PartEntry>),
     /// A union: its discriminator, its cases, and what is selected where no label is the number.
@@ -160,6 +164,8 @@ impl Entry {
             Entry::Enumeration(names) => Shape::Enumeration(names.len() as u32),
             Entry::Text(bound) => Shape::Text(*bound),
             Entry::Octets(bound) => Shape::Octets(*bound),
+            Entry::WideText => Shape::WideText,
+            Entry::WideChar => Shape::WideChar,
             Entry::Members(parts) => Shape::Members(parts.len() as u32),
             Entry::Union(_, cases, _) => Shape::Union(cases.len()),
             Entry::Sequence(bound, _) => Shape::Sequence(*bound),
@@ -318,11 +324,12 @@ impl Entry {
     }
 }
 
-/// An entry with the depth of its type.
+/// An entry with the depth of its type, and whether that has wide text.
 #[derive(Drop)]
 pub(crate) struct EntryWithDepth {
     pub(crate) entry: Entry,
     pub(crate) depth: u32,
+    pub(crate) wide: bool,
 }
 
 /// Types, each numbered by its index. A part has a smaller number than the type that it is part of.
@@ -345,7 +352,7 @@ impl Model for Types {
 }
 
 impl Types {
-    ghost use Rattle.giop_sig.specs.Views.{node_view, IsSized};
+    ghost use Rattle.giop_sig.specs.Views.{node_view, nodes_view, IsSized};
 
     /// No types.
     pub(crate) fn new(alloc: Global) -> Types
@@ -372,6 +379,14 @@ impl Types {
         self.placed.len() as u32
     }
 
+    /// The entries, each at its type's number.
+    #[inline(always)]
+    pub(crate) fn entries(&self) -> &[EntryWithDepth]
+        ensures { nodes_view result.now ≡ self.now }
+    {
+        self.placed.as_slice()
+    }
+
     /// The entry of a type.
     pub(crate) fn entry(&self, t: TypeId) -> &Entry
         requires { t.0 < length self.now }
@@ -389,6 +404,14 @@ impl Types {
         ensures small { result ≤ length self.now }
     {
         self.placed[t.0 as usize].depth
+    }
+
+    /// Whether a type has wide text.
+    pub(crate) fn is_wide(&self, t: TypeId) -> bool
+        requires { t.0 < length self.now }
+        ensures { result ≡ wide_in self.now t.0 }
+    {
+        self.placed[t.0 as usize].wide
     }
 
     /// The greatest depth of a type, 0 where there is none.
@@ -409,6 +432,8 @@ impl Types {
             Shape::Enumeration(_) => 1,
             Shape::Text(_) => 1,
             Shape::Octets(_) => 1,
+            Shape::WideText => 1,
+            Shape::WideChar => 1,
             Shape::Members(count) => 1 + self.deepest_part(entry, count),
             Shape::Union(count) => 1 + self.deepest_part(entry, count).max(1),
             Shape::Sequence(_) => 1 + self.depth_at(entry.part(0)),
@@ -435,6 +460,38 @@ impl Types {
         deepest
     }
 
+    /// Whether an entry's type would have wide text.
+    fn wide_above(&self, entry: &Entry) -> bool
+        requires formed { IsFormed self.now (length self.now) (node_view entry.now) }
+        ensures { result ≡ node_wide self.now (node_view entry.now) }
+    {
+        match entry.shape() {
+            Shape::WideText => true,
+            Shape::WideChar => true,
+            Shape::Members(count) => self.some_wide(entry, count),
+            Shape::Union(count) => self.some_wide(entry, count),
+            Shape::Tagged => self.some_wide(entry, 3),
+            Shape::Sequence(_) => self.is_wide(entry.part(0)),
+            Shape::Array(_) => self.is_wide(entry.part(0)),
+            Shape::Encapsulation => self.is_wide(entry.part(0)),
+            _ => false,
+        }
+    }
+
+    /// Whether one of an entry's first so many parts has wide text.
+    fn some_wide(&self, entry: &Entry, count: u32) -> bool
+        requires place { (i : ℕ) → i < count → HasPlace (shape_of (node_view entry.now)) i }
+        requires below { (i : ℕ) → i < count
+            → type_of (part_at (node_view entry.now) i) < length self.now }
+        ensures { result ≡ some_of count (part_wide self.now (node_view entry.now)) }
+    {
+        let mut wide = false;
+        for place in 0..count {
+            wide = wide || self.is_wide(entry.part(place));
+        }
+        wide
+    }
+
     /// Adds a type at the end, if a number is left for it. An `Err` changes nothing: memory was refused.
     pub(crate) fn add(&mut self, entry: Entry) -> Result<TypeId, AllocError>
         requires formed { IsFormed self.old (length self.old) (node_view entry) }
@@ -445,7 +502,8 @@ impl Types {
     {
         let number = self.len();
         let depth = self.depth_above(&entry);
-        self.placed.push(EntryWithDepth { entry, depth })?;
+        let wide = self.wide_above(&entry);
+        self.placed.push(EntryWithDepth { entry, depth, wide })?;
         self.deepest = self.deepest.max(depth);
         Ok(TypeId(number))
     }

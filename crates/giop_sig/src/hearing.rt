@@ -4,7 +4,7 @@ ghost use Rattle.std.specs.Prelude.{◌≡◌, ℕ, suc, ◌<◌, ◌≤◌, ◌
 ghost use Rattle.std.specs.Str.{bytes_eq};
 ghost use Rattle.giop_sig.specs.Heard.{bound_told, count_told, counted, front_at, hears, id_told, identity_told, next_sequence, sequence_told, spelt, unless_awaited};
 ghost use Rattle.giop_sig.specs.Hearings.{HasPart, hearing_in, sequel_of, sign_is, signal_after, signal_of, told_of};
-ghost use Rattle.giop_sig.specs.Trees.{any_hearing, follows, tree_at};
+ghost use Rattle.giop_sig.specs.Trees.{has_room, follows, tree_at};
 ghost use Rattle.giop_sig.specs.Types.{sequel};
 
 use crate::catalogue::Catalogue;
@@ -22,15 +22,11 @@ impl Catalogue {
             ≡ (hearing_in (tree_at self.now n t.0)).hears (told_of told)
             (sign_is sign.entry) }
     {
-        self.laws();
-        match self.shape(t) {
-            Shape::Led => self.hear_any(told, sign),
-            _ => told,
-        }
+        self.seen(false).hear(t, told, sign)
     }
 
     /// What an any has told after a sign in its TypeCode.
-    fn hear_any(&self, told: Signal, sign: Sign<'_>) -> Signal
+    pub(crate) fn hear_any(&self, told: Signal, sign: Sign<'_>) -> Signal
         ensures { result
             ≡ signal_of (hears self.now (told_of told) (sign_is sign.entry)) }
     {
@@ -168,31 +164,19 @@ impl Catalogue {
         ensures known { (place : ℕ) → result ≡ Following.Then place →
             place ≤ length self.now.types }
     {
-        match self.shape(t) {
-            Shape::Led => self.following_any(told, room),
-            _ => Following::Ends,
-        }
-    }
-
-    /// What follows the TypeCode of an any, in this room.
-    fn following_any(&self, told: Signal, room: u8) -> Following
-        ensures is { sequel (any_hearing self.now room) (told_of told) ≡ sequel_of result }
-        ensures place { HasPart result }
-        ensures known { (place : ℕ) → result ≡ Following.Then place →
-            place ≤ length self.now.types }
-    {
-        self.laws();
-        match told {
-            Signal::Untold => Following::Ends,
-            Signal::Empty => Following::Ends,
-            Signal::Is(i) if self.follows(TypeId(i), room) => Following::Then(i + 1),
-            _ => Following::Stops,
-        }
+        self.seen(false).following(t, told, room)
     }
 
     /// Whether a type can follow in an any, in this room.
     pub fn follows(&self, t: TypeId, room: u8) -> bool
         ensures { result ≡ follows self.now room t.0 }
+    {
+        self.seen(false).follows(t, room)
+    }
+
+    /// Whether a type can follow in an any, in this room, if it has no wide text.
+    pub(crate) fn can_follow(&self, t: TypeId, room: u8) -> bool
+        ensures { result ≡ has_room self.now room t.0 }
     {
         self.has(t) && self.entry(t).takes_octet() && self.depth_at(t) <= u32::from(room)
     }

@@ -24,6 +24,7 @@ mod read_items;
 mod read_types;
 mod read_unions;
 mod requests;
+mod seen;
 mod told_kinds;
 mod types;
 
@@ -33,6 +34,7 @@ pub use giop_tokens::{SigFault, SigFaultKind};
 pub use kinds::{is_kind, kind_word};
 pub use parse::one_table;
 pub use requests::{Requests, one_list};
+pub use seen::SeenCatalogue;
 pub use types::{
     Counts, Fixed, Following, InterfaceId, OpId, Selected, Shape, Sign, Signal, TypeId,
 };

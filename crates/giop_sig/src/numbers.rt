@@ -166,8 +166,17 @@ pub(crate) const VALUE_BOX: u32 = 86;
 /// The encapsulation of them.
 pub(crate) const VALUE_BOX_DATA: u32 = 87;
 
+/// A wide character.
+pub(crate) const WIDE_CHAR: u32 = 88;
+/// The sequence of them.
+pub(crate) const WIDE_CHARS: u32 = 89;
+/// A wide string.
+pub(crate) const WIDE_STRING: u32 = 90;
+/// The sequence of them.
+pub(crate) const WIDE_STRINGS: u32 = 91;
+
 /// How many types a file of version 3 begins with.
-pub(crate) const THIRD_LEN: u32 = 88;
+pub(crate) const THIRD_LEN: u32 = 92;
 
 /// The mark of a kind by which a value is known.
 pub(crate) const HEARD_KIND_MARK: u32 = 0;

@@ -5,7 +5,7 @@ ghost use Rattle.giop_sig.specs.Outcomes.{Gives, refused};
 ghost use Rattle.giop_sig.specs.Scopes.{with_node, sequence_node};
 ghost use Rattle.giop_sig.specs.ScopeViews.{IsKnown};
 ghost use Rattle.giop_sig.specs.Repeats.{in_steps};
-ghost use Rattle.giop_sig.specs.TypeReading.{size_at, enclosed_at, most_at, base_of, text_at, after_element, after_held, closed_by, named_type, leaf_at, opener_at, openers_step, too_many_openers, all_closed, type_at};
+ghost use Rattle.giop_sig.specs.TypeReading.{size_at, enclosed_at, most_at, base_of, text_at, wide_text_at, after_element, after_held, closed_by, named_type, leaf_at, opener_at, openers_step, too_many_openers, all_closed, type_at};
 
 use crate::draft::Draft;
 use crate::entries::Entry;
@@ -24,6 +24,8 @@ const NAME_MAX: usize = 64;
 const SIZE_MAX: u64 = 4_294_967_295;
 /// The type of a string without a bound.
 const STRING: TypeId = TypeId(numbers::STRING);
+/// The type of a wide string, whatever its bound.
+const WIDE_STRING: TypeId = TypeId(numbers::WIDE_STRING);
 /// The type of an object reference.
 const REFERENCE: TypeId = TypeId(numbers::IOR);
 
@@ -130,6 +132,15 @@ fn text_at<'a>(draft: &mut Draft, text: &'a [u8]) -> Result<(TypeId, &'a [u8]), 
     }
 }
 
+/// A wide string, after its word. Its bound counts characters, and is told of no type.
+#[tactic(auto, unfolding(crate::specs::TypeReading::wide_text_at))]
+fn wide_text_at<'a>(draft: &Draft, text: &'a [u8]) -> Result<(TypeId, &'a [u8]), ParseStop>
+    ensures { Gives (λ x. (draft.now, x.0.0, x.1.now)) result (wide_text_at draft.now text.now) }
+{
+    let (_, rest) = enclosed_at(Mark::OpenAngle, Mark::CloseAngle, text)?;
+    Ok((WIDE_STRING, rest))
+}
+
 /// A type by its name, the first word of the text.
 #[tactic(auto, unfolding(crate::specs::TypeReading::named_type))]
 fn named_type<'a>(
@@ -217,6 +228,12 @@ fn leaf_at<'a>(draft: &mut Draft, text: &'a [u8]) -> Result<(TypeId, &'a [u8]), 
     }
     if draft.is_third() && name == b"TypeCode".as_slice() {
         return Ok((TypeId(numbers::TYPE_CODE), rest));
+    }
+    if draft.is_third() && name == b"wchar".as_slice() {
+        return Ok((TypeId(numbers::WIDE_CHAR), rest));
+    }
+    if draft.is_third() && name == b"wstring".as_slice() {
+        return wide_text_at(draft, rest);
     }
     named_type(draft, text, name, rest)
 }

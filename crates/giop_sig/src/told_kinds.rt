@@ -8,12 +8,12 @@ ghost use Rattle.giop_sig.specs.Hearings.{signal_of};
 
 use crate::numbers::{
     ANY, BOOLEAN, CHAR, DOUBLE, FLOAT, IOR, LONG, LONGLONG, OCTET, OCTETS, REFERENCES, SEQUENCES,
-    SHORT, STRING, TYPE_CODE, ULONG, ULONGLONG, USHORT,
+    SHORT, STRING, TYPE_CODE, ULONG, ULONGLONG, USHORT, WIDE_CHAR, WIDE_STRING,
 };
 use crate::types::{Signal, TypeId};
 
 /// How many kinds, from 0 on, tell something.
-const KINDS: u32 = 25;
+const KINDS: u32 = 28;
 
 /// What each kind tells, from 0 on: 15, 16 and 17 that an id comes, whose front is the first, second or third of all.
 static TOLD: [Signal; KINDS as usize] = [
@@ -42,6 +42,9 @@ static TOLD: [Signal; KINDS as usize] = [
     Signal::Unknown,
     Signal::Is(LONGLONG),
     Signal::Is(ULONGLONG),
+    Signal::Unknown,
+    Signal::Is(WIDE_CHAR),
+    Signal::Is(WIDE_STRING),
 ];
 
 /// What a kind tells of the value after it.
@@ -55,7 +58,7 @@ pub(crate) fn told_by(kind: u32) -> Signal
     }
 }
 
-/// The sequence of a type that has no repository id; None for any other type.
+/// The sequence of a type that has no repository id, unless it is the next type; None for any other type.
 pub(crate) fn built_in_sequence(t: TypeId) -> Option<TypeId>
     ensures some { IfSome result (λ s. (C : Table) → sequence_told C t.0 ≡ Told.Is s.0) }
     ensures none { IfNone result ((C : Table) → sequence_told C t.0 ≡ next_sequence C t.0) }

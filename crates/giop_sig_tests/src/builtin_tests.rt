@@ -1,13 +1,15 @@
 //! The built-in types against the tables of the format.
 
+use crate::list_tests::has_none;
 use crate::types::expect_rows;
 use giop_sig::{Catalogue, Counts, OpId, TypeId};
 use std::process::Abort;
 use std::test::Fail;
 
-/// The headers, by minor version and message type; what they and the bodies of all interfaces are made of; what their
-/// discriminators select; the names of an enum.
+/// The version; the headers, by minor version and message type; what they and the bodies of all interfaces are made of;
+/// what their discriminators select; the names of an enum.
 static BUILTIN: &str = "\
+version|1
 header 0 0|service_contexts sequence, request_id ulong, response_expected boolean, object_key octets, operation string, requesting_principal octets
 header 1 0|service_contexts sequence, request_id ulong, response_expected boolean, reserved array of 3, object_key octets, operation string, requesting_principal octets
 header 2 0|request_id ulong, response_flags octet, reserved array of 3, target union, operation string, service_contexts sequence
@@ -75,10 +77,12 @@ fn the_builtin_types_are_those_of_the_format(rt: HostRuntime) -> Result<(), Fail
     expect_builtin(&rt, &Catalogue::builtin(rt.alloc())?)
 }
 
-fn expect_builtin(rt: &impl Abort, catalogue: &Catalogue) -> Result<(), Fail> {
+/// A request list has no third word, either.
+fn expect_builtin(rt: &(impl Abort + AllocGlobal), catalogue: &Catalogue) -> Result<(), Fail> {
     let differs = empty_differs(catalogue);
     assert!(rt; differs.is_empty(), "{differs}");
-    expect_rows(rt, catalogue, BUILTIN)
+    expect_rows(rt, catalogue, BUILTIN)?;
+    has_none(rt, catalogue)
 }
 
 /// What differs from a catalogue of the built-in types alone.

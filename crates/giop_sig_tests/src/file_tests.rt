@@ -42,8 +42,9 @@ static MARK: &[u8] = b"signatures 1;\n\
     union Mark switch (Hue) { case red: Dot dot; default: octet code; };\n\
     operation void add(in Mark m, in sequence<ushort,3> s);";
 
-/// What its operation has.
+/// Its version, and what its operation has.
 static MARKED: &str = "\
+version|1
 request add|m union, s sequence of at most 3
 reply add|
 request add/0|dot struct, code octet
@@ -75,38 +76,38 @@ static HELD: &[u8] = b"signatures 2; struct P { octet a; ulonglong b; };\n\
     operation void enc(in encapsulation<P> e, in encapsulation<octet> o,\n\
       in sequence<encapsulation<octet>> s);";
 
-/// What they hold.
+/// The version, and what they hold.
 static HOLDS: &str = "\
+version|2
 request enc|e encapsulation, o encapsulation, s sequence
 request enc/0/0|a octet, b ulonglong
 request enc/1/0|octet
 request enc/2/0|encapsulation";
 
-/// A file, and its version.
-static VERSIONS: [(&[u8], u8); 3] = [
-    (b"signatures 1;", 1),
-    (b"signatures 2;", 2),
-    (b"signatures 3;", 3),
-];
+// A wide character, a wide string, a struct with one, an any and a number.
+static WIDE: &[u8] = b"signatures 3; struct W { long a; wstring<2> b; };\n\
+    operation wchar put(in wchar c, in wstring s, in sequence<W> w, in any a, in long l);";
 
-#[test]
-fn a_catalogue_has_the_version_of_its_file(rt: HostRuntime) -> Result<(), Fail> {
-    assert_eq!(rt; Catalogue::builtin(rt.alloc())?.version(), 1);
-    for (text, version) in VERSIONS {
-        let catalogue = Catalogue::parse_types(rt.alloc(), text)?;
-        assert_eq!(rt; catalogue.version(), version);
-    }
-    Ok(())
-}
+/// The version, and what has wide text.
+static WIDER: &str = "\
+version|3
+request put|c wide char, s wide string, w wide sequence, a led, l long
+request put/2/0|a long, b wide string
+reply put|return wide char
+minor 1 request put/1|none
+minor 2 request put/1|room
+minor 1 request put/2|none
+minor 1 request put/4|room";
 
 #[test]
 fn a_file_declares_its_types_and_operations(rt: HostRuntime) -> Result<(), Fail> {
     declares(&rt, MARK, MARKED)?;
     declares(&rt, ASK, ASKED)?;
-    declares(&rt, HELD, HOLDS)
+    declares(&rt, HELD, HOLDS)?;
+    declares(&rt, WIDE, WIDER)
 }
 
 fn declares(rt: &(impl Abort + AllocGlobal), text: &[u8], rows: &str) -> Result<(), Fail> {
-    let catalogue = Catalogue::parse(rt.alloc(), text)?;
+    let catalogue = Catalogue::parse_types(rt.alloc(), text)?;
     expect_rows(rt, &catalogue, rows)
 }

@@ -1,6 +1,7 @@
 //! Repository ids of types: which type has an id.
 
 use giop_sig::{Catalogue, Shape};
+use std::process::Abort;
 use std::test::Fail;
 
 /// A type of each kind that can have a repository id, one that has none, and an exception.
@@ -27,7 +28,11 @@ static IDS: [(&[u8], Option<Shape>); 9] = [
 
 #[test]
 fn a_repository_id_finds_its_type(rt: HostRuntime) -> Result<(), Fail> {
-    let catalogue = Catalogue::parse_types(rt.alloc(), FILE)?;
+    types_are_found(&rt, &Catalogue::parse_types(rt.alloc(), FILE)?);
+    Ok(())
+}
+
+fn types_are_found(rt: &impl Abort, catalogue: &Catalogue) {
     for (id, want) in IDS {
         let found = match catalogue.identified(id) {
             None => None,
@@ -36,5 +41,4 @@ fn a_repository_id_finds_its_type(rt: HostRuntime) -> Result<(), Fail> {
         assert!(rt; found == want, "{id:?}");
     }
     assert!(rt; catalogue.identified(&[b'I'; 129]).is_none());
-    Ok(())
 }

@@ -38,11 +38,15 @@ static OPERATIONS: [(&[u8], &[u8], Option<u32>); 8] = [
 ];
 
 #[test]
-fn a_key_and_a_name_find_their_interface_and_operation(rt: HostRuntime) -> Result<(), Fail> {
-    let catalogue = Catalogue::parse_types(rt.alloc(), FILE)?;
-    keys_are_found(&rt, &catalogue);
-    operations_are_found(&rt, &catalogue);
+fn a_key_an_id_and_a_name_find_their_interface_and_operation(rt: HostRuntime) -> Result<(), Fail> {
+    all_are_found(&rt, &Catalogue::parse_types(rt.alloc(), FILE)?);
     Ok(())
+}
+
+fn all_are_found(rt: &impl Abort, catalogue: &Catalogue) {
+    keys_are_found(rt, catalogue);
+    operations_are_found(rt, catalogue);
+    ids_are_found(rt, catalogue);
 }
 
 fn keys_are_found(rt: &impl Abort, catalogue: &Catalogue) {
@@ -51,12 +55,6 @@ fn keys_are_found(rt: &impl Abort, catalogue: &Catalogue) {
     }
     assert!(rt; id_of(catalogue, &[b's'; 128]) == b"IDL:Stock:1.0".as_slice());
     assert!(rt; catalogue.interface(&[b's'; 129]).is_none());
-}
-
-#[test]
-fn an_interface_is_found_by_its_repository_id(rt: HostRuntime) -> Result<(), Fail> {
-    ids_are_found(&rt, &Catalogue::parse_types(rt.alloc(), FILE)?);
-    Ok(())
 }
 
 fn ids_are_found(rt: &impl Abort, catalogue: &Catalogue) {

@@ -87,12 +87,11 @@ fn add_word(front: &[u8], size: usize, text: &mut Vec<u8>) -> Result<(), AllocEr
     Ok(())
 }
 
-#[test]
-fn an_interface_has_at_most_128_octets(rt: HostRuntime) -> Result<(), Fail> {
-    expect_interfaces(&rt, &Catalogue::parse_types(rt.alloc(), b"signatures 3;")?)
-}
-
-fn expect_interfaces(rt: &(impl Abort + AllocGlobal), catalogue: &Catalogue) -> Result<(), Fail> {
+/// Expects an interface of 128 octets, and that one of 129 is refused, in version 3.
+pub fn expect_interfaces(
+    rt: &(impl Abort + AllocGlobal),
+    catalogue: &Catalogue,
+) -> Result<(), Fail> {
     expect_word(rt, catalogue, b"7 get ", 128, "1")?;
     expect_word(rt, catalogue, b"7 get ", 129, "1 syntax")
 }

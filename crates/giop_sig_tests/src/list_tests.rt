@@ -1,5 +1,6 @@
 //! Request lists: which texts are lists, what they say, and which line of the others is refused.
 
+use crate::list_limit_tests::expect_interfaces;
 use crate::list_rows::{READ, REFUSED, THIRD_READ, THIRD_REFUSED};
 use crate::rows::{are_numbers, list_differs, row_of};
 use giop_sig::{Catalogue, ListFault, ListFaultKind, OpId, Requests, one_list};
@@ -45,6 +46,7 @@ fn version_tells(rt: &(impl Abort + AllocGlobal), version: u32) -> Result<(), Fa
     are_told(
         rt,
         &Catalogue::parse_types(rt.alloc(), ask_and_nop(version))?,
+        version,
     )
 }
 
@@ -53,30 +55,13 @@ fn a_third_word_is_an_interface_in_version_3(rt: HostRuntime) -> Result<(), Fail
     has_third_words(&rt, &Catalogue::parse_types(rt.alloc(), gets())?)
 }
 
-#[test]
-fn no_list_has_a_third_word_without_a_file(rt: HostRuntime) -> Result<(), Fail> {
-    has_none(&rt, &Catalogue::builtin(rt.alloc())?)
-}
-
-#[test]
-fn no_list_has_a_third_word_in_versions_1_and_2(rt: HostRuntime) -> Result<(), Fail> {
-    version_has_none(&rt, 1)?;
-    version_has_none(&rt, 2)
-}
-
-fn version_has_none(rt: &(impl Abort + AllocGlobal), version: u32) -> Result<(), Fail> {
-    has_none(
-        rt,
-        &Catalogue::parse_types(rt.alloc(), ask_and_nop(version))?,
-    )
-}
-
 fn has_third_words(rt: &(impl Abort + AllocGlobal), catalogue: &Catalogue) -> Result<(), Fail> {
     are_read(rt, catalogue, third_read())?;
     are_refused(rt, catalogue, third_refused())
 }
 
-fn has_none(rt: &(impl Abort + AllocGlobal), catalogue: &Catalogue) -> Result<(), Fail> {
+/// Expects that no list has a third word.
+pub fn has_none(rt: &(impl Abort + AllocGlobal), catalogue: &Catalogue) -> Result<(), Fail> {
     for row in third_read().split(|octet| *octet == b'=') {
         let differs = list_differs(rt.alloc(), row_of(row)?.1, catalogue, "1 syntax");
         assert!(rt; differs.is_empty(), "{differs}: {row:?}");
@@ -84,9 +69,18 @@ fn has_none(rt: &(impl Abort + AllocGlobal), catalogue: &Catalogue) -> Result<()
     Ok(())
 }
 
-fn are_told(rt: &(impl Abort + AllocGlobal), catalogue: &Catalogue) -> Result<(), Fail> {
+fn are_told(
+    rt: &(impl Abort + AllocGlobal),
+    catalogue: &Catalogue,
+    version: u32,
+) -> Result<(), Fail> {
     are_read(rt, catalogue, READ)?;
-    are_refused(rt, catalogue, REFUSED)
+    are_refused(rt, catalogue, REFUSED)?;
+    if version < 3 {
+        has_none(rt, catalogue)
+    } else {
+        expect_interfaces(rt, catalogue)
+    }
 }
 
 fn are_read(

@@ -36,6 +36,8 @@ pub static ACCEPTED: &[u8] = b"\
     0 1 0 24|signatures 3;\noperation void get(in any a);=\
     0 1 0 24|signatures 3;\noperation void typ(in TypeCode t, in octet o);=\
     2 1 1 24|signatures 3;\nunion U switch (long) { case 1: any a; default: TypeCode t[2]; }; exception X \"X\" { encapsulation<any> e; }; struct A { sequence<any,3> a; }; operation any get(out TypeCode t);=\
+    2 2 0 24|signatures 3;\nstruct A { wchar a; wstring b[2]; }; operation wchar get(in wstring<2> a, out sequence<wchar> b); union U switch (long) { case 1: wstring<4294967295> a; default: encapsulation<wchar> b; }; operation void put(in sequence<wstring,3> a);=\
+    2 1 0 9|signatures 2;\nstruct wchar { long a; }; enum wstring { a }; operation wchar put(in wstring a);=\
     1 0 0 9|signatures 1;\nstruct A { long a; };";
 
 /// Files that are refused.
@@ -47,8 +49,18 @@ pub static REFUSED: &[u8] = b"\
     3 syntax|signatures 3;\nenum E { a,\nfixed };=\
     3 syntax|signatures 3;\nenum E {\nlongdouble, a };=\
     3 syntax|signatures 3;\nstruct A { long\nany; };=\
-    3 syntax|signatures 3;\nstruct A { encapsulation<\nwchar> a; };=\
-    3 syntax|signatures 3;\nstruct A { sequence<\nwstring,3> a; };=\
+    3 syntax|signatures 3;\nstruct A { sequence<\nfixed> a; };=\
+    3 syntax|signatures 3;\nstruct A { long\nwchar; };=\
+    3 empty|signatures 3;\nstruct A { wstring<\n0> a; };=\
+    3 limit|signatures 3;\nstruct A { wstring<\n4294967296> a; };=\
+    3 syntax|signatures 3;\nstruct A { wstring\n<a> a; };=\
+    3 syntax|signatures 3;\nstruct A { wchar\n<2> a; };=\
+    3 label|signatures 3;\nunion U switch (\nwchar) { default: long a; };=\
+    3 label|signatures 3;\nunion U switch (\nwstring<2>) { default: long a; };=\
+    3 unknown-type|signatures 2;\nstruct A {\nwstring a; };=\
+    3 unknown-type|signatures 1;\nstruct A {\nwchar a; };=\
+    3 syntax|signatures 3;\nstruct A {\nfixed<3,2> a; };=\
+    3 syntax|signatures 3;\nstruct A {\nlongdouble a; };=\
     3 syntax|signatures 3;\noperation\nfixed a();=\
     3 syntax|signatures 3;\noperation void a(in\nlongdouble b);=\
     3 syntax|signatures 3;\noperation void a(in long\nwchar);=\

@@ -2,9 +2,11 @@
 //!
 //! A type is named by what has it: `header MINOR KIND`, `fixed NAME`, `request OPERATION`, `reply OPERATION` or
 //! `exception ID`. After each `/` stands the place of one of its parts, or `switch` for the type of its discriminator.
-//! Told of it are its members, cases or tagged parts in order, each with the outermost form of its type; `none` where
-//! there is no such type. With a word in front, a type is asked what a discriminator selects (`signed NUMBER` or
-//! `unsigned NUMBER`) and what an enum's number is called (`name NUMBER`). `operation NAME` asks for an operation's number.
+//! Told of it are its members, cases or tagged parts in order, each with the outermost form of its type, and with `wide`
+//! in front if that has wide text; `none` where there is no such type. With a word in front, a type is asked what a
+//! discriminator selects (`signed NUMBER` or `unsigned NUMBER`), what an enum's number is called (`name NUMBER`), and
+//! whether the anys of a message have room for it (`minor NUMBER`: `room` or `none`). `operation NAME` asks for an
+//! operation's number, and `version` for that of the file.
 ghost use Rattle.std.specs.Prelude.{ℕ, ◌<◌, length};
 ghost use Rattle.giop_sig.specs.Types.{shape_in, HasMember, HasPlace};
 ghost use Rattle.giop_sig.specs.Trees.{tree};
@@ -65,7 +67,12 @@ fn add_kind(catalogue: &Catalogue, t: TypeId, row: &mut Sheet) -> Result<(), Out
         Shape::Tagged => b"tagged",
         Shape::Marked(_) => b"marked",
         Shape::Led => b"led",
+        Shape::WideText => b"string",
+        Shape::WideChar => b"char",
     };
+    if catalogue.has_wide_text(t) {
+        put_all(row, b"wide ")?;
+    }
     put_all(row, word)
 }
 
@@ -235,6 +242,14 @@ fn is_called(catalogue: &Catalogue, words: &str, number: u32, want: &str) -> boo
     }
 }
 
+/// Whether a type has room in the anys of a message of this minor version.
+fn has_room(catalogue: &Catalogue, words: &str, minor: u32, want: &str) -> bool {
+    match type_of(catalogue, words) {
+        Some(t) => catalogue.seen(minor < 2).follows(t, 24) == (want == "room"),
+        None => false,
+    }
+}
+
 /// Whether a catalogue tells this of what is asked with a number in front of a type.
 fn is_told_by_number(catalogue: &Catalogue, form: &str, asked: &str, want: &str) -> Option<bool> {
     let (number, words) = asked.split_once(' ')?;
@@ -251,6 +266,10 @@ fn is_told_by_number(catalogue: &Catalogue, form: &str, asked: &str, want: &str)
             let number = u32::from_str_radix(number, 10).ok()?;
             Some(is_called(catalogue, words, number, want))
         }
+        "minor" => {
+            let minor = u32::from_str_radix(number, 10).ok()?;
+            Some(has_room(catalogue, words, minor, want))
+        }
         _ => None,
     }
 }
@@ -258,6 +277,9 @@ fn is_told_by_number(catalogue: &Catalogue, form: &str, asked: &str, want: &str)
 /// Whether a catalogue tells this of what is asked.
 fn is_told(catalogue: &Catalogue, asked: &str, want: &str) -> bool {
     let (form, words) = asked.split_once(' ').unwrap_or(("", asked));
+    if asked == "version" {
+        return are_numbers(&[u32::from(catalogue.version())], want);
+    }
     if form == "operation" {
         return is_operation(catalogue.operation(words.as_bytes()), want);
     }

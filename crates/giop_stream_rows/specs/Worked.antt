@@ -1,6 +1,6 @@
 -- How a worked stream is written down: its octets in hexadecimal digits, its lines, and the types
 -- and requests that it is read by (meaning).
-use Rattle.std.specs.Prelude.{◌≡◌, ℕ, ◌+◌, ◌-◌, ◌*◌, ◌==◌, nat_lt, if◌then◌else◌, List, [], ◌∷◌, ◌++◌, length, Some, None, codes}
+use Rattle.std.specs.Prelude.{◌≡◌, ℕ, ◌+◌, ◌-◌, ◌*◌, ◌==◌, nat_lt, if◌then◌else◌, List, [], ◌∷◌, ◌++◌, length, Some, None, codes, false}
 use Rattle.giop_sig.specs.Heard.{first_fronts}
 use Rattle.giop_sig.specs.Interfaces.{no_interfaces}
 use Rattle.giop_sig.specs.Table.{Node, members, Operation, Exception, Table, op_id, operation_key, asked_number}
@@ -66,6 +66,7 @@ table_of types operations exceptions = record {
   interfaces = no_interfaces;
   identities = [];
   fronts = first_fronts;
+  narrow = false;
 }
 
 -- no declarations

@@ -11,7 +11,7 @@ use Rattle.giop_sig.specs.Table.{Table}
 use Rattle.giop_message.specs.MessageState.{Fits}
 use Rattle.giop_message.specs.Signatures.{RequestTable}
 use Rattle.giop_checkpoint.specs.Layouts.{layout_of, reads}
-use Rattle.giop_checkpoint.specs.declared.layout.Layout.TheVariants.{Third, Sixth}
+use Rattle.giop_checkpoint.specs.declared.layout.Layout.TheVariants.{Third, Latest}
 use Rattle.giop_checkpoint.specs.Fixed.{fixed_octets}
 use Rattle.giop_stream.specs.SlotsRepresent.{OpenEntry, current_of}
 use Rattle.giop_stream.specs.SlotsRepresent.{IsReady}
@@ -238,7 +238,7 @@ puts_stopped (Ok m) (Err i) before between after front octets n e is puts front_
 -- ---- an engine's checkpoint
 
 written_read : (version : ℕ) (new : Bool) → nat_le 3 version ≡ new →
-    reads version (cond new Sixth Third) ≡ true
+    reads version (cond new Latest Third) ≡ true
 written_read version true e = e
 written_read version false e = search (arith)
 

@@ -9,7 +9,7 @@ use Rattle.giop_checkpoint.specs.declared.fault.LoadFault.TheVariants as refusal
 use Rattle.giop_checkpoint.specs.declared.fixed.Counts.{Counts}
 use Rattle.giop_checkpoint.specs.declared.fixed.Fixed.{Fixed}
 use Rattle.giop_checkpoint.specs.declared.layout.Layout.{Layout}
-use Rattle.giop_checkpoint.specs.declared.layout.Layout.TheVariants.{Second, Third, Sixth}
+use Rattle.giop_checkpoint.specs.declared.layout.Layout.TheVariants.{Second, Third, Latest}
 use Rattle.giop_checkpoint.specs.Layouts.{OpenHasRange, reads}
 use Rattle.giop_checkpoint.specs.Fixed.{HasRange, fixed_octets}
 use Rattle.giop_checkpoint.specs.Records.{Entry, EntryHasRange, AreRecords, kind_octets, own_octets, entry_octets}
@@ -103,7 +103,7 @@ refused_memory c now s f records same passes = search (arith)
 open_by : (layout : Layout) (n : ℕ) → OpenHasRange layout n → (1 ≤ n) × (n ≤ most_open)
 open_by Second n h = search (arith)
 open_by Third n h = h
-open_by Sixth n h = h
+open_by Latest n h = h
 
 pub passed_open : (c : Counts) (s : List ℕ) (f : Fixed) (records : List ℕ) → Passes c s f records →
     (1 ≤ f.most_open) × (f.most_open ≤ most_open)

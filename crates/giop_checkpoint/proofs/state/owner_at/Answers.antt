@@ -1,13 +1,13 @@
 use Rattle.std.proofs.Common.{◌≡◌, ℕ, ◌+◌, ◌≤◌, ◌⊎◌, inl, inr, List, Option, arith}
 use Rattle.giop_checkpoint.specs.declared.layout.Layout.{Layout}
-use Rattle.giop_checkpoint.specs.declared.layout.Layout.TheVariants.{Third, Sixth}
+use Rattle.giop_checkpoint.specs.declared.layout.Layout.TheVariants.{Third, Latest}
 use Rattle.giop_checkpoint.specs.Layouts.{OpenHasRange, IsAmong, owner_octet, limit_octets}
 use Rattle.giop_checkpoint.proofs.States.{among_more, number_is, number_small}
 use Rattle.giop_checkpoint.proofs.state.owner_at.Goals as goal
 
--- the third layout and the sixth have one place for the record's number
+-- the third layout and the latest have one place for the record's number
 by_layout : {layout : Layout} {octet n result : _} {owner : Option ℕ} {octets : List ℕ} →
-    (layout ≡ Third) ⊎ (layout ≡ Sixth)
+    (layout ≡ Third) ⊎ (layout ≡ Latest)
     → (OpenHasRange Third n → IsAmong (n + 1) owner → octets ≡ limit_octets Third n owner →
     result ≡ owner)
     → OpenHasRange layout n → IsAmong (n + 1) owner → octet ≡ owner_octet layout owner →

@@ -3,7 +3,8 @@ use Rattle.giop_cdr.specs.declared.prim.Primitive.{Primitive}
 use Rattle.giop_decode.specs.ReadingSteps.{leading_width}
 use Rattle.giop_decode.proofs.Rooms.{union_of_room}
 use Rattle.giop_sig.specs.Trees.{tree_at}
-use Rattle.giop_sig.specs.Types.{Enum, IsUnion, Marked, Plain, Scalar, Single, Ty, Union, shape_in, switch_of, width}
+use Rattle.giop_decode.proofs.OctetKinds.{octets_no_union}
+use Rattle.giop_sig.specs.Types.{Enum, IsUnion, Marked, Octets, Plain, Scalar, Single, Ty, Union, shape_in, switch_of, width}
 use Rattle.giop_sig.specs.declared.types.Shape.TheVariants as shapes
 use Rattle.giop_decode.proofs.leading_numbers.switch_width.Goals as goal
 
@@ -17,6 +18,7 @@ union_width (Union choice own select names cases) scalar is e = sym (same_width 
 union_width (Single (Plain p)) scalar is e = absurd is
 union_width (Single (Enum count names)) scalar is e = absurd is
 union_width (Single (Marked mark)) scalar is e = absurd is
+union_width (Octets kind) scalar is e = absurd (octets_no_union kind is)
 union_width _ scalar is e = absurd is
 
 -- which takes four octets where it is no primitive's
@@ -29,6 +31,7 @@ other_width (Union choice (Marked mark) select names cases) S is e other = refl
 other_width (Single (Plain p)) S is e other = absurd is
 other_width (Single (Enum count names)) S is e other = absurd is
 other_width (Single (Marked mark)) S is e other = absurd is
+other_width (Octets kind) S is e other = absurd (octets_no_union kind is)
 other_width _ S is e other = absurd is
 
 pub returns-in-Prim-clause-width : goal.returns-in-Prim-clause-width

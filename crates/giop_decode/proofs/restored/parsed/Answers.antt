@@ -13,6 +13,7 @@ returns c d h =
         c.root_at-root.ensures d.head.root _ f.root.1,
       ) at c.new.ensures;
       at = c.octet_at.ensures d.at _ f.at.1;
+      narrow = c.narrow_at.ensures d.narrow _ f.narrow.1;
       leaf = ap Some (c.leaf_at.ensures h.leaf _ h.leaf_range f.leaf.1) ∙ sym h.goes_on;
       outer = c.outer_at-outer.ensures d.outer.items _ h.outer_range h.few h.frames_are;
       inside = c.is_inside-inside.ensures ∙ ap is_inside c.as_slice.ensures.value;

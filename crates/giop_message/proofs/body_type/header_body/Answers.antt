@@ -1,7 +1,9 @@
 use Rattle.std.proofs.Common.{true, sym, ap, ◌∙◌}
 use Rattle.giop_decode.specs.Noted.{noted_of}
 use Rattle.giop_print.specs.declared.path.Root.TheVariants as roots
-use Rattle.std.specs.Option.{option_map}
+use Rattle.std.specs.Option.{option_and_then}
+use Rattle.giop_sig.specs.Table.{in_version}
+use Rattle.giop_message.specs.Headers.{minor}
 use Rattle.giop_message.specs.Messages.{type_if}
 use Rattle.giop_message.specs.Signatures.{request_type, signatures_of}
 use Rattle.giop_message.proofs.Starting.{named_body, request_wants, reply_wants, locate_wants, others_want}
@@ -12,7 +14,8 @@ returns-then-kind_of-eq0-clause-is g c r keeps_noted is =
     let C = c.args.catalogue.now in
     let answer = g.Q.Correspondent.answer (g.Q.Correspondent.state c.args.correspondent.now) in
     let request = sym c.kind_of.ensures ∙ c.if-kind_of-eq0.true in
-    c.request_body.ensures.is ∙ (ap (λ o. type_if (option_map (request_type C) o)) is
+    c.request_body.ensures.is ∙ (ap (λ o. type_if
+    (option_and_then (request_type (in_version (minor c.args.header.now) C)) o)) is
     ∙ (named_body C answer c.args.header.now (noted_of true r) request
     ∙ sym (request_wants (signatures_of C answer) c.args.header.now (noted_of true r) request)))
 

@@ -2,7 +2,7 @@ use Rattle.std.proofs.Common.{Some, ap, refl, ◌∙◌}
 use Rattle.giop_octets.specs.Fields.{four}
 use Rattle.giop_checkpoint.specs.Layouts.{version_of}
 use Rattle.giop_checkpoint.specs.declared.layout.Layout.{Layout}
-use Rattle.giop_checkpoint.specs.declared.layout.Layout.TheVariants.{Second, Third, Sixth}
+use Rattle.giop_checkpoint.specs.declared.layout.Layout.TheVariants.{Second, Third, Latest}
 use Rattle.giop_checkpoint.proofs.States.{value_of}
 use Rattle.giop_checkpoint.proofs.Versions.{one_layout}
 use Rattle.giop_checkpoint.proofs.layout.Layout.of.Goals as goal
@@ -24,6 +24,6 @@ returns-then-same-2 c layout =
 pub returns-then-same-3 : goal.returns-then-same-3
 returns-then-same-3 c layout =
     let is = c.if-same-3.ensures.0 refl ∙ c.version-3.ensures in (
-      λ h. is ∙ ap (λ (l : Layout). four (version_of l)) (value_of _ Sixth layout h refl),
-      λ h. ap Some (one_layout c.args.octets.now Sixth layout is h),
+      λ h. is ∙ ap (λ (l : Layout). four (version_of l)) (value_of _ Latest layout h refl),
+      λ h. ap Some (one_layout c.args.octets.now Latest layout is h),
     )

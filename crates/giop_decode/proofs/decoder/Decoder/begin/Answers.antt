@@ -16,13 +16,13 @@ returns-clause-reads c =
     c.new-self.ensures (λ here. c.begin-first.ensures.begun here ∙ rw c.clear.ensures refl)
     (c.begin-first.ensures.stand c.args.offset (rw c.clear.ensures tt))
     (rw c.clear.ensures at c.begin-first.ensures.leaf)
-    (c.clear-3.ensures.nothing C true) refl refl refl refl
+    (c.clear-3.ensures.nothing C true) c.requires.version refl refl refl refl
 
 pub returns-clause-fits : goal.returns-clause-fits
 returns-clause-fits c some =
     let C = c.args.catalogue.now in
     let T = tree C c.args.of.0 in
-    first_fits C c.args.of.0 _ c.begin-first.result c.requires
+    first_fits C c.args.of.0 _ c.begin-first.result c.requires.known
     (fit_some T c.if-is_empty.ensures.root some) refl
     c.new-self.ensures c.clear-2.ensures (λ here. c.begin-first.ensures.begun here
     ∙ rw c.clear.ensures refl) (c.begin-first.ensures.stand _ (rw c.clear.ensures tt))
@@ -33,7 +33,7 @@ returns-clause-fits c some =
     (rw c.clear.ensures at c.begin-first.ensures.leaf)
     (c.begin-first.ensures.linked c.args.of.0 (rw c.clear.ensures refl))
     c.begin-first.ensures.known_outer c.begin-first.ensures.known (omega arith)
-    (c.clear-3.ensures.nothing C true) c.clear-3.ensures.no_key
+    (c.clear-3.ensures.nothing C true) c.clear-3.ensures.no_key c.requires.version
 
 pub returns-then-is_empty-clause-reads : goal.returns-then-is_empty-clause-reads
 returns-then-is_empty-clause-reads c =

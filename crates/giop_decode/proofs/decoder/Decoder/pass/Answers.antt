@@ -101,6 +101,7 @@ returns c d b =
     record {
       order = e.order ∙ b.order;
       head = e.head ∙ b.head;
+      narrow = e.narrow ∙ b.narrow;
       here = λ here h. (
         omega (arith, h.0, e.at, b.at),
         e.stand (here + 1) (omega arith)

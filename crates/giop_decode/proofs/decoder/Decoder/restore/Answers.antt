@@ -1,30 +1,60 @@
+use Rattle.std.proofs.Common.{◌≡◌, sym, subst, ◌∙◌, arith}
+use Rattle.giop_decode.specs.SeenState as states
 use Rattle.giop_decode.proofs.StoredAgain.{restored_fits, restored_reads}
 use Rattle.giop_decode.proofs.StoredChain.{chains_fits, fits_chains}
+use Rattle.giop_decode.proofs.Versions.{fits_own, reads_own}
 use Rattle.giop_decode.proofs.decoder.Decoder.restore.Goals as goal
+use Rattle.giop_sig.specs.Table.{seen}
+
+pub returns-then-decoder-narrow-clause-again : goal.returns-then-decoder-narrow-clause-again
+returns-then-decoder-narrow-clause-again c d fits version stored =
+    let restored = c.parsed-decoder.ensures d stored in
+    let same : c.parsed-decoder.result.narrow ≡ c.is_narrow-narrow.result =
+    restored.narrow ∙ (version ∙ sym c.is_narrow-narrow.ensures) in
+    search (arith)
 
 pub returns-then-not-chains-clause-again : goal.returns-then-not-chains-clause-again
-returns-then-not-chains-clause-again c d fits stored =
+returns-then-not-chains-clause-again c d fits version stored =
     let C = c.args.catalogue.now in
-    let again = restored_fits C d _ (c.parsed-decoder.ensures d stored) fits in
-    let chains = c.chains.ensures.1 (fits_chains C _ c.laws.ensures again) in
+    let S = seen c.is_narrow-narrow.result C in
+    let same : d.narrow ≡ c.is_narrow-narrow.result = version ∙ sym c.is_narrow-narrow.ensures in
+    let fit : states.Fits S d = subst (λ n. states.Fits (seen n C) d) same fits in
+    let restored = c.parsed-decoder.ensures d stored in
+    let laws = rw c.seen-seen.ensures.is at c.laws.ensures in
+    let is = rw c.seen-seen.ensures.is at c.chains.ensures in
+    let chains = is.1 (fits_chains S _ laws (restored_fits S d _ restored fit)) in
     cc
 
 pub returns-then-not-is_stored_as-clause-again : goal.returns-then-not-is_stored_as-clause-again
-returns-then-not-is_stored_as-clause-again c d fits stored =
+returns-then-not-is_stored_as-clause-again c d fits version stored =
     let C = c.args.catalogue.now in
     let restored = c.parsed-decoder.ensures d stored in
-    let is = c.is_stored_as.ensures.again C d (restored_fits C d _ restored fits) stored restored in
+    let again = fits_own d.narrow C _ (restored_fits (seen d.narrow C) d _ restored fits) in
+    let is = c.is_stored_as.ensures.again C d again stored restored in
     cc
 
 pub returns-clause-fits : goal.returns-clause-fits
-returns-clause-fits c = chains_fits c.args.catalogue.now _ c.laws.ensures (c.chains.ensures.0 (cc))
+returns-clause-fits c =
+    let C = c.args.catalogue.now in
+    let S = seen c.is_narrow-narrow.result C in
+    let laws = rw c.seen-seen.ensures.is at c.laws.ensures in
+    let is = rw c.seen-seen.ensures.is at c.chains.ensures in
+    let same : c.parsed-decoder.result.narrow ≡ c.is_narrow-narrow.result = search (arith) in
+    fits_own c.is_narrow-narrow.result C _ (chains_fits S _ laws same (is.0 (cc)))
+
+pub returns-clause-version : goal.returns-clause-version
+returns-clause-version c =
+    let same : c.parsed-decoder.result.narrow ≡ c.is_narrow-narrow.result = search (arith) in
+    same ∙ c.is_narrow-narrow.ensures
 
 pub returns-clause-stored : goal.returns-clause-stored
+unfolding returns-clause-fits
 returns-clause-stored c =
-    let C = c.args.catalogue.now in
-    c.is_stored_as.ensures.stored C (chains_fits C _ c.laws.ensures (c.chains.ensures.0 (cc))) (cc)
+    c.is_stored_as.ensures.stored c.args.catalogue.now (returns-clause-fits c) (cc)
 
 pub returns-clause-reads : goal.returns-clause-reads
 returns-clause-reads c d fits stored T order at message root s reads =
-    restored_reads c.args.catalogue.now d _ T order at message root s
-    (c.parsed-decoder.ensures d stored) reads
+    let C = c.args.catalogue.now in
+    reads_own d.narrow C T order at message root _ s
+    (restored_reads (seen d.narrow C) d _ T order at message root s
+    (c.parsed-decoder.ensures d stored) reads)

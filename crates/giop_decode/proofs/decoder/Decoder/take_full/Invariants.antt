@@ -14,7 +14,7 @@ invariant-loop-piece g l =
       quiet : IsQuiet l.catalogue l.self.head.root;
       outside : l.self.inside ≡ withins.Nothing;
       front : line_text l.front ≡ path_front l.catalogue l.self;
-      short : length (line_text l.front) ≤ 90;
+      short : length (line_text l.front) ≤ 89;
     }
 
 abbrev pub decreases-loop-piece : goal.decreases-loop-piece

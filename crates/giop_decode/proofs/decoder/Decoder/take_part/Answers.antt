@@ -23,6 +23,7 @@ returns-clause-takes g c =
     (record {
       order = refl;
       head = refl;
+      narrow = refl;
       inside = refl;
       notes = refl;
       carry = refl;

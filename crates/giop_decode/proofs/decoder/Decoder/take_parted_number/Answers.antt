@@ -8,7 +8,7 @@ use Rattle.giop_decode.specs.declared.leaf.Leaf.TheVariants as innermost
 use Rattle.giop_decode.specs.declared.leaf.Output.TheVariants as outputs
 use Rattle.giop_decode.specs.declared.leaf.Step.{Step}
 use Rattle.giop_decode.specs.declared.leaf.Transition.TheVariants as transitions
-use Rattle.giop_decode.specs.DecoderState.{Fits}
+use Rattle.giop_decode.specs.SeenState.{Fits}
 use Rattle.giop_decode.specs.ReadingSteps.{leading_width}
 use Rattle.giop_decode.specs.Runs.{IsHeldOf, IsStep, IsStepOf}
 use Rattle.giop_decode.specs.Transitions.{HaveOctetsLeft, NumberStands, coding_by, ticked_by, tree_in}

@@ -4,7 +4,7 @@ use Rattle.giop_decode.specs.contracts.frame.Within.{the_type}
 use Rattle.giop_decode.specs.declared.frame.Within.{Within}
 use Rattle.giop_decode.specs.declared.frame.Within.TheVariants.{Nothing, Encapsulation, Telling}
 use Rattle.giop_decode.specs.declared.decoder.Decoder.{Decoder as Before}
-use Rattle.giop_decode.specs.DecoderState.{Fits}
+use Rattle.giop_decode.specs.SeenState.{Fits}
 use Rattle.giop_decode.specs.Transitions.{HaveOctetsLeft, is_inside, ticked_by}
 use Rattle.giop_sig.specs.Table.{Table}
 use Rattle.giop_decode.proofs.Counting.{ahead_free}

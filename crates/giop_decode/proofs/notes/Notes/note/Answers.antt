@@ -1,6 +1,6 @@
 use Rattle.std.proofs.Common.{sym, ◌≡◌, suc, ◌-◌, ◌∙◌, [], length, arith, subst}
 use Rattle.giop_decode.specs.Noted.{is_header_root}
-use Rattle.giop_decode.specs.DecoderState.{HoldsNoted}
+use Rattle.giop_decode.specs.SeenState.{HoldsNoted}
 use Rattle.giop_decode.specs.ReadingSteps.{path_in}
 use Rattle.giop_decode.specs.Transitions.{open_parts, tree_in}
 use Rattle.giop_decode.proofs.Noting.{keyless_piece, silent_piece, switch_noted, unnamed_piece}

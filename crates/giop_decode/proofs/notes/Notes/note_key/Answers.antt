@@ -1,5 +1,5 @@
 use Rattle.std.proofs.Common.{sym, ◌∙◌, ap, subst}
-use Rattle.giop_decode.specs.DecoderState.{HoldsNoted}
+use Rattle.giop_decode.specs.SeenState.{HoldsNoted}
 use Rattle.giop_decode.specs.Noted.{with_key_piece, key_ended}
 use Rattle.giop_decode.proofs.Noting.{key_both, key_last, key_more}
 use Rattle.giop_decode.proofs.notes.Notes.note_key.Goals as goal

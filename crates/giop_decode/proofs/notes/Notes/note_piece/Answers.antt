@@ -4,7 +4,7 @@ use Rattle.std.proofs.Math.Dec.{eqb-suc-zero}
 use Rattle.std.specs.Bool.{◌==◌}
 use Rattle.giop_decode.specs.declared.notes.Notes.{Notes}
 use Rattle.giop_decode.specs.Noted.{Noted, without_name_if, with_piece}
-use Rattle.giop_decode.specs.DecoderState.{HoldsNoted}
+use Rattle.giop_decode.specs.SeenState.{HoldsNoted}
 use Rattle.giop_sig.specs.Table.{Table}
 use Rattle.giop_decode.proofs.Noting.{piece_both, piece_last, piece_more}
 use Rattle.giop_decode.proofs.notes.Notes.note_piece.Goals.{then-not-is_empty, else-not-is_empty}

@@ -1,13 +1,17 @@
-use Rattle.std.proofs.Common.{◌+◌, length, sym, ap, ◌∙◌}
+use Rattle.std.proofs.Common.{◌≡◌, ◌+◌, true, length, sym, ap, ◌∙◌}
+use Rattle.giop_sig.specs.Table.{in_version}
 use Rattle.giop_sig.specs.Trees.{tree}
-use Rattle.giop_message.specs.Headers.{order}
-use Rattle.giop_message.specs.Messages.{with_front, typed}
+use Rattle.giop_message.specs.Headers.{minor, order}
+use Rattle.giop_message.specs.Messages.{Typed, body_may_be_missing, with_front, typed}
 use Rattle.giop_message.proofs.Starting.{empty_rests, some_not_empty}
 use Rattle.giop_message.proofs.message.Message.begin_typed.Goals as goal
 
 pub begin-requires-clause-some : goal.begin-requires-clause-some
-begin-requires-clause-some c = some_not_empty (tree c.args.catalogue.now c.args.of.0)
-    (sym c.is_empty.ensures ∙ c.if-is_empty.false)
+begin-requires-clause-some c =
+    some_not_empty (tree (in_version (minor c.args.self.now.header) c.args.catalogue.now)
+    c.args.of.0)
+    (rw (← c.minor_of.ensures, ← c.in_version.ensures)
+    (sym c.is_empty.ensures ∙ c.if-is_empty.false))
 
 pub returns-then-is_empty-clause-fits : goal.returns-then-is_empty-clause-fits
 returns-then-is_empty-clause-fits c = c.begin_rest.ensures.fits c.args.catalogue.now
@@ -15,8 +19,10 @@ returns-then-is_empty-clause-fits c = c.begin_rest.ensures.fits c.args.catalogue
 pub returns-then-is_empty-clause-arrives : goal.returns-then-is_empty-clause-arrives
 returns-then-is_empty-clause-arrives c answers number header s at before e =
     let C = c.args.catalogue.now in
-    let T = tree C c.args.of.0 in
-    let empty = sym c.is_empty.ensures ∙ c.if-is_empty.true in
+    let T = tree (in_version (minor header) C) c.args.of.0 in
+    let empty : body_may_be_missing (Typed T) ≡ true = rw
+    (← at.same_header, ← c.minor_of.ensures, ← c.in_version.ensures)
+    (sym c.is_empty.ensures ∙ c.if-is_empty.true) in
     c.begin_rest.ensures.arrives C answers number header s at before
     (e ∙ ap (with_front before) (empty_rests (order header) T (12 + length s) empty))
 

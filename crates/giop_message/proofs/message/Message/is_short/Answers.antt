@@ -11,7 +11,11 @@ returns-in-Typed c answers number header s f = rw (section_short f c.requires c.
 pub returns-in-Padding : goal.returns-in-Padding
 returns-in-Padding c answers number header s f =
     rw (padding_stage f c.requires c.in-Padding.is, padding_short)
-    (ap not c.body_may_be_missing.ensures)
+    (ap not (rw (
+      ← f.same_header,
+      ← c.minor_of.ensures,
+      ← c.in_version.ensures,
+    ) c.body_may_be_missing.ensures))
 
 pub returns-in-Rest : goal.returns-in-Rest
 returns-in-Rest c answers number header s f =

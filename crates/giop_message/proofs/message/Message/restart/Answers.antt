@@ -1,5 +1,6 @@
 use Rattle.std.proofs.Common.{◌≡◌, [], None, Some, refl, sym, ◌∙◌}
 use Rattle.giop_sig.specs.HeaderTypes.{header_type}
+use Rattle.giop_sig.specs.Table.{in_version}
 use Rattle.giop_sig.specs.Trees.{tree}
 use Rattle.giop_message.specs.Headers.{minor, kind}
 use Rattle.giop_message.specs.Signatures.{signatures_of}
@@ -9,16 +10,18 @@ use Rattle.giop_message.proofs.Starting.{fit_some, none_told, none_rests, front_
 use Rattle.giop_message.proofs.message.Message.restart.Goals as goal
 
 pub begin-requires-clause-some : goal.begin-requires-clause-some
-begin-requires-clause-some c = fit_some (tree c.args.catalogue.now c.in-Some.of.0)
-    c.in-Some.ensures.fit
+begin-requires-clause-some c =
+    fit_some (tree (in_version (minor c.args.header) c.args.catalogue.now) c.in-Some.of.0)
+    (rw (← c.minor_of-minor.ensures, ← c.in_version.ensures) c.in-Some.ensures.fit)
 
 pub returns-in-Some-clause-follows : goal.returns-in-Some-clause-follows
 unfolding signatures_of
 returns-in-Some-clause-follows c answers =
     let e = c.begin.ensures in
     let found : header_type (minor c.args.header) (kind c.args.header)
-    ≡ Some (tree c.args.catalogue.now c.in-Some.of.0) =
-    rw (← c.minor_of.ensures, ← c.kind_of.ensures) (sym c.in-Some.ensures.tree) in
+    ≡ Some (tree (in_version (minor c.args.header) c.args.catalogue.now) c.in-Some.of.0) =
+    rw (← c.minor_of-minor.ensures, ← c.kind_of.ensures, ← c.in_version.ensures)
+    (sym c.in-Some.ensures.tree) in
     record {
       same_number = e.number;
       same_header = e.header;
@@ -28,7 +31,7 @@ returns-in-Some-clause-follows c answers =
           (record { same_number = refl; same_header = refl; at = refl }) nothing_said
           (found, refl, refl)
           (header_first (signatures_of c.args.catalogue.now (answers c.args.number)) c.args.header
-          (tree c.args.catalogue.now c.in-Some.of.0) found);
+          (tree (in_version (minor c.args.header) c.args.catalogue.now) c.in-Some.of.0) found);
     }
 
 pub returns-in-None-clause-follows : goal.returns-in-None-clause-follows
@@ -37,7 +40,7 @@ returns-in-None-clause-follows c answers =
     let e = c.begin_rest.ensures in
     let S = signatures_of c.args.catalogue.now (answers c.args.number) in
     let none : header_type (minor c.args.header) (kind c.args.header) ≡ None =
-    rw (← c.minor_of.ensures, ← c.kind_of.ensures) (sym c.in-None.ensures.tree) in
+    rw (← c.minor_of-minor.ensures, ← c.kind_of.ensures) (sym c.in-None.ensures.tree) in
     record {
       same_number = e.number;
       same_header = e.header;

@@ -1,6 +1,7 @@
 use Rattle.std.proofs.Common.{◌≡◌, ◌*◌, ◌++◌, ℕ, List, length, take, drop, sym, ap, subst, ◌∙◌}
 use Rattle.std.proofs.lemmas.List.{drop_at, take_at}
 use Rattle.giop_decode.specs.Stored.{frame_size}
+use Rattle.giop_message.specs.Headers.{minor}
 use Rattle.giop_message.specs.Stored.{IsOwnOf, PartStored}
 use Rattle.giop_message.proofs.Storing.{own_long}
 use Rattle.giop_message.proofs.message.Message.store.Goals as goal
@@ -20,11 +21,12 @@ returns-clause-stored c C fits =
     let long : length own ≡ 16 = ap length c.own_octets-own.ensures.is ∙ own_long m in
     let front = ap (take 16) both ∙ take_at own part 16 long in
     let behind = ap (drop 16) both ∙ drop_at own part 16 long in
-    let stored = c.store-count.ensures.stored C m.at fits in
+    let stored = c.store-count.ensures.stored C (minor m.header) m.at fits in
     record {
       own = subst (λ (xs : List ℕ). IsOwnOf xs m) (sym front) c.own_octets-own.ensures;
       part = subst (λ (xs : List ℕ). PartStored m.decoder m.part xs frames) (sym behind) stored;
     }
 
 pub returns-clause-depth : goal.returns-clause-depth
-returns-clause-depth c C fits = c.store-count.ensures.depth C c.args.self.now.at fits
+returns-clause-depth c C fits =
+    c.store-count.ensures.depth C (minor c.args.self.now.header) c.args.self.now.at fits

@@ -17,9 +17,9 @@ use Rattle.giop_message.proofs.SectionRuns.{if_err, first_alone, standing, took,
 use Rattle.giop_message.proofs.message.Message.take_some.Goals as goal
 
 -- a section that has ended is still the part
-ended_in : {C : Table} (d : Decoder) (section : Section) (r : Read) {part : Part} →
+ended_in : (C : Table) (d : Decoder) (section : Section) (r : Read) {part : Part} →
     part ≡ parts.Typed section → KeepsNoted C (root_of section) d r → Ended C d part section r
-ended_in {C} d section r is keeps_noted =
+ended_in C d section r is keeps_noted =
     subst (λ p. Ended C d p section r) (sym is) (refl, keeps_noted)
 
 pub returns-in_err-taken-in-Typed-clause-writes : goal.returns-in_err-taken-in-Typed-clause-writes
@@ -95,13 +95,15 @@ returns-in-Done-clause-took g c answers number header s f agrees =
     let xs = take c.in_ok-taken-in-Typed.taken c.args.octets.now in
     went_done k _ _ (record { number = refl; header = refl; at = refl }) refl
     (e.arrives answers number header (s ++ xs) c.in-Typed.field-0 (ReadWith t xs)
-    (ended_in c.take_run.new.self c.in-Typed.field-0 (ReadWith t xs) c.in-Typed.is
+    (ended_in c.args.catalogue.now c.take_run.new.self c.in-Typed.field-0 (ReadWith t xs)
+    c.in-Typed.is
     k.takes.keeps_noted)
     (answered_here g.Q.Correspondent.answer g.Q.Correspondent.notified
     (g.Q.Correspondent.state c.args.correspondent.now) answers k agrees))
     (record { number = e.number; header = e.header; at = e.at })
     (e.id c.in-Typed.field-0 (ReadWith t xs)
-    (ended_in c.take_run.new.self c.in-Typed.field-0 (ReadWith t xs) c.in-Typed.is
+    (ended_in c.args.catalogue.now c.take_run.new.self c.in-Typed.field-0 (ReadWith t xs)
+    c.in-Typed.is
     k.takes.keeps_noted)) e.past
 
 pub returns-in_err-fault_line-in-Fault-clause-writes :
@@ -222,7 +224,8 @@ returns-in-Done-clause-told g c answers number header s f =
     told_here g.Q.Correspondent.answer g.Q.Correspondent.notified
     (g.Q.Correspondent.state c.args.correspondent.now) _ k
     (c.leave.ensures.told c.in-Typed.field-0 (ReadWith t xs)
-    (ended_in c.take_run.new.self c.in-Typed.field-0 (ReadWith t xs) c.in-Typed.is
+    (ended_in c.args.catalogue.now c.take_run.new.self c.in-Typed.field-0 (ReadWith t xs)
+    c.in-Typed.is
     k.takes.keeps_noted))
 
 pub returns-in_ok-fault_line-in-Fault-clause-told :

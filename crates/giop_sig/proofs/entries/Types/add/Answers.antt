@@ -5,6 +5,11 @@ pub invariant_of-self-2 : goal.invariant_of-self-2
 invariant_of-self-2 c =
     kept_pushed c.self.inside.placed.items c.push.new.self.items c.self.inside.deepest
     c.max-self-inside.result
-    (record { entry = c.args.entry; depth = c.depth_above-depth.result })
+    (record {
+      entry = c.args.entry;
+      depth = c.depth_above-depth.result;
+      wide = c.wide_above-wide.result;
+    })
     c.args.self.now c.self.invariant c.self.view_is c.requires.few c.requires.formed
-    c.depth_above-depth.ensures c.in_ok-push.ensures.items c.max-self-inside.ensures
+    c.depth_above-depth.ensures c.wide_above-wide.ensures c.in_ok-push.ensures.items
+    c.max-self-inside.ensures

@@ -1,0 +1,29 @@
+use Rattle.std.proofs.Common.{◌<◌, length}
+use Rattle.giop_sig.specs.Fits.{IsFit}
+use Rattle.giop_sig.specs.Trees.{tree}
+use Rattle.giop_sig.specs.HeaderTypes.{header_number}
+use Rattle.giop_sig.proofs.Builtins.{header_built_in, some_numbered, some_known, some_fit, header_found}
+use Rattle.giop_sig.proofs.HeaderLaws.{id_found}
+use Rattle.giop_sig.proofs.seen.SeenCatalogue.header.Goals as goal
+
+pub returns-clause-known : goal.returns-clause-known
+returns-clause-known c =
+    some_numbered (λ n. n < length c.args.self.now.types) (λ t. t.0) c.header_id.result
+    (header_number c.args.minor c.args.kind) c.header_id.ensures
+    (some_known c.args.self.now (header_number c.args.minor c.args.kind) c.laws.ensures
+    (header_built_in c.args.minor c.args.kind))
+
+pub returns-clause-tree : goal.returns-clause-tree
+returns-clause-tree c = header_found c.args.self.now (λ t. t.0) c.header_id.result c.args.minor
+    c.args.kind c.laws.ensures c.header_id.ensures
+
+pub returns-clause-fit : goal.returns-clause-fit
+returns-clause-fit c =
+    some_numbered (λ n. IsFit 24 (tree c.args.self.now n)) (λ t. t.0) c.header_id.result
+    (header_number c.args.minor c.args.kind) c.header_id.ensures
+    (some_fit c.args.self.now (header_number c.args.minor c.args.kind) c.laws.ensures
+    (header_built_in c.args.minor c.args.kind))
+
+pub returns-clause-id : goal.returns-clause-id
+returns-clause-id c = id_found c.args.self.now (λ t. t.0) c.header_id.result c.args.minor
+    c.args.kind c.laws.ensures c.header_id.ensures

@@ -1,0 +1,355 @@
+//! A catalogue as the messages of a version are read by it: in 1.0 and 1.1 wide text has no room.
+ghost use Rattle.std.specs.Prelude.{◌≡◌, ℕ, suc, ◌<◌, ◌≤◌, ◌++◌, ◌↔◌, List, false, codes, drop, length, IsTrue, IfSome, None};
+ghost use Rattle.std.specs.Option.{option_map};
+ghost use Rattle.giop_sig.specs.Types.{sequel, part_of, name_in, enum_name_in, switch_of, select_in, interpreted_in, shape_in, HasShape, HasMember, HasPlace, HasInner, IsUnion};
+ghost use Rattle.giop_sig.specs.Fits.{IsFit, IsRoot};
+ghost use Rattle.giop_sig.specs.Interfaces.{IsInterfaceOf};
+ghost use Rattle.giop_sig.specs.Hearings.{HasPart, hearing_in, sequel_of, sign_is, signal_after, told_of};
+ghost use Rattle.giop_sig.specs.HeaderTypes.{header_number, header_type, fixed_number, fixed_type, IdStandsFirst, BeginsWithId, IsTable};
+ghost use Rattle.giop_sig.specs.Table.{node_at, shape_of, part_number, part_at, name_of, name_at, switch_at, selected, interface_in, has_keys, seen, is_narrow, in_version};
+ghost use Rattle.giop_sig.specs.Trees.{any_hearing, follows, part_number_in, tree, tree_at};
+
+use crate::builtin::{fixed_id, header_id};
+use crate::catalogue::Catalogue;
+use crate::draft::THIRD_VERSION;
+use crate::entries::{Entry, EntryWithDepth};
+use crate::part_name::PartName;
+use crate::types::{Fixed, Following, InterfaceId, Selected, Shape, Sign, Signal, TypeId};
+use giop_cdr::Number;
+use std::marker::Model;
+
+/// A catalogue as it is seen by messages of 1.0 and 1.1, or by others. Its methods are those of `Catalogue` by which a
+/// value is read. A contract sees the whole `Table`.
+#[derive(Drop)]
+pub struct SeenCatalogue<'a> {
+    catalogue: &'a Catalogue,
+    /// The entries of its types, which a value is read by.
+    entries: &'a [EntryWithDepth],
+    narrow: bool,
+}
+
+impl<'a> Model for SeenCatalogue<'a> {
+    ghost use Rattle.giop_sig.specs.Table.{Table, seen};
+    ghost use Rattle.giop_sig.specs.Views.{IsSeen};
+
+    ghost Value = { Table };
+
+    ghost view = { λ a. seen a.narrow a.catalogue.now };
+
+    ghost invariant = { λ a. IsSeen (seen a.narrow a.catalogue.now) a.entries.now };
+}
+
+impl Catalogue {
+    /// The catalogue as messages see it in which wide text has no room, those of 1.0 and 1.1, or as others do.
+    #[inline(always)]
+    pub fn seen(&self, narrow: bool) -> SeenCatalogue<'_>
+        ensures is { result ≡ seen narrow self.now }
+        ensures own { narrow ≡ false → result ≡ self.now }
+    {
+        // What holds of every catalogue is known of this one once it is read.
+        let _types = &self.types;
+        self.laws();
+        SeenCatalogue {
+            catalogue: self,
+            entries: self.types.entries(),
+            narrow,
+        }
+    }
+
+    /// Whether wide text has no room in messages of a minor version.
+    #[inline(always)]
+    pub fn is_narrow(&self, minor: u8) -> bool
+        ensures { result ≡ is_narrow minor self.now }
+    {
+        minor < 2 && self.version == THIRD_VERSION
+    }
+
+    /// The catalogue as messages of a minor version see it.
+    #[inline(always)]
+    pub fn in_version(&self, minor: u8) -> SeenCatalogue<'_>
+        ensures { result ≡ in_version minor self.now }
+    {
+        self.seen(self.is_narrow(minor))
+    }
+}
+
+impl<'a> SeenCatalogue<'a> {
+    ghost use Rattle.giop_sig.specs.Views.{node_view, IsSized};
+
+    /// What holds of every catalogue: it has no body, and is called for its contract.
+    #[inline(always)]
+    pub fn laws(&self)
+        ensures { IsTable self.now }
+    {
+        // What holds of every seen catalogue is known of this one once it is read.
+        let _catalogue = self.catalogue;
+    }
+
+    /// The entry of a type.
+    #[inline(always)]
+    fn entry(&self, t: TypeId) -> &'a Entry
+        requires { t.0 < length self.now.types }
+        ensures node { node_view result.now ≡ node_at self.now t.0 }
+        ensures sized { IsSized result.now }
+    {
+        &self.entries[t.0 as usize].entry
+    }
+
+    /// As `Catalogue::has`.
+    #[inline(always)]
+    pub fn has(&self, t: TypeId) -> bool
+        ensures { IsTrue result ↔ (t.0 < length self.now.types) }
+    {
+        self.catalogue.has(t)
+    }
+
+    /// As `Catalogue::shape`.
+    #[inline(always)]
+    pub fn shape(&self, t: TypeId) -> Shape
+        requires { t.0 < length self.now.types }
+        ensures is { result ≡ shape_of (node_at self.now t.0) }
+        ensures tree { result ≡ shape_in (tree self.now t.0) }
+        ensures shape { HasShape (tree self.now t.0) result }
+        // The same in each room.
+        ensures rooms { (n : ℕ) → result ≡ shape_in (tree_at self.now n t.0) }
+        ensures shapes { (n : ℕ) → HasShape (tree_at self.now n t.0) result }
+        ensures root { IsRoot (tree self.now t.0) }
+    {
+        self.laws();
+        self.entry(t).shape()
+    }
+
+    /// As `Catalogue::part`.
+    #[inline(always)]
+    pub fn part(&self, t: TypeId, place: u32) -> TypeId
+        requires known { t.0 < length self.now.types }
+        requires place { HasPlace (shape_in (tree self.now t.0)) place }
+        requires led { shape_in (tree self.now t.0) ≡ Shape.Led → place ≤ length self.now.types }
+        ensures number { result.0 ≡ part_number self.now t.0 place }
+        ensures known { result.0 < length self.now.types }
+        ensures below { HasInner (shape_in (tree self.now t.0)) place → result.0 < t.0 }
+        // A part has one level less room than its whole; only those of a union may be others in another room.
+        ensures rooms { (IsUnion (shape_in (tree self.now t.0)) → ⊥) → (n : ℕ) →
+            tree_at self.now n result.0 ≡ part_of (tree_at self.now (suc n) t.0) place }
+    {
+        self.laws();
+        self.entry(t).part(place)
+    }
+
+    /// As `Catalogue::part_in`.
+    #[inline(always)]
+    pub fn part_in(&self, t: TypeId, place: u32, room: u8) -> TypeId
+        requires known { t.0 < length self.now.types }
+        requires place { HasPlace (shape_in (tree self.now t.0)) place }
+        requires led { shape_in (tree self.now t.0) ≡ Shape.Led → place ≤ length self.now.types }
+        ensures number { result.0 ≡ part_number_in self.now room t.0 place }
+        ensures known { result.0 < length self.now.types }
+        ensures tree { tree_at self.now room result.0
+            ≡ part_of (tree_at self.now (suc room) t.0) place }
+    {
+        self.laws();
+        self.entry(t).part_in(place, room)
+    }
+
+    /// As `Catalogue::part_name`.
+    #[inline(always)]
+    pub fn part_name(&self, t: TypeId, place: u32) -> &'a [u8]
+        requires known { t.0 < length self.now.types }
+        requires place { HasMember (shape_in (tree self.now t.0)) place }
+        ensures name { result.now ≡ name_of (part_at (node_at self.now t.0) place) }
+        ensures tree { result.now ≡ name_in (tree self.now t.0) place }
+        ensures rooms { (n : ℕ) → result.now ≡ name_in (tree_at self.now n t.0) place }
+        ensures short { length result.now ≤ 64 }
+    {
+        self.kept_name(t, place).octets()
+    }
+
+    /// As `Catalogue::dotted_name`.
+    #[inline(always)]
+    pub fn dotted_name(&self, t: TypeId, place: u32) -> &'a [u8]
+        requires known { t.0 < length self.now.types }
+        requires place { HasMember (shape_in (tree self.now t.0)) place }
+        ensures tree { drop 15 result.now ≡ codes "." ++ name_in (tree self.now t.0) place }
+        ensures rooms { (n : ℕ) →
+            drop 15 result.now ≡ codes "." ++ name_in (tree_at self.now n t.0) place }
+        ensures size { 16 ≤ length result.now }
+        ensures short { length result.now ≤ 80 }
+    {
+        self.kept_name(t, place).dotted()
+    }
+
+    /// The name of a part, as it is kept.
+    #[inline(always)]
+    fn kept_name(&self, t: TypeId, place: u32) -> &'a PartName
+        requires known { t.0 < length self.now.types }
+        requires place { HasMember (shape_in (tree self.now t.0)) place }
+        ensures name { result.now ≡ name_of (part_at (node_at self.now t.0) place) }
+        ensures tree { result.now ≡ name_in (tree self.now t.0) place }
+        ensures rooms { (n : ℕ) → result.now ≡ name_in (tree_at self.now n t.0) place }
+        ensures short { length result.now ≤ 64 }
+    {
+        self.laws();
+        self.entry(t).part_name(place)
+    }
+
+    /// As `Catalogue::enum_name`.
+    #[inline(always)]
+    pub fn enum_name(&self, t: TypeId, number: u32) -> Option<&'a [u8]>
+        requires { t.0 < length self.now.types }
+        ensures name { option_map (λ x. x.now) result ≡ name_at (node_at self.now t.0) number }
+        ensures tree { option_map (λ x. x.now) result ≡ enum_name_in (tree self.now t.0) number }
+        ensures rooms { (n : ℕ) →
+            option_map (λ x. x.now) result ≡ enum_name_in (tree_at self.now n t.0) number }
+        ensures short { IfSome result (λ x. length x.now ≤ 64) }
+    {
+        self.laws();
+        self.entry(t).enum_name(number)
+    }
+
+    /// As `Catalogue::switch_type`.
+    #[inline(always)]
+    pub fn switch_type(&self, t: TypeId) -> TypeId
+        requires known { t.0 < length self.now.types }
+        requires union { IsUnion (shape_in (tree self.now t.0)) }
+        ensures number { result.0 ≡ switch_at (node_at self.now t.0) }
+        ensures below { result.0 < t.0 }
+        ensures tree { tree self.now result.0 ≡ switch_of (tree self.now t.0) }
+        // A number takes no room.
+        ensures rooms { (m n : ℕ) →
+            tree_at self.now m result.0 ≡ switch_of (tree_at self.now (suc n) t.0) }
+    {
+        self.laws();
+        self.entry(t).switch_type()
+    }
+
+    /// As `Catalogue::select`.
+    #[inline(always)]
+    pub fn select(&self, t: TypeId, number: Number) -> Selected
+        requires { t.0 < length self.now.types }
+        ensures is { result ≡ selected (node_at self.now t.0) number }
+        // By the whole number that the discriminator's octets spell.
+        ensures tree { (n : ℕ) → interpreted_in (switch_of (tree self.now t.0)) n ≡ Some number
+            → result ≡ select_in (tree self.now t.0) n }
+        ensures rooms { (m n : ℕ) → interpreted_in (switch_of (tree_at self.now m t.0)) n
+            ≡ Some number → result ≡ select_in (tree_at self.now m t.0) n }
+        ensures place { (i : ℕ) → result ≡ Selected.Case i
+            → HasMember (shape_in (tree self.now t.0)) i }
+    {
+        self.laws();
+        self.entry(t).select(number)
+    }
+
+    /// As `Catalogue::header`.
+    #[inline(always)]
+    pub fn header(&self, minor: u8, kind: u8) -> Option<TypeId>
+        ensures number { option_map (λ t. t.0) result ≡ header_number minor kind }
+        ensures known { IfSome result (λ t. t.0 < length self.now.types) }
+        ensures tree { option_map (λ t. tree self.now t.0) result ≡ header_type minor kind }
+        ensures fit { IfSome result (λ t. IsFit 24 (tree self.now t.0)) }
+        // A reader that knows no type finds the request id at the front.
+        ensures id { IdStandsFirst minor kind
+            → IfSome result (λ t. BeginsWithId (tree self.now t.0)) }
+    {
+        self.laws();
+        header_id(minor, kind)
+    }
+
+    /// As `Catalogue::fixed`.
+    #[inline(always)]
+    pub fn fixed(&self, fixed: Fixed) -> TypeId
+        ensures number { result.0 ≡ fixed_number fixed }
+        ensures known { result.0 < length self.now.types }
+        ensures tree { tree self.now result.0 ≡ fixed_type fixed }
+        ensures fit { IsFit 24 (tree self.now result.0) }
+    {
+        self.laws();
+        fixed_id(fixed)
+    }
+
+    /// As `Catalogue::interface`.
+    pub fn interface(&self, key: &[u8]) -> Option<InterfaceId>
+        ensures is { result ≡ interface_in self.now key.now }
+        ensures whose { IsInterfaceOf self.now.interfaces key.now
+            (option_map (λ i. i.0) result) }
+        ensures known { IfSome result (λ i. i.0 < length self.now.interfaces.names) }
+    {
+        self.catalogue.interface(key)
+    }
+
+    /// As `Catalogue::has_keys`.
+    #[inline(always)]
+    pub fn has_keys(&self) -> bool
+        ensures is { result ≡ has_keys self.now }
+        ensures none { result ≡ false → (key : List ℕ) → interface_in self.now key ≡ None }
+    {
+        self.catalogue.has_keys()
+    }
+
+    /// As `Catalogue::has_interface`.
+    pub fn has_interface(&self, interface: InterfaceId) -> bool
+        ensures { IsTrue result ↔ (interface.0 < length self.now.interfaces.names) }
+    {
+        self.catalogue.has_interface(interface)
+    }
+
+    /// As `Catalogue::interface_laws`.
+    #[inline(always)]
+    pub fn interface_laws(&self)
+        ensures { (key : List ℕ) → IfSome (interface_in self.now key)
+            (λ i. i.0 < length self.now.interfaces.names) }
+    {
+        self.catalogue.interface_laws();
+    }
+
+    /// As `Catalogue::hear`.
+    pub fn hear(&self, t: TypeId, told: Signal, sign: Sign<'_>) -> Signal
+        requires { t.0 < length self.now.types }
+        ensures is { result ≡ signal_after self.now t.0 told sign.entry }
+        ensures heard { (n : ℕ) → told_of result
+            ≡ (hearing_in (tree_at self.now n t.0)).hears (told_of told)
+            (sign_is sign.entry) }
+    {
+        match self.shape(t) {
+            Shape::Led => self.catalogue.hear_any(told, sign),
+            _ => told,
+        }
+    }
+
+    /// As `Catalogue::following`.
+    pub fn following(&self, t: TypeId, told: Signal, room: u8) -> Following
+        requires { t.0 < length self.now.types }
+        ensures is { sequel (hearing_in (tree_at self.now (suc room) t.0)) (told_of told)
+            ≡ sequel_of result }
+        ensures place { HasPart result }
+        ensures known { (place : ℕ) → result ≡ Following.Then place →
+            place ≤ length self.now.types }
+    {
+        match self.shape(t) {
+            Shape::Led => self.following_any(told, room),
+            _ => Following::Ends,
+        }
+    }
+
+    /// What follows the TypeCode of an any, in this room.
+    fn following_any(&self, told: Signal, room: u8) -> Following
+        ensures is { sequel (any_hearing self.now room) (told_of told) ≡ sequel_of result }
+        ensures place { HasPart result }
+        ensures known { (place : ℕ) → result ≡ Following.Then place →
+            place ≤ length self.now.types }
+    {
+        self.laws();
+        match told {
+            Signal::Untold => Following::Ends,
+            Signal::Empty => Following::Ends,
+            Signal::Is(i) if self.follows(TypeId(i), room) => Following::Then(i + 1),
+            _ => Following::Stops,
+        }
+    }
+
+    /// As `Catalogue::follows`.
+    pub fn follows(&self, t: TypeId, room: u8) -> bool
+        ensures { result ≡ follows self.now room t.0 }
+    {
+        self.catalogue.can_follow(t, room) && !(self.narrow && self.catalogue.has_wide_text(t))
+    }
+}
