@@ -39,7 +39,7 @@ use Rattle.giop_checkpoint.specs.declared.layout.Layout.TheVariants.{Third}
 use Rattle.giop_stream.specs.declared.slots.PayloadOwner.TheVariants as owners
 use Rattle.giop_stream.specs.EngineView.{FramingView}
 use Rattle.giop_stream.specs.Checkpoint.{IsHeld}
-use Rattle.giop_stream_rows.specs.Worked.{bigs}
+use Rattle.giop_stream_rows.specs.Worked.{bigs, table_of}
 use Rattle.giop_stream_rows.specs.Checkpoints.{two_requests, between_messages, in_a_number, behind_a_body, BetweenMessages}
 use Rattle.giop_stream_rows.proofs.OnePart.{one_part}
 use Rattle.giop_stream_rows.proofs.Computing.{one_message, a_stream, told_with, a_checkpoint, are_octets}
@@ -62,6 +62,7 @@ in_body = record {
   order = orders.Big;
   head = record { message = 1; root = roots.Body };
   at = 4;
+  narrow = false;
   outer = record { items = parameters_frame ∷ [] };
   inside = withins.Nothing;
   leaf = Some number;
@@ -230,7 +231,7 @@ unfolding kept_messages
 first_held = record {
   stored = first_stored;
   shallow = λ C laws h.
-      omega (arith, fits_depth C in_body laws h);
+      omega (arith, fits_depth C in_body laws h.fits);
 }
 
 second_held : IsHeld second second_entry
@@ -285,6 +286,7 @@ unfolding one_message told_with kept_messages some_octets
 first_reads = record {
   lines = [];
   is = refl;
+  narrow = refl;
   keeps_noted = record {
     request_id = refl;
     status = refl;
@@ -374,10 +376,11 @@ unfolding told_with kept_messages
 below_all = ltb-true 8 (length (bigs.types)) refl
 
 first_fits : decoder.Fits bigs in_body
-unfolding FitsOne in_body parameters_frame number some_octets
+unfolding FitsOne in_body parameters_frame number some_octets bigs table_of
 first_fits = record {
   leaf = number;
   goes_on = refl;
+  narrow = refl;
   root = parameters;
   known_root = known;
   link = (refl, is_number);
@@ -459,6 +462,6 @@ two_open = record {
   };
   ready = record {
     current_ready = tt;
-    each_ready = ((first_fits, omega arith), ((omega arith, omega arith), tt));
+    each_ready = ((record { fits = first_fits; version = refl }, omega arith), ((omega arith, omega arith), tt));
   };
 }
