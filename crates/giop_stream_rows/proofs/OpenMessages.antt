@@ -462,6 +462,9 @@ two_open = record {
   };
   ready = record {
     current_ready = tt;
-    each_ready = ((record { fits = first_fits; version = refl }, omega arith), ((omega arith, omega arith), tt));
+    each_ready = (
+      (record { fits = first_fits; version = refl }, omega arith),
+      ((omega arith, omega arith), tt),
+    );
   };
 }
