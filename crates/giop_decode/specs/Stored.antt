@@ -20,7 +20,7 @@
 --                 3 has an object key that has begun, 4 is too short for that
 --     77     129  the octets in it: how many, and room for 128; none where it is too short
 --    206       1  whether a header expects a reply: 0 not read, 1 no, 2 yes
---    207       1  1 where there is no room for wide text, or 0
+--    207       1  1 if there is no room for wide text, or 0
 --
 -- and a frame of 24 octets for each part that is begun and not ended, the outermost first: its
 -- type, the index of its own part that is being read, how many it has (0 in a union), and 12 zeros.

@@ -186,7 +186,7 @@ pub record Identity : Type 0 where
 
 -- the version is that of the signature file, 1 where there is none; the built-in types come first;
 -- declared is how many enums, structs and unions the file added, and called how many operations; it
--- is narrow where a message of 1.0 or 1.1 is read by it, in which wide text has no room
+-- is narrow if a message of 1.0 or 1.1 is read by it, in which wide text has no room
 pub record Table : Type 0 where
   pub version : ℕ
   pub types : List Node

@@ -1,4 +1,4 @@
--- The flow that gives up where the pool is short holds something: as much as any other.
+-- The flow that gives up if the pool is short holds something: as much as any other.
 use Rattle.std.proofs.Common.{◌≡◌, ℕ, zero, suc, ◌+◌, ◌/◌, ◌<◌, ◌≤◌, Bool, true, false, cond, nat_eq, nat_lt, List, [], ◌∷◌, length, get_or, Option, Some, None, is_some, refl, ◌∙◌, ap, subst, arith, inl, inr}
 use Rattle.std.proofs.lemmas.Bool.{cases_Bool, cases_lt, eqb-true, eq-eqb, ltb-true, ltb-false}
 use Rattle.tcp_waiting.specs.Payload.{Payload, first, blocks_of, count_of, load_of}
@@ -200,7 +200,7 @@ loaded_told w id h told l = by (flow_at w id) refl
           ))
         ]
 
--- where the pool is short, the flow that gives up holds something
+-- if the pool is short, the flow that gives up holds something
 pub heaviest_holds : (w : State) → IsSound w →
     ((j : ℕ) → is_some (live_at w j) ≡ true → 0 < times j (lives w.events))
     → w.blocks < blocks_of w.held → is_holding w.held (flow_at w (heaviest w)) ≡ true

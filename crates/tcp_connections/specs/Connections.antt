@@ -128,7 +128,7 @@ gaps_at F (suc count) w id =
 abbrev pub emptied : Reader → State → ℕ → State
 emptied F w id = gaps_at F (length w.held) w id
 
--- of two flows the one that gives up where the pool is short: the one that holds more blocks, or the
+-- of two flows the one that gives up if the pool is short: the one that holds more blocks, or the
 -- first, if both hold as many
 abbrev pub heavier : List Payload → ℕ → ℕ → ℕ
 heavier held a b = cond (nat_lt (load_of a held) (load_of b held)) b a
@@ -138,7 +138,7 @@ unfoldable pub heaviest_from : List Payload → ℕ → List ℕ → ℕ
 heaviest_from held id [] = id
 heaviest_from held id (other ∷ ids) = heaviest_from held (heavier held id other) ids
 
--- the flow that gives up where the pool is short: the one that holds the most blocks, of several that
+-- the flow that gives up if the pool is short: the one that holds the most blocks, of several that
 -- of the oldest stream
 abbrev pub heaviest : State → ℕ
 heaviest w = heaviest_from w.held (get_or (lives w.events) 0 0) (lives w.events)

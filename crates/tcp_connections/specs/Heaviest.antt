@@ -1,4 +1,4 @@
--- Which flow gives up where the pool is short (meaning).
+-- Which flow gives up if the pool is short (meaning).
 use Rattle.std.specs.Prelude.{◌≡◌, ℕ, ◌<◌, ◌≤◌, List, length, get_or}
 use Rattle.tcp_waiting.specs.Payload.{Payload, load_of}
 

@@ -62,8 +62,8 @@ impl Model for Pool {
 }
 
 impl Pool {
-    /// A pool of so many blocks of 1,024 octets. It is counted how many flows below `flows` hold, so that
-    /// nothing is looked for where they hold none.
+    /// A pool of n blocks of 1,024 octets. The blocks that each flow below `flows` holds are counted, so
+    /// that nothing is looked for if it holds none.
     pub fn new(alloc: Global, blocks: usize, flows: usize) -> Result<Pool, AllocError>
         requires blocks { blocks ≤ 1_048_576 }
         requires few { flows ≤ 1_048_576 }
@@ -378,7 +378,7 @@ fn blocks_for(count: usize) -> usize
     (count + 1023) / 1024
 }
 
-/// A flow holds so many blocks more.
+/// A flow holds n blocks more.
 fn load_more(loads: &mut Vec<usize>, flow: u32, blocks: usize)
     requires { (at : ℕ) → at < length loads.old.items
         → get_or loads.old.items at 0 + blocks < 2 ^ 64 }
@@ -392,7 +392,7 @@ fn load_more(loads: &mut Vec<usize>, flow: u32, blocks: usize)
     }
 }
 
-/// A flow holds so many blocks less.
+/// A flow holds n blocks less.
 fn load_less(loads: &mut Vec<usize>, flow: u32, blocks: usize)
     requires { flow < length loads.old.items → blocks ≤ get_or loads.old.items flow 0 }
     ensures len { length loads.new.items ≡ length loads.old.items }
