@@ -1,4 +1,4 @@
--- A part for which there is room, and which adds few interfaces, adds no more where more may be
+-- If there is room for a part when few interfaces may be added, there is room when more may be
 -- added.
 use Rattle.std.proofs.Common.{ℕ, ◌≤◌, arith}
 use Rattle.capture_file.specs.declared.part.Outcome.{Outcome}

@@ -1,4 +1,4 @@
--- What is read of a pcap file are the packets of its records.
+-- The packets that are read of a pcap file are those of its records.
 use Rattle.std.proofs.Common.{◌≡◌, ℕ, ◌+◌, ◌*◌, ◌%◌, ◌^◌, ◌<◌, nat_lt, false, List, [], ◌∷◌, ◌++◌, length, take, drop, Some, refl, ◌∙◌, ap, subst, arith, append-nil, append_assoc}
 use Rattle.std.specs.List.{AllByRecursion}
 use Rattle.std.proofs.lemmas.Bool.{le-ltb}
@@ -26,7 +26,7 @@ unfolding number_octets
 long Big n = refl
 long Little n = refl
 
--- four octets that are a number's
+-- if four octets are those of a number, that number is read
 pub spells : (order : ByteOrder) (n at : ℕ) (octets : List ℕ) → n < 2 ^ 32 →
     take 4 (drop at octets) ≡ number_octets order n → four_at order at octets ≡ n
 unfolding number_octets four_at
@@ -224,7 +224,7 @@ reads_one f p r at h ending =
 
 -- ---- All records.
 
--- a file that was read up to here has these packets so far
+-- the packets of a file that was read up to here
 reads_records : (f : PcapFile) (rs : List PcapRecord) (p : List ℕ) (given : List PacketRecord) →
     AllByRecursion IsPcapRecord rs
     → reading p ≡ record {

@@ -1,4 +1,4 @@
--- What is read of a pcapng file are the packets of its blocks.
+-- The packets that are read of a pcapng file are those of its blocks.
 use Rattle.std.proofs.Common.{◌≡◌, ℕ, zero, suc, ◌+◌, ◌%◌, ◌^◌, ◌<◌, ◌≤◌, List, [], ◌∷◌, ◌++◌, length, Some, refl, ◌∙◌, ap, subst, arith, append-nil, append_assoc, slice_get}
 use Rattle.std.proofs.lemmas.Bool.{le-leb, eq-eqb}
 use Rattle.std.proofs.lemmas.List.{length-append, take_all}
@@ -32,7 +32,7 @@ has [] n low = absurd (omega (arith, low))
 has (x ∷ xs) zero low = (x, refl)
 has (x ∷ xs) (suc n) low = has xs n (omega (arith, low))
 
--- a block more is read, with its packet
+-- one more block is read, with its packet
 one_block : (o : ByteOrder) (b : PcapngBlock) (p : List ℕ) (given : List PacketRecord)
     (interfaces : List Interface) (at : ℕ) → IsBlock o interfaces b →
     reading p ≡ due given (parts.BlockHeader o) interfaces at →

@@ -1,4 +1,4 @@
--- A block of a pcapng file that describes an interface is read, with its options.
+-- How a block of a pcapng file is read, if it describes an interface with its options.
 use Rattle.std.proofs.Common.{◌≡◌, ◌≢◌, ℕ, ◌+◌, ◌-◌, ◌^◌, ◌<◌, ◌≤◌, ◌==◌, ◌&&◌, slice_index, replicate, if◌then◌else◌, nat_lt, nat_le, Bool, true, false, List, [], ◌∷◌, ◌++◌, length, take, drop, refl, ◌∙◌, ap, subst, sym, arith, append-nil, append_assoc}
 use Rattle.std.specs.List.{AllByRecursion}
 use Rattle.std.proofs.lemmas.Bool.{le-ltb, le-leb, lt-ltb, eqb-true, ne_eqb, false≢true}
@@ -218,7 +218,7 @@ reads_options o size left (x ∷ xs) p skipped given i interfaces at h is r =
         ≡ due given (parts.InterfaceEnd (in_block o size 0) (ticking i (ticks_by t xs)))
         interfaces (length ys)) (shift_unit p skipped H x.value pad E) next)
 
--- what comes after the fields of an interface
+-- the part that comes after the fields of an interface
 abbrev first_part : ByteOrder → ℕ → List BlockOption → Interface → Part
 first_part o size [] i = parts.InterfaceEnd (in_block o size 0) i
 first_part o size (x ∷ xs) i =

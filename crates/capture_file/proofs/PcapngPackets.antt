@@ -1,4 +1,5 @@
--- A block of a pcapng file that has a packet is read, and one of which nothing is read.
+-- How a block of a pcapng file is read, if it has a packet, and if it has neither a packet nor an
+-- interface.
 use Rattle.std.proofs.Common.{◌≡◌, ◌≢◌, ℕ, ◌+◌, ◌-◌, ◌*◌, ◌^◌, ◌<◌, ◌≤◌, nat_lt, false, List, [], ◌∷◌, ◌++◌, length, take, drop, None, Some, refl, ◌∙◌, ap, subst, arith, append_assoc, slice_get}
 use Rattle.std.proofs.lemmas.Bool.{le-ltb, ne_eqb}
 use Rattle.std.proofs.lemmas.List.{length-append, take_all, take-append-le, drop-append-le, drop_all}

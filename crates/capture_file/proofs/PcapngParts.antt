@@ -1,4 +1,4 @@
--- A part of a pcapng file more is read, and the header and the end of a block.
+-- How one more part of a pcapng file is read, and the header and the end of a block.
 use Rattle.std.proofs.Common.{◌≡◌, ℕ, ◌^◌, ◌<◌, ◌≤◌, ◌==◌, false, List, [], ◌∷◌, ◌++◌, length, take, drop, refl, ◌∙◌, ap, arith, append-nil}
 use Rattle.std.proofs.lemmas.Bool.{le-leb, eq-eqb}
 use Rattle.std.proofs.lemmas.Nat.{from_be_bytes-to_be_bytes_2, from_le_bytes-to_le_bytes_2}
@@ -22,9 +22,9 @@ use Rattle.capture_file.specs.PcapngFiles.{half_octets, HasLength}
 use Rattle.capture_file.proofs.PcapFileReading.{long, spells, last_four}
 use Rattle.capture_file.proofs.ReadingSteps.{completes}
 
--- ---- One part more.
+-- ---- One more part.
 
--- a reading that has given packets, and is due a part
+-- a reading that has given these packets, and in which this part comes next
 abbrev pub due : List PacketRecord → Part → List Interface → ℕ → Reading
 due given part interfaces at = record {
   packets = given;
@@ -67,7 +67,7 @@ spells_half Little n at octets small e = search (arith, from_le_bytes-to_le_byte
 pub front_of : (n : ℕ) (a b : List ℕ) → length a ≡ n → take n (drop 0 (a ++ b)) ≡ a
 front_of n a b l = search (arith, take-append-le, take_all)
 
--- a number by itself
+-- a number that stands alone
 pub alone : (o : ByteOrder) (n : ℕ) → n < 2 ^ 32 → four_at o 0 (number_octets o n) ≡ n
 alone o n small =
     spells o n 0 (number_octets o n) small

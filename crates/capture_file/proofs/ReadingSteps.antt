@@ -1,5 +1,5 @@
--- How the reading of a list goes on where more octets come: within the part that has begun, or
--- after it.
+-- How the reading of a list goes on when more octets come: within the part that has begun, or after
+-- it.
 use Rattle.std.proofs.Common.{◌≡◌, ℕ, zero, suc, ◌+◌, ◌<◌, ◌≤◌, List, [], ◌∷◌, ◌++◌, length, drop, Some, refl, sym, ◌∙◌, ap, arith, inl, inr, zero-add}
 use Rattle.std.proofs.lemmas.List.{length-append, length-drop, take-append-le, drop-append-le, drop_all, append-nil}
 use Rattle.std.proofs.lemmas.Bool.Decides.{leb_tells}
@@ -18,14 +18,14 @@ size_some (parts.Packet block body) = omega arith
 size_some (parts.Record file head captured) = omega arith
 size_some _ = omega arith
 
--- less than a part is within it
+-- if there are fewer octets than the part has, the reading ends within the part
 pub short : (most : ℕ) (state : ParserState) (at : ℕ) (p : List ℕ) → length p < size state.part →
     reading_from most state at p ≡ record { packets = []; ending = Within state at p }
 unfolding reading_from
 short zero state at p less = refl
 short (suc most) state at p less = search (arith, leb_tells)
 
--- a whole part
+-- if there are enough octets for the part, the reading goes on after it
 pub whole : (most : ℕ) (state : ParserState) (at : ℕ) (p : List ℕ) → size state.part ≤ length p →
     reading_from (suc most) state at p
     ≡ behind state (packet_in state.part p) (at + size state.part)
@@ -41,7 +41,7 @@ behind_same state packet place (Continues part) k l same = same _
 behind_same state packet place (EndsPacket head part) k l same = rw (same _)
 behind_same state packet place (Fails kind) k l same = refl
 
--- any bounds that are great enough give one reading
+-- any two bounds that are great enough give the same reading
 pub enough : (n m : ℕ) (state : ParserState) (at : ℕ) (p : List ℕ) → length p ≤ n → length p ≤ m →
     reading_from n state at p ≡ reading_from m state at p
 enough zero m state at p few many = search (arith, size_some, short)
@@ -58,11 +58,11 @@ enough (suc n) (suc m) state at p few many =
           ∙ sym (whole m state at p (omega arith))
     ]
 
--- a reading with packets in front
+-- a reading with these packets before its own
 abbrev pub with_packets : List PacketRecord → Reading → Reading
 with_packets given r = record r { packets = given ++ r.packets }
 
--- how a reading goes on
+-- how a reading that ended goes on with more octets
 abbrev pub onward : List PacketRecord → Ending → List ℕ → Reading
 onward given (Within state at had) q =
     with_packets given (reading_from (length (had ++ q)) state at (had ++ q))
@@ -90,7 +90,7 @@ end_same : (part : Part) (p q : List ℕ) → size part ≤ length p →
     end_of part (p ++ q) ≡ end_of part p
 end_same part p q enough = search (arith, drop, length-drop, drop-append-le, take-append-le)
 
--- the reading of a longer list is that of the shorter one, which goes on
+-- the reading of a longer list is the reading of the shorter one, gone on with
 grows_short : (n m : ℕ) (state : ParserState) (at : ℕ) (p q : List ℕ) → length (p ++ q) ≤ m →
     length p < size state.part →
     reading_from m state at (p ++ q)
@@ -160,7 +160,7 @@ stays r q f is = go r.packets r.ending q f is
 pub fault_stays : FaultStays
 fault_stays p q f is = search (arith, grows, stays)
 
--- a part that has begun stands at its place, and isn't whole
+-- the part that has begun is at its place, and isn't complete
 abbrev pub EndsAt : ℕ → Ending → Type 0
 EndsAt place (Within state at had) = (at + length had ≡ place) × (length had < size state.part)
 EndsAt place (Faulted fault) = fault.place ≤ place
@@ -196,14 +196,14 @@ pub ends_at : (p : List ℕ) → EndsAt (length p) (reading p).ending
 unfolding reading
 ends_at p = search (arith, zero-add, ends_from)
 
--- octets that leave the part within it
+-- if the octets don't complete the part, the reading stays within it
 pub stays_within : (p q : List ℕ) (state : ParserState) (at : ℕ) (had : List ℕ) →
     (reading p).ending ≡ Within state at had →
     length (had ++ q) < size state.part → reading (p ++ q)
     ≡ record { packets = (reading p).packets; ending = Within state at (had ++ q) }
 stays_within p q state at had is less = search (arith, grows, short, append-nil)
 
--- octets that complete the part
+-- if the octets complete the part, the reading goes on after it
 pub completes : (p q : List ℕ) (state : ParserState) (at : ℕ) (had : List ℕ) →
     (reading p).ending ≡ Within state at had →
     length (had ++ q) ≡ size state.part → reading (p ++ q) ≡ with_packets (reading p).packets

@@ -14,7 +14,7 @@ back_few (parts.EnhancedHeader block interface) = omega arith
 back_few (parts.FileRest magic) = omega arith
 back_few _ = omega arith
 
--- what is in front of a packet is at the part's front
+-- what stands before a packet is at the part's front
 pub packet_offset_few : (part : Part) → packet_offset part ≤ front part
 packet_offset_few (parts.Record file head captured) = omega arith
 packet_offset_few (parts.Packet block body) = omega arith

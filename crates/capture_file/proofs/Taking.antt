@@ -1,4 +1,4 @@
--- What a capture reads and answers after octets that the part that has begun takes.
+-- What a capture has read, and what it answers, after it took octets of the part that has begun.
 use Rattle.std.proofs.Common.{◌≡◌, ℕ, ◌+◌, ◌-◌, ◌<◌, ◌≤◌, Bool, true, false, List, [], ◌∷◌, ◌++◌, length, take, drop, slice_range, None, refl, sym, ◌∙◌, ap, subst, arith, append-nil, append_assoc, if◌then◌else◌}
 use Rattle.std.proofs.lemmas.List.{length-append, length-drop, length-take-le, drop-drop, drop-take, take-take, take_all}
 use Rattle.capture_file.specs.declared.capture.Capture.{Capture}
@@ -16,7 +16,7 @@ use Rattle.capture_file.proofs.WindowLemmas.{held_all}
 use Rattle.capture_file.proofs.Sizes.{back_few, packet_offset_few}
 use Rattle.capture_file.proofs.ReadingSteps.{with_packets, stays_within, completes}
 
--- the part that has begun in a capture, and what has come of it
+-- the part that has begun in a capture, and the octets of it that have come
 pub record Begun (p : List ℕ) (c : Capture) : Type 0 where
   pub state : ParserState
   pub at : ℕ
@@ -32,7 +32,7 @@ begun_in p c (Faulted f) is stands running = cc
 pub begun : (p : List ℕ) (c : Capture) → Reads c p → c.fault ≡ None → Begun p c
 begun p c r running = search (arith, begun_in)
 
--- octets were taken: what the capture has read then, and what it answers
+-- octets were taken: what the capture has read after them, and what it answers
 pub record Takes (answer : Progress) (p q : List ℕ) (c : Capture) (octets : List ℕ) : Type 0 where
   pub reads : Reads c (p ++ q)
   pub answers : Answers answer p q c octets
@@ -87,7 +87,7 @@ holds_none : (mid new : Capture) (state next : ParserState) → mid.fault ≡ No
     mid.interfaces.items ≡ state.interfaces → HoldsPart new next []
 holds_none mid new state next running begins behind_is part interfaces = search (arith)
 
--- what comes after the part, by what the reading has there
+-- the reading after the part, up to where the next part begins
 abbrev pub behind_here : ParserState → List ℕ → ℕ → Outcome → Reading
 behind_here state packet place o =
     behind state packet place o (λ d. record { packets = []; ending = Within d place [] })
@@ -139,7 +139,7 @@ whole_of p q octets end old mid new answer start held state at had r ending hold
     (omega (arith, place, r.octets, length-append p q)) (rw part_is slice)
     (subst (λ (o : Outcome). Completes o mid new answer start held) next_is c)
 
--- a slice of octets in front of another is the rest of those in front
+-- a slice of octets that begins after an index is a slice of the octets from that index on
 pub slice_front : (octets : List ℕ) (start low high : ℕ) → low ≤ high →
     slice_range octets (start + low) (start + high) ≡ drop low (take high (drop start octets))
 slice_front octets start low high less =
@@ -159,7 +159,7 @@ pub none_of : (had : List ℕ) → length had ≡ 0 → had ≡ []
 none_of [] none = refl
 none_of (x ∷ had) none = absurd (omega arith)
 
--- the whole part was taken at once, from this place of the octets that are given
+-- the whole part was taken at once, from this index of the octets that the caller gave
 pub takes_at_once : (p octets end : List ℕ) (count : ℕ) (old mid new : Capture)
     (answer : Progress) (start : ℕ) →
     Reads old p → old.fault ≡ None → old.taken ≡ 0 → count ≡ size old.part →
@@ -194,7 +194,7 @@ takes_at_once p octets end count old mid new answer start r running fresh whole 
     (omega (arith, place, long))
     (rw none ends) (rw none slice) c
 
--- the rest of a part was taken, and what is looked at and given of it is held
+-- the rest of a part was taken; the octets that are looked at or given to the caller are held
 pub takes_rest : (p q octets end : List ℕ) (old mid new : Capture) (answer : Progress) →
     Reads old p → old.fault ≡ None → old.taken + length q ≡ size old.part → HoldsPiece old mid q →
     mid.octets ≡ old.octets + length q → 16 ≤ length mid.end_octets →
@@ -229,7 +229,7 @@ takes_rest p q octets end old mid new answer r running whole kept place room end
     kept.part kept.interfaces
     (kept.fault ∙ running) kept.packets place ends slice c
 
--- octets that follow others of which nothing came
+-- the answer to octets is the answer to them and those before them, if these complete no packet
 pub answers_behind : (answer : Progress) (p a b octets : List ℕ) (c : Capture) →
     packets (p ++ a) ≡ packets p →
     Answers answer (p ++ a) b c octets → Answers answer p (a ++ b) c octets

@@ -1,4 +1,4 @@
--- What a capture reads and answers after a record that is taken at once.
+-- What a capture has read, and what it answers, after it took a whole record at once.
 use Rattle.std.proofs.Common.{◌≡◌, ℕ, ◌+◌, false, List, [], ◌∷◌, ◌++◌, length, take, drop, None, refl, sym, ◌∙◌, ap, arith, append-nil, append_assoc}
 use Rattle.std.proofs.lemmas.List.{length-append, length-drop, length-take-le, drop-drop, take-take, take_all, take-append-drop}
 use Rattle.capture_file.specs.declared.capture.Capture.{Capture}
@@ -16,7 +16,7 @@ use Rattle.capture_file.specs.CaptureSteps.{IsRecordDue, TakesRecord}
 use Rattle.capture_file.proofs.ReadingSteps.{completes}
 use Rattle.capture_file.proofs.Taking.{Takes, begun, none_of, slice_front}
 
--- a record header is due
+-- the header of a record comes next
 abbrev pub at_header : FileHeader → List Interface → ParserState
 at_header file interfaces = record { part = parts.RecordHeader file; interfaces = interfaces }
 

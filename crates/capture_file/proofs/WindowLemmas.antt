@@ -5,7 +5,7 @@ use Rattle.std.proofs.lemmas.Bool.Decides.{leb_tells}
 use Rattle.std.proofs.lemmas.Grind.{same_number_lists}
 use Rattle.capture_file.specs.Window.{IsHeld}
 
--- octets from `from` on are copied after the first ones of a window, and in front of the rest
+-- after octets were copied into a window from an index on, the window has them there
 copied : (old next : List ℕ) (i n k : ℕ) → i ≤ length old → length next ≡ n → i ≤ k → k < i + n →
     get_or (take i old ++ (next ++ drop n (drop i old))) k 0 ≡ get_or next (k - i) 0
 copied old next i n k fits long low high = search (
@@ -28,7 +28,7 @@ left old next i n k fits low = search (
   get_or-take,
 )
 
--- the whole of what a window is for
+-- if all octets that a window is for have come, the window holds all of them
 pub held_all : (begin size : ℕ) (had window : List ℕ) → IsHeld begin size had window →
     size ≤ length window →
     begin + size ≤ length had → take size window ≡ take size (drop begin had)

@@ -14,7 +14,7 @@ use Rattle.capture_file.specs.declared.part.Outcome.TheVariants.{Continues, Fail
 use Rattle.capture_file.specs.Numbers.{two_at, four_at}
 use Rattle.capture_file.specs.Records.{most_captured}
 
--- a section has at most so many interfaces
+-- the greatest number of interfaces in a section
 abbrev pub most_interfaces : ℕ
 most_interfaces = 256
 
@@ -31,13 +31,14 @@ simple_type = 3
 abbrev pub enhanced_type : ℕ
 enhanced_type = 6
 
--- the total length that the fixed fields of a type need
+-- the least total length that a block of a type needs, for its fixed fields
 abbrev pub least_length : ℕ → ℕ
 least_length kind =
     if kind == interface_type then 20
     else (if kind == enhanced_type then 32 else (if kind == simple_type then 16 else 12))
 
--- the length of a section header block, whose order is that of the byte-order magic after it
+-- the length of a section header block, in both byte orders; the byte-order magic after it tells
+-- which order is the right one
 abbrev pub length_by_order : ℕ → List ℕ → Outcome
 length_by_order at octets =
     Continues (parts.ByteOrderMagic (record {
@@ -55,20 +56,21 @@ section order length =
     (parts.SectionVersion (record { order = order; length = length; left = length - 20 }))
     else Fails faults.Length
 
--- the byte-order magic gives the order of the section, its own length too
+-- the byte-order magic tells the order of the section, and so the length of its own block
 unfoldable pub byte_order_magic : LengthByOrder → List ℕ → Outcome
 byte_order_magic length octets =
     if four_at Big 0 octets == 0x1a2b3c4d then section Big length.big else
     (if four_at Little 0 octets == 0x1a2b3c4d then section Little length.little
     else Fails faults.Format)
 
--- the major version, and the minor, which may be any
+-- the major version, which must be 1, and the minor one, which may be any
 unfoldable pub section_version : Block → List ℕ → Outcome
 section_version block octets =
     if two_at block.order 0 octets == 1 then Continues (parts.BlockEnd block)
     else Fails faults.Version
 
--- what comes of a block after its length, in a section that has so many interfaces
+-- what comes after the type and the length of a block, in a section that has this number of
+-- interfaces
 unfoldable pub block_of : ByteOrder → ℕ → ℕ → ℕ → Outcome
 block_of order kind length interfaces =
     if kind == interface_type then
@@ -93,7 +95,8 @@ block_header order interfaces octets =
     (if (length % 4 == 0) && nat_le (least_length kind) length
     then block_of order kind length interfaces else Fails faults.Length)
 
--- options while there is room for the header of one, after so many octets of the one before
+-- what comes among the options of a block: another option, if there is room for its header after
+-- `skip` octets of the one before, else the block's end
 unfoldable pub options : Block → Interface → ℕ → Outcome
 options block interface skip =
     if nat_le (skip + 4) block.left
@@ -101,8 +104,8 @@ options block interface skip =
     (parts.OptionHeader (record block { left = block.left - (skip + 4) }) interface skip)
     else Continues (parts.InterfaceEnd block interface)
 
--- the link type, two octets without a use, the snapshot length; a unit is a microsecond unless an
--- option says another
+-- the link type, two unused octets, and the snapshot length; a unit of time is a microsecond unless
+-- an option says another one
 unfoldable pub interface_header : Block → List ℕ → Outcome
 interface_header block octets =
     options block (record {
@@ -111,12 +114,12 @@ interface_header block octets =
       ticks = 1000000;
     }) 0
 
--- octets with padding to 4
+-- a number of octets with their padding to a multiple of 4
 abbrev pub padded : ℕ → ℕ
 padded count = (count + 3) / 4 * 4
 
--- the code and the length of an option: the options end with code 0, or where there is no room for
--- the value; code 9 of one octet is the unit of times (`if_tsresol`)
+-- the code and the length of an option; code 0 ends the options, and so does a value that there is
+-- no room for; code 9 with one octet gives the unit of times (`if_tsresol`)
 unfoldable pub option_header : Block → Interface → List ℕ → Outcome
 option_header block interface octets =
     let code = two_at block.order 0 octets in
@@ -127,13 +130,13 @@ option_header block interface octets =
     then Continues (parts.TimeUnit (record block { left = block.left - 1 }) interface) else
     options block interface (padded count))
 
--- how many units make a second: 10 to the number, or 2 to the number without its upper bit where
--- that is set
+-- how many units make a second: 10 to the number, or, if the number's highest bit is set, 2 to the
+-- number without it
 abbrev pub ticks_of : ℕ → ℕ
 ticks_of unit = if nat_lt unit 128 then 10 ^ unit else 2 ^ (unit - 128)
 
--- the unit of times, and three octets of padding; units below 10^-19 and 2^-63 seconds are out of
--- range
+-- the unit of times, and then three octets of padding; a unit below 10^-19 or 2^-63 seconds is out
+-- of range
 unfoldable pub time_unit : Block → Interface → List ℕ → Outcome
 time_unit block interface octets =
     let unit = slice_index octets 0 in
@@ -141,7 +144,7 @@ time_unit block interface octets =
     then options block (record interface { ticks = ticks_of unit }) 3
     else Fails faults.Format
 
--- an enhanced packet's interface
+-- what comes after the number of an enhanced packet's interface
 abbrev pub of_interface : Block → Option Interface → Outcome
 of_interface block None = Fails faults.Interface
 of_interface block (Some interface) = Continues (parts.EnhancedHeader block interface)
@@ -150,29 +153,29 @@ unfoldable pub enhanced_interface : Block → List Interface → List ℕ → Ou
 enhanced_interface block interfaces octets =
     of_interface block (slice_get interfaces (four_at block.order 0 octets))
 
--- a packet of so many octets, if that isn't too many and its block has room for them
+-- a packet, if it doesn't have too many octets and its block has room for them
 unfoldable pub packet_of : Block → Body → Outcome
 packet_of block body =
     if nat_lt most_captured body.captured || nat_lt block.left body.captured
     then Fails faults.Length else
     Continues (parts.Packet (record block { left = block.left - body.captured }) body)
 
--- so many units in nanoseconds, rounded down
+-- a number of units in nanoseconds, rounded down
 abbrev pub nanoseconds_of : ℕ → ℕ → ℕ
 nanoseconds_of units ticks = units * 1000000000 / ticks
 
--- nanoseconds since 1970 of so many units; none from the year 10000 on (nor by a unit that no
--- second has, which no interface can say)
+-- a number of units in nanoseconds since 1970; from the year 10000 on there is none (nor if no unit
+-- makes a second, which no interface can say)
 unfoldable pub time_of : ℕ → ℕ → Option ℕ
 time_of units ticks =
     if (ticks == 0) || nat_le (253402300800 * 1000000000) (nanoseconds_of units ticks)
     then None else Some (nanoseconds_of units ticks)
 
--- the upper and the lower half of a time
+-- the upper half of a time and then the lower one
 abbrev pub units_at : ByteOrder → List ℕ → ℕ
 units_at order octets = four_at order 0 octets * 2 ^ 32 + four_at order 4 octets
 
--- the time and the captured length
+-- the time of an enhanced packet, and the length that was captured
 unfoldable pub enhanced_header : Block → Interface → List ℕ → Outcome
 enhanced_header block interface octets =
     packet_of block (record {
@@ -184,11 +187,11 @@ enhanced_header block interface octets =
       captured = four_at block.order 8 octets;
     })
 
--- how many octets of so many an interface captures
+-- how many octets of a packet an interface captures, by the packet's original length
 abbrev pub cut : ℕ → ℕ → ℕ
 cut original snapshot = if snapshot == 0 then original else min original snapshot
 
--- a simple packet belongs to interface 0, and has no time
+-- a simple packet is of interface 0, and has no time
 abbrev pub of_first_interface : Block → ℕ → Option Interface → Outcome
 of_first_interface block original None = Fails faults.Interface
 of_first_interface block original (Some interface) =
@@ -203,7 +206,7 @@ unfoldable pub simple_header : Block → List Interface → List ℕ → Outcome
 simple_header block interfaces octets =
     of_first_interface block (four_at block.order 0 octets) (slice_get interfaces 0)
 
--- the second length, which is the first again
+-- the second length of a block, which must be the first one again
 unfoldable pub block_end : Block → List ℕ → Outcome → Outcome
 block_end block octets outcome =
     if four_at block.order 0 octets == block.length then outcome else Fails faults.Format

@@ -1,5 +1,5 @@
--- What a capture holds of the octets that were taken: each of its fields is determined by all of
--- them (state).
+-- What a capture holds of the octets that were taken. These octets determine each of its fields
+-- (state).
 use Rattle.std.specs.Prelude.{◌≡◌, ℕ, ◌+◌, ◌≤◌, Bool, true, false, List, [], ◌∷◌, ◌++◌, length, slice_range, vec_capacity, Some, None, if◌then◌else◌}
 use Rattle.capture_file.specs.declared.capture.Capture.{Capture}
 use Rattle.capture_file.specs.declared.part.Head.{Head}
@@ -9,8 +9,8 @@ use Rattle.capture_file.specs.Parts.{front, passed, back}
 use Rattle.capture_file.specs.Window.{IsHeld}
 use Rattle.capture_file.specs.Reading.{ParserState, Ending, Within, Faulted, reading, packets, fault}
 
--- a part has begun, and these octets of it have come: of those at its front and at its end the
--- capture holds what has come
+-- a part has begun, and these octets of it have come; the capture holds those of them that are at
+-- the part's front or at its end
 pub record HoldsPart (c : Capture) (state : ParserState) (had : List ℕ) : Type 0 where
   pub running : c.fault ≡ None
   pub part : c.part ≡ state.part
@@ -29,7 +29,7 @@ pub record Reads (c : Capture) (p : List ℕ) : Type 0 where
   pub packets : c.packets ≡ length (packets p)
   pub stands : Stands c (reading p).ending
 
--- there is room for as many interfaces, and for as many octets of a packet
+-- there is room for the same number of interfaces, and for a packet of the same length
 pub record HasSameRoom (old new : Capture) : Type 0 where
   pub interfaces : vec_capacity new.interfaces ≡ vec_capacity old.interfaces
   pub packet_octets : vec_capacity new.packet_octets ≡ vec_capacity old.packet_octets
@@ -38,7 +38,7 @@ pub record HasSameRoom (old new : Capture) : Type 0 where
 abbrev pub octets_of : Capture → ℕ
 octets_of c = c.octets
 
--- a packet stands in what a capture holds, or in the octets that were given last
+-- the packet stands in what the capture holds, or in the octets that were given last
 abbrev pub InRange : Bool → ℕ → List ℕ → List ℕ → Type 0
 InRange true end held octets = end ≤ length held
 InRange false end held octets = end ≤ length octets
@@ -46,7 +46,7 @@ InRange false end held octets = end ≤ length octets
 abbrev pub IsIn : Capture → List ℕ → Type 0
 IsIn c octets = InRange c.packet_range.held c.packet_range.end c.packet_octets.items octets
 
--- what is known of it, and its octets
+-- what is known of the packet, and its octets
 abbrev pub head_in : Capture → Head
 head_in c = c.packet_range.head
 
@@ -57,9 +57,9 @@ abbrev pub octets_in : Capture → List ℕ → List ℕ
 octets_in c octets =
     slice_range (octets_around c octets) c.packet_range.start c.packet_range.end
 
--- The answer to octets that were taken after p, the first of those given: with the last of them
--- comes what the reading has there, and with none before it. More octets were taken, a packet is
--- complete, or a fault shows.
+-- The answer after octets were taken that come after p. They are the first ones of those given, and
+-- only the last of them completes or shows anything. The answer is that more octets can be taken,
+-- that a packet is complete, or that a fault shows.
 abbrev pub Answers : Progress → List ℕ → List ℕ → Capture → List ℕ → Type 0
 Answers progress.More p taken c octets =
     (packets (p ++ taken) ≡ packets p) × (fault (p ++ taken) ≡ None)
@@ -75,7 +75,7 @@ Answers (progress.Fault f) p taken c octets =
     (packets (p ++ taken) ≡ packets p) × (fault (p ++ taken) ≡ Some f)
     × (f.place ≡ length (p ++ taken))
 
--- a capture goes on after octets that complete nothing
+-- the capture goes on if the octets complete nothing
 abbrev pub IsRunning : Progress → Capture → Type 0
 IsRunning progress.More c = c.fault ≡ None
 IsRunning _ c = Unit {0}

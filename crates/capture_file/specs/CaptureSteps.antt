@@ -15,8 +15,9 @@ use Rattle.capture_file.specs.Window.{IsHeld}
 use Rattle.capture_file.specs.Format.{interfaces_behind}
 use Rattle.capture_file.specs.Records.{IsWholeRecord}
 
--- of a piece of the part that has begun what is looked at or given when it is complete is held
--- after what was
+-- This piece of the part that has begun is held. Only those of its octets are kept that will be
+-- looked at, or given to the caller, when the part is complete. They are held after the octets that
+-- came before.
 pub record HoldsPiece (old new : Capture) (piece : List ℕ) : Type 0 where
   pub part : new.part ≡ old.part
   pub interfaces : new.interfaces.items ≡ old.interfaces.items
@@ -30,7 +31,7 @@ pub record HoldsPiece (old new : Capture) (piece : List ℕ) : Type 0 where
       IsHeld (front old.part + passed old.part) (back old.part) had old.end_octets →
       IsHeld (front old.part + passed old.part) (back old.part) (had ++ piece) new.end_octets
 
--- octets were taken
+-- octets were counted
 pub record Advances (old new : Capture) (count : ℕ) : Type 0 where
   pub part : new.part ≡ old.part
   pub interfaces : new.interfaces.items ≡ old.interfaces.items
@@ -39,7 +40,7 @@ pub record Advances (old new : Capture) (count : ℕ) : Type 0 where
   pub packets : new.packets ≡ old.packets
   pub octets : new.octets ≡ old.octets + count
 
--- a packet ends, which stands here
+-- a packet ends, and this is its place
 pub record EndsPacketAt (old new : Capture) (range : PacketRange) : Type 0 where
   pub part : new.part ≡ old.part
   pub interfaces : new.interfaces.items ≡ old.interfaces.items
@@ -50,7 +51,7 @@ pub record EndsPacketAt (old new : Capture) (range : PacketRange) : Type 0 where
   pub packets : new.packets ≡ suc old.packets
   pub packet_range : new.packet_range ≡ range
 
--- a part begins after another
+-- a part begins after another one
 pub record PartBegins (old new : Capture) (state : Part) : Type 0 where
   pub part : new.part ≡ state
   pub interfaces : new.interfaces.items ≡ interfaces_behind old.part old.interfaces.items
@@ -59,7 +60,7 @@ pub record PartBegins (old new : Capture) (state : Part) : Type 0 where
   pub octets : new.octets ≡ old.octets
   pub packet_octets : new.packet_octets.items ≡ old.packet_octets.items
 
--- a part is complete: it began at this offset of the octets that are given, or is held
+-- a part is complete; it began at this index of the octets that the caller gave, or is held
 abbrev pub Completes : Outcome → Capture → Capture → Progress → ℕ → Bool → Type 0
 Completes (Continues part) old new answer start held =
     (answer ≡ progress.More) × PartBegins old new part × (new.packets ≡ old.packets)
@@ -76,7 +77,7 @@ Completes (Fails kind) old new answer start held =
     × (new.fault ≡ Some (record { kind = kind; place = old.octets }))
     × (new.packets ≡ old.packets) × (new.octets ≡ old.octets)
 
--- a record may begin, and stands whole in front of these octets
+-- a record may begin, and these octets begin with the whole record
 pub record IsRecordDue (c : Capture) (given : List ℕ) (head : Head) (captured : ℕ) :
     Type 0 where
   pub file : FileHeader
@@ -84,7 +85,7 @@ pub record IsRecordDue (c : Capture) (given : List ℕ) (head : Head) (captured 
   pub fresh : c.taken ≡ 0
   pub whole : IsWholeRecord file given head captured
 
--- a whole record was taken, which begins at this offset of the octets that are given
+-- a whole record was taken, which begins at this index of the octets that the caller gave
 pub record TakesRecord (old new : Capture) (head : Head) (start captured : ℕ) : Type 0 where
   pub part : new.part ≡ old.part
   pub interfaces : new.interfaces.items ≡ old.interfaces.items

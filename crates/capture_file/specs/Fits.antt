@@ -1,4 +1,4 @@
--- Which parts a capture has room for (state).
+-- The parts that a capture has room for (state).
 use Rattle.std.specs.Prelude.{ℕ, ◌≤◌}
 use Rattle.capture_file.specs.declared.part.Part.{Part}
 use Rattle.capture_file.specs.declared.part.Part.TheVariants as parts
@@ -6,11 +6,11 @@ use Rattle.capture_file.specs.declared.part.Outcome.{Outcome}
 use Rattle.capture_file.specs.declared.part.Outcome.TheVariants.{Continues, EndsPacket, Fails}
 use Rattle.capture_file.specs.Parts.{front}
 
--- the octets of a packet that are held at most: 262,144, and the original length
+-- the greatest number of octets that are held of a packet: 262,144, and 4 for the original length
 abbrev pub room : ℕ
 room = 262148
 
--- how many interfaces are added at the end of the block that a part belongs to
+-- how many interfaces are added at the end of the block that this part is of
 abbrev pub adds : Part → ℕ
 adds (parts.InterfaceHeader block) = 1
 adds (parts.OptionHeader block interface skip) = 1
@@ -18,7 +18,8 @@ adds (parts.TimeUnit block interface) = 1
 adds (parts.InterfaceEnd block interface) = 1
 adds _ = 0
 
--- there is room for a packet at the part's front, and it adds at most so many interfaces
+-- there is room for the packet at the part's front, and the part adds at most this number of
+-- interfaces
 abbrev pub HasRoom : ℕ → Part → Type 0
 HasRoom more part = (front part ≤ room) × (adds part ≤ more)
 

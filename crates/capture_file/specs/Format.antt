@@ -1,5 +1,5 @@
--- What comes after each part of a capture, by the octets at the part's end, in a section that has
--- these interfaces (meaning).
+-- What comes after each part of a capture, by the octets at the part's end, and by the interfaces
+-- of the section (meaning).
 use Rattle.std.specs.Prelude.{ℕ, List, [], ◌∷◌, ◌++◌, length}
 use Rattle.capture_file.specs.declared.part.Interface.{Interface}
 use Rattle.capture_file.specs.declared.part.Part.{Part}
@@ -34,8 +34,8 @@ next (parts.Packet block body) interfaces octets =
 next (parts.BlockEnd block) interfaces octets =
     block_end block octets (Continues (parts.BlockHeader block.order))
 
--- the interfaces of the section after a part: a section begins with none, and each description
--- adds one
+-- the interfaces of the section after a part: a section begins with none, and each interface
+-- description adds one
 abbrev pub interfaces_behind : Part → List Interface → List Interface
 interfaces_behind (parts.ByteOrderMagic length) interfaces = []
 interfaces_behind (parts.InterfaceEnd block interface) interfaces = interfaces ++ interface ∷ []

@@ -1,9 +1,9 @@
--- What is so of every capture (meaning).
+-- What holds of every capture (meaning).
 use Rattle.std.specs.Prelude.{◌≡◌, ℕ, List, ◌++◌, Some}
 use Rattle.capture_file.specs.declared.fault.CaptureFault.{CaptureFault}
 use Rattle.capture_file.specs.Reading.{PacketRecord, packets, fault, reading}
 
--- the packets of a longer list begin with those of the shorter one
+-- the packets of a longer list begin with the packets of the shorter one
 abbrev pub PacketsBegin : Type 0
 PacketsBegin = (p q : List ℕ) → (more : List PacketRecord) × (packets (p ++ q) ≡ packets p ++ more)
 

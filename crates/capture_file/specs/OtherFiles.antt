@@ -1,4 +1,4 @@
--- What a file is that begins like no capture, by its first four octets (meaning).
+-- What a file is, if it doesn't begin as a capture does, by its first four octets (meaning).
 use Rattle.std.specs.Prelude.{ℕ, ◌==◌, List, if◌then◌else◌}
 use Rattle.capture_file.specs.declared.others.OtherFile.{OtherFile}
 use Rattle.capture_file.specs.declared.others.OtherFile.TheVariants as files
@@ -6,7 +6,7 @@ use Rattle.capture_file.specs.declared.part.ByteOrder.TheVariants.{Big, Little}
 use Rattle.capture_file.specs.Numbers.{two_at, four_at}
 
 -- gzip (RFC 1952), Zstandard (RFC 8878), xz (the .xz file format), snoop (RFC 1761), and pcap files
--- whose records have more fields, in either order
+-- whose records have more fields, in either byte order
 unfoldable pub other_file : List ℕ → OtherFile
 other_file octets =
     if two_at Big 0 octets == 0x1f8b then files.Gzip else

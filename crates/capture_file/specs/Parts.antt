@@ -1,17 +1,18 @@
--- The parts of a capture and their lengths (meaning). A part has at its front the octets of a
--- packet, at its end those of a header, and between them octets that are passed over; most have but
--- one of the three.
+-- The parts of a capture and their lengths (meaning). The octets of a packet stand at a part's
+-- front, those of a header at its end, and octets that are skipped between them. Most parts have
+-- only one of the three.
 use Rattle.std.specs.Prelude.{ℕ, ◌+◌, Bool, true, false}
 use Rattle.capture_file.specs.declared.part.Part.{Part}
 use Rattle.capture_file.specs.declared.part.Part.TheVariants as parts
 
--- how many octets of a part are a packet's, with the original length where that is in front of them
+-- how many octets of a part belong to a packet, with the original length if that stands directly
+-- before the packet's own
 abbrev pub front : Part → ℕ
 front (parts.Record file head captured) = 4 + captured
 front (parts.Packet block body) = body.packet_offset + body.captured
 front _ = 0
 
--- how many octets after those are passed over
+-- how many octets are skipped after those
 abbrev pub passed : Part → ℕ
 passed (parts.OptionHeader block interface skip) = skip
 passed (parts.InterfaceEnd block interface) = block.left
@@ -30,7 +31,7 @@ back (parts.EnhancedHeader block interface) = 12
 back (parts.FileRest magic) = 16
 back _ = 4
 
--- how many octets are in front of a packet's own
+-- how many octets stand before a packet's own
 abbrev pub packet_offset : Part → ℕ
 packet_offset (parts.Record file head captured) = 4
 packet_offset (parts.Packet block body) = body.packet_offset
@@ -40,7 +41,7 @@ packet_offset _ = 0
 abbrev pub size : Part → ℕ
 size part = front part + passed part + back part
 
--- a capture may end where a record or a block may begin
+-- whether a capture may end before a part: before a record or a block
 abbrev pub may_end_before : Part → Bool
 may_end_before (parts.RecordHeader file) = true
 may_end_before (parts.BlockHeader order) = true

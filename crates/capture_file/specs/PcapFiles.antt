@@ -1,4 +1,5 @@
--- A pcap file as it is written: its header, and its records (the libpcap file format; meaning).
+-- A pcap file as it is written: its header, and then its records (the libpcap file format;
+-- meaning).
 use Rattle.std.specs.Prelude.{◌≡◌, ℕ, ◌+◌, ◌*◌, ◌%◌, ◌^◌, ◌<◌, ◌≤◌, List, [], ◌∷◌, ◌++◌, length, None, Some}
 use Rattle.std.specs.Int.{w32, to_be_bytes, to_le_bytes}
 use Rattle.std.specs.List.{AllByRecursion}
@@ -11,19 +12,19 @@ pub data Fractions : Type 0 where
   Microseconds : Fractions
   Nanoseconds : Fractions
 
--- how many nanoseconds it has
+-- how many nanoseconds the unit has
 abbrev pub nanoseconds_in : Fractions → ℕ
 nanoseconds_in Microseconds = 1000
 nanoseconds_in Nanoseconds = 1
 
--- the magic tells it, and the order of the file's numbers
+-- the magic, which tells the unit, and the byte order of the file's numbers
 abbrev pub magic_octets : ByteOrder → Fractions → List ℕ
 magic_octets Big Microseconds = 0xa1 ∷ 0xb2 ∷ 0xc3 ∷ 0xd4 ∷ []
 magic_octets Big Nanoseconds = 0xa1 ∷ 0xb2 ∷ 0x3c ∷ 0x4d ∷ []
 magic_octets Little Microseconds = 0xd4 ∷ 0xc3 ∷ 0xb2 ∷ 0xa1 ∷ []
 magic_octets Little Nanoseconds = 0x4d ∷ 0x3c ∷ 0xb2 ∷ 0xa1 ∷ []
 
--- major version 2
+-- the major version, 2
 abbrev pub major_octets : ByteOrder → List ℕ
 major_octets Big = 0 ∷ 2 ∷ []
 major_octets Little = 2 ∷ 0 ∷ []
@@ -33,8 +34,9 @@ unfoldable pub number_octets : ByteOrder → ℕ → List ℕ
 number_octets Big n = to_be_bytes w32 n
 number_octets Little n = to_le_bytes w32 n
 
--- a file: its order and unit, the octets that nothing is read of (those of the minor version, and
--- after it those without a use and of the snapshot length), and the number of its link type
+-- a file: its byte order and its unit, the octets that are not looked at (those of the minor
+-- version, and after them the unused ones and those of the snapshot length), and the number of its
+-- link type
 pub record PcapFile : Type 0 where
   pub order : ByteOrder
   pub fractions : Fractions
@@ -46,7 +48,7 @@ abbrev pub header_octets : PcapFile → List ℕ
 header_octets f = magic_octets f.order f.fractions ++ (major_octets f.order ++ f.minor)
     ++ (f.unused ++ number_octets f.order f.link)
 
--- a record: its time, how many octets its packet had, and those that were captured
+-- a record: its time, the original length of its packet, and the octets that were captured
 pub record PcapRecord : Type 0 where
   pub seconds : ℕ
   pub fraction : ℕ
@@ -65,7 +67,7 @@ records_octets order (r ∷ rs) = record_octets order r ++ records_octets order 
 abbrev pub file_octets : PcapFile → List PcapRecord → List ℕ
 file_octets f rs = header_octets f ++ records_octets f.order rs
 
--- the parts of a file have their lengths
+-- the parts of the file have the right lengths
 pub record IsPcapFile (f : PcapFile) : Type 0 where
   pub minor : length f.minor ≡ 2
   pub unused : length f.unused ≡ 12
@@ -76,7 +78,7 @@ pub record IsPcapRecord (r : PcapRecord) : Type 0 where
   pub fraction : r.fraction < 2 ^ 32
   pub few : length r.octets ≤ 262144
 
--- the packet of a record that ends at a place
+-- the packet of a record that ends at this place
 abbrev pub packet_of : PcapFile → ℕ → PcapRecord → PacketRecord
 packet_of f place r = record {
   place = place;
@@ -87,15 +89,15 @@ packet_of f place r = record {
   octets = r.octets;
 }
 
--- the packets of records that begin at a place
+-- the packets of records that begin at this place
 unfoldable pub packets_of : PcapFile → ℕ → List PcapRecord → List PacketRecord
 packets_of f place [] = []
 packets_of f place (r ∷ rs) =
     packet_of f (place + (16 + length r.octets)) r
     ∷ packets_of f (place + (16 + length r.octets)) rs
 
--- What is read of a file are the packets of its records, with their times and places, and it has no
--- fault.
+-- The packets that are read of a file are those of its records, with their times and places, and
+-- the file has no fault.
 abbrev pub AFileHasItsRecords : Type 0
 AFileHasItsRecords = (f : PcapFile) (rs : List PcapRecord) → IsPcapFile f
     → AllByRecursion IsPcapRecord rs

@@ -1,5 +1,5 @@
--- A pcapng file as it is written: a section header block, and other blocks (the PCAP Next Generation
--- capture file format; meaning).
+-- A pcapng file as it is written: a section header block, and then other blocks (the PCAP Next
+-- Generation capture file format; meaning).
 use Rattle.std.specs.Prelude.{◌≡◌, ◌≢◌, ℕ, ◌+◌, ◌-◌, ◌*◌, ◌%◌, ◌^◌, ◌<◌, ◌≤◌, ◌==◌, ◌&&◌, ◌||◌, nat_lt, nat_le, Bool, true, List, [], ◌∷◌, ◌++◌, length, replicate, Option, None, Some, IfSome, slice_get, slice_index, if◌then◌else◌}
 use Rattle.std.specs.List.{AllByRecursion}
 use Rattle.std.specs.Int.{w16, to_be_bytes, to_le_bytes}
@@ -25,7 +25,7 @@ pub record BlockOption : Type 0 where
   pub code : ℕ
   pub value : List ℕ
 
--- its value, and zeros up to a multiple of 4 octets
+-- the value of an option, and zeros up to a multiple of 4 octets
 abbrev pub value_octets : BlockOption → List ℕ
 value_octets x = x.value ++ replicate (padded (length x.value) - length x.value) 0
 
@@ -33,7 +33,7 @@ abbrev pub option_octets : ByteOrder → BlockOption → List ℕ
 option_octets o x =
     (half_octets o x.code ++ half_octets o (length x.value)) ++ value_octets x
 
--- options, and their end
+-- options, and the option that ends them
 unfoldable pub ended_options : ByteOrder → List BlockOption → List ℕ
 ended_options o [] = half_octets o 0 ++ half_octets o 0
 ended_options o (x ∷ xs) = option_octets o x ++ ended_options o xs
@@ -42,24 +42,25 @@ abbrev pub options_octets : ByteOrder → List BlockOption → List ℕ
 options_octets o [] = []
 options_octets o (x ∷ xs) = ended_options o (x ∷ xs)
 
--- a block after the section header: an interface, with its link type, snapshot length and options;
--- an enhanced packet, by the number of its interface, the halves of its time in units, how many
--- octets it had, and those that were captured; a simple packet, of the first interface; and another,
--- of which nothing is read. After the octets of a packet stand others, as padding and options.
+-- A block after the section header: an interface, with its link type, snapshot length and options;
+-- an enhanced packet, with the number of its interface, the two halves of its time in units, its
+-- original length, and the octets that were captured; a simple packet, of the first interface; or
+-- another block, from which nothing is read. Other octets may follow the octets of a packet:
+-- padding and options.
 pub data PcapngBlock : Type 0 where
   InterfaceBlock : ℕ → ℕ → List BlockOption → PcapngBlock
   EnhancedBlock : ℕ → ℕ → ℕ → ℕ → List ℕ → List ℕ → PcapngBlock
   SimpleBlock : ℕ → List ℕ → List ℕ → PcapngBlock
   OtherBlock : ℕ → List ℕ → PcapngBlock
 
--- its type
+-- the type of a block
 abbrev pub type_of : PcapngBlock → ℕ
 type_of (InterfaceBlock link snapshot options) = interface_type
 type_of (EnhancedBlock interface high low original octets behind) = enhanced_type
 type_of (SimpleBlock original octets behind) = simple_type
 type_of (OtherBlock kind body) = kind
 
--- what stands between its lengths
+-- what stands between the two lengths of a block
 abbrev pub body_octets : ByteOrder → PcapngBlock → List ℕ
 body_octets o (InterfaceBlock link snapshot options) =
     ((half_octets o link ++ 0 ∷ 0 ∷ []) ++ number_octets o snapshot) ++ options_octets o options
@@ -83,8 +84,8 @@ unfoldable pub blocks_octets : ByteOrder → List PcapngBlock → List ℕ
 blocks_octets o [] = []
 blocks_octets o (b ∷ bs) = block_octets o b ++ blocks_octets o bs
 
--- a file: its order, the minor version, and the octets after that in the section header block, as
--- the section's length and options
+-- a file: its byte order, the minor version, and the octets after that in the section header block,
+-- such as the section's length and options
 pub record PcapngFile : Type 0 where
   pub order : ByteOrder
   pub minor : List ℕ
@@ -102,14 +103,14 @@ section_octets f =
 abbrev pub pcapng_octets : PcapngFile → List PcapngBlock → List ℕ
 pcapng_octets f bs = section_octets f ++ blocks_octets f.order bs
 
--- the parts of a file have their lengths
+-- the parts of the file have the right lengths
 pub record IsPcapngFile (f : PcapngFile) : Type 0 where
   pub minor : length f.minor ≡ 2
   pub some : 8 ≤ length f.rest
   pub whole : section_size f % 4 ≡ 0
   pub few : section_size f < 2 ^ 32
 
--- the length of a block
+-- the length is one that a block may have
 pub record HasLength (length : ℕ) : Type 0 where
   pub whole : length % 4 ≡ 0
   pub few : length < 2 ^ 32
@@ -117,8 +118,8 @@ pub record HasLength (length : ℕ) : Type 0 where
 abbrev pub is_unit_in_range : ℕ → Bool
 is_unit_in_range unit = nat_lt unit 20 || (nat_le 128 unit && nat_lt unit 192)
 
--- An option has a code that isn't the end's, and room for its value's length; the unit of times is
--- in range.
+-- The option's code isn't the one that ends the options, the length of its value fits its field,
+-- and if it is the unit of times, that is in range.
 abbrev pub is_unit : BlockOption → Bool
 is_unit x = (x.code == 9) && (length x.value == 1)
 
@@ -128,7 +129,8 @@ pub record IsOption (x : BlockOption) : Type 0 where
   pub few : length x.value < 2 ^ 16
   pub unit : is_unit x ≡ true → is_unit_in_range (slice_index x.value 0) ≡ true
 
--- the ticks of a second by the options: microseconds, unless one says otherwise
+-- how many units make a second, by the options: those of microseconds, unless an option says
+-- another number
 unfoldable pub ticks_by : ℕ → List BlockOption → ℕ
 ticks_by ticks [] = ticks
 ticks_by ticks (x ∷ xs) =
@@ -138,7 +140,7 @@ abbrev pub interface_of : ℕ → ℕ → List BlockOption → Interface
 interface_of link snapshot options =
     record { link = link; snapshot = snapshot; ticks = ticks_by 1000000 options }
 
--- a block, in a section that has these interfaces
+-- the block may stand in a section that has these interfaces
 abbrev pub IsBlock : ByteOrder → List Interface → PcapngBlock → Type 0
 IsBlock o interfaces (InterfaceBlock link snapshot options) =
     (length interfaces < most_interfaces) × (link < 2 ^ 16) × (snapshot < 2 ^ 32)
@@ -157,7 +159,7 @@ IsBlock o interfaces (OtherBlock kind body) =
     (kind ≢ interface_type) × (kind ≢ enhanced_type) × (kind ≢ simple_type)
     × (kind ≢ section_type) × (kind < 2 ^ 32) × HasLength (length_of o (OtherBlock kind body))
 
--- the interfaces after a block
+-- the interfaces of the section after a block
 abbrev pub with_block : List Interface → PcapngBlock → List Interface
 with_block interfaces (InterfaceBlock link snapshot options) =
     interfaces ++ interface_of link snapshot options ∷ []
@@ -165,13 +167,13 @@ with_block interfaces (EnhancedBlock interface high low original octets behind) 
 with_block interfaces (SimpleBlock original octets behind) = interfaces
 with_block interfaces (OtherBlock kind body) = interfaces
 
--- each block, after those before it
+-- each block may stand after those before it
 unfoldable pub AreBlocks : ByteOrder → List Interface → List PcapngBlock → Type 0
 AreBlocks o interfaces [] = Unit {0}
 AreBlocks o interfaces (b ∷ bs) =
     IsBlock o interfaces b × AreBlocks o (with_block interfaces b) bs
 
--- the packet of a block that ends at a place, by its interface: of an enhanced one with its time,
+-- the packet of an enhanced packet block that ends at this place, by its interface, with its time
 abbrev pub enhanced_packet : ℕ → ℕ → List ℕ → Option Interface → List PacketRecord
 enhanced_packet place units octets None = []
 enhanced_packet place units octets (Some interface) = record {
@@ -180,7 +182,7 @@ enhanced_packet place units octets (Some interface) = record {
   octets = octets;
 } ∷ []
 
--- and of a simple one without a time
+-- the packet of a simple packet block that ends at this place, by its interface, without a time
 abbrev pub simple_packet : ℕ → List ℕ → Option Interface → List PacketRecord
 simple_packet place octets None = []
 simple_packet place octets (Some interface) = record {
@@ -197,7 +199,7 @@ packet_of_block interfaces place (SimpleBlock original octets behind) =
     simple_packet place octets (slice_get interfaces 0)
 packet_of_block interfaces place (OtherBlock kind body) = []
 
--- the packets of blocks that begin at a place, in a section that has these interfaces
+-- the packets of blocks that begin at this place, in a section that has these interfaces
 unfoldable pub packets_of_blocks : ByteOrder → List Interface → ℕ → List PcapngBlock →
     List PacketRecord
 packets_of_blocks o interfaces place [] = []
@@ -205,8 +207,8 @@ packets_of_blocks o interfaces place (b ∷ bs) =
     packet_of_block interfaces (place + length_of o b) b
     ++ packets_of_blocks o (with_block interfaces b) (place + length_of o b) bs
 
--- What is read of a file are the packets of its blocks, with their times and places, and it has no
--- fault.
+-- The packets that are read of a file are those of its blocks, with their times and places, and the
+-- file has no fault.
 abbrev pub APcapngFileHasItsBlocks : Type 0
 APcapngFileHasItsBlocks = (f : PcapngFile) (bs : List PcapngBlock) → IsPcapngFile f
     → AreBlocks f.order [] bs

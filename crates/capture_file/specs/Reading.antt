@@ -1,5 +1,5 @@
--- What a capture has: its packets, and the fault that ends its reading (meaning). A capture is
--- parts, one after another; each says by its octets what comes next.
+-- The packets of a capture, and the fault that ends its reading (meaning). A capture is a row of
+-- parts. The octets of each part tell which part comes next.
 use Rattle.std.specs.Prelude.{ℕ, zero, suc, ◌+◌, nat_lt, List, [], ◌∷◌, length, take, drop, Option, Some, None, if◌then◌else◌}
 use Rattle.capture_file.specs.declared.fault.FaultKind.TheVariants.{Truncated}
 use Rattle.capture_file.specs.declared.fault.CaptureFault.{CaptureFault}
@@ -12,25 +12,25 @@ use Rattle.capture_file.specs.declared.part.Outcome.TheVariants.{Continues, Ends
 use Rattle.capture_file.specs.Parts.{front, passed, back, packet_offset, size, may_end_before}
 use Rattle.capture_file.specs.Format.{next, interfaces_behind}
 
--- a packet: its link type, its time, its octets, and how many octets the capture has up to and with
--- the last one of the packet's record or block
+-- a packet: its link type, its time and its octets; its place is the number of octets that the
+-- capture has up to the end of the packet's record or block
 pub record PacketRecord : Type 0 where
   pub place : ℕ
   pub head : Head
   pub octets : List ℕ
 
--- what comes: a part, in a section that has these interfaces
+-- the part that comes next, and the interfaces of its section
 pub record ParserState : Type 0 where
   pub part : Part
   pub interfaces : List Interface
 
--- how a reading ends: within a part, after so many octets of the capture, of which these have
--- come; or with a fault
+-- how a reading ends: within a part, which begins after this number of octets of the capture, and
+-- of which these octets have come; or with a fault
 pub data Ending : Type 0 where
   Within : ParserState → ℕ → List ℕ → Ending
   Faulted : CaptureFault → Ending
 
--- the packets, and the end
+-- the packets that were read, and how the reading ends
 pub record Reading : Type 0 where
   pub packets : List PacketRecord
   pub ending : Ending
@@ -43,8 +43,8 @@ end_of part octets = take (back part) (drop (front part + passed part) octets)
 abbrev pub packet_in : Part → List ℕ → List ℕ
 packet_in part octets = drop (packet_offset part) (take (front part) octets)
 
--- a reading that goes on after a part, at this place; these octets are the packet's, if the part
--- ends one
+-- how a reading goes on after a part that ends at this place; `packet` is the packet's octets, if
+-- the part ends one
 abbrev pub behind : ParserState → List ℕ → ℕ → Outcome → (ParserState → Reading) → Reading
 behind state packet place (Continues part) rest =
     rest (record { part = part; interfaces = interfaces_behind state.part state.interfaces })
@@ -55,8 +55,9 @@ behind state packet place (EndsPacket head part) rest =
 behind state packet place (Fails kind) rest =
     record { packets = []; ending = Faulted (record { kind = kind; place = place }) }
 
--- The reading of octets, where this is due after so many others. The first number bounds how many
--- parts are read; each has an octet, so there are no more parts than octets.
+-- The reading of octets, if this part comes next after `at` other octets. The first number is a
+-- bound on how many parts are read. Each part has at least one octet, so there are no more parts
+-- than octets.
 unfoldable pub reading_from : ℕ → ParserState → ℕ → List ℕ → Reading
 reading_from zero state at octets = record { packets = []; ending = Within state at octets }
 reading_from (suc most) state at octets =
@@ -66,7 +67,7 @@ reading_from (suc most) state at octets =
     (next state.part state.interfaces (end_of state.part octets))
     (λ rest. reading_from most rest (at + size state.part) (drop (size state.part) octets))
 
--- the beginning of a capture
+-- the state at the beginning of a capture
 abbrev pub start : ParserState
 start = record { part = parts.Beginning; interfaces = [] }
 
@@ -81,7 +82,7 @@ abbrev pub fault_of : Ending → Option CaptureFault
 fault_of (Within state at octets) = None
 fault_of (Faulted fault) = Some fault
 
--- the fault that the octets of a capture show
+-- the fault that the octets of a capture show, if they show one
 abbrev pub fault : List ℕ → Option CaptureFault
 fault p = fault_of (reading p).ending
 
@@ -90,11 +91,11 @@ truncated_at place part (octet ∷ octets) = Some (record { kind = Truncated; pl
 truncated_at place part [] =
     if may_end_before part then None else Some (record { kind = Truncated; place = place })
 
--- the fault that the end of a capture shows, after this many octets
+-- the fault that a capture shows at its end, if it ends after this number of octets
 abbrev pub fault_at_end : ℕ → Ending → Option CaptureFault
 fault_at_end place (Within state at octets) = truncated_at place state.part octets
 fault_at_end place (Faulted fault) = Some fault
 
--- the fault of a capture that ends here
+-- the fault of a capture that ends here, if it has one
 abbrev pub final_fault : List ℕ → Option CaptureFault
 final_fault p = fault_at_end (length p) (reading p).ending

@@ -11,13 +11,13 @@ use Rattle.capture_file.specs.declared.part.Outcome.TheVariants.{Continues, Ends
 use Rattle.capture_file.specs.Numbers.{two_at, four_at}
 use Rattle.capture_file.specs.OtherFiles.{other_file}
 
--- a packet has at most so many octets
+-- the greatest number of octets of a packet
 abbrev pub most_captured : ℕ
 most_captured = 262144
 
--- the magic says the order of the file's own numbers, and whether its times are in microseconds or
--- nanoseconds; a pcapng file begins with the type of a section header block, which is the same in
--- either order
+-- the magic tells the byte order of the file's own numbers, and whether its times are in
+-- microseconds or nanoseconds; a pcapng file begins with the type of a section header block, which
+-- is the same in either order
 unfoldable pub beginning : List ℕ → Outcome
 beginning octets =
     if four_at Big 0 octets == 0xa1b2c3d4
@@ -31,13 +31,13 @@ beginning octets =
     (if four_at Big 0 octets == 0x0a0d0d0a then Continues parts.SectionLength
     else Fails (faults.Magic (other_file octets))))))
 
--- the major version, and the minor, which may be any
+-- the major version, which must be 2, and the minor one, which may be any
 unfoldable pub file_version : Magic → List ℕ → Outcome
 file_version magic octets =
     if two_at magic.order 0 octets == 2 then Continues (parts.FileRest magic)
     else Fails faults.Version
 
--- eight octets without a use, the snapshot length, and the link type, whose upper bits say
+-- eight unused octets, the snapshot length, and the link type; the upper bits of the link type say
 -- something else
 unfoldable pub file_rest : Magic → List ℕ → Outcome
 file_rest magic octets =
@@ -46,17 +46,17 @@ file_rest magic octets =
       link = four_at magic.order 12 octets % 2 ^ 16;
     }))
 
--- seconds and their fraction, which may be a second or more, as nanoseconds
+-- the seconds and their fraction, which may be a second or more, in nanoseconds
 unfoldable pub record_time : Magic → List ℕ → ℕ
 record_time magic octets =
     four_at magic.order 0 octets * 1000000000 + four_at magic.order 4 octets * magic.unit
 
--- what is known of a record's packet before its octets
+-- what is known of a record's packet before its octets come
 abbrev pub record_head : FileHeader → List ℕ → Head
 record_head file octets =
     record { link = file.link; time = Some (record_time file.magic octets) }
 
--- seconds, fraction, captured length
+-- the seconds, the fraction, and the length that was captured
 unfoldable pub record_header : FileHeader → List ℕ → Outcome
 record_header file octets =
     let captured = four_at file.magic.order 8 octets in
@@ -67,7 +67,8 @@ record_header file octets =
 abbrev pub record_end : FileHeader → Head → Outcome
 record_end file head = EndsPacket head (parts.RecordHeader file)
 
--- a record stands whole in front: its header, the original length, and a packet of so many octets
+-- the octets begin with a whole record: its header, the original length, and a packet of this
+-- number of octets
 pub record IsWholeRecord (file : FileHeader) (octets : List ℕ) (head : Head) (captured : ℕ) :
     Type 0 where
   pub header : record_header file (take 12 octets) ≡ Continues (parts.Record file head captured)

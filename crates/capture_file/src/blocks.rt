@@ -8,7 +8,7 @@ use crate::fault::FaultKind;
 use crate::part::{Block, Body, ByteOrder, Head, Interface, LengthByOrder, Outcome, Part};
 use crate::records::{MOST_CAPTURED, SECTION};
 
-/// A section has at most so many interfaces.
+/// The greatest number of interfaces in a section.
 pub const MOST_INTERFACES: usize = 256;
 
 const BYTE_ORDER_MAGIC: u32 = 0x1a2b_3c4d;
@@ -19,10 +19,10 @@ const SIMPLE: u32 = 3;
 
 const ENHANCED: u32 = 6;
 
-/// From the year 10000 on there is no time: nanoseconds since 1970.
+/// The first nanosecond of the year 10000, counted since 1970. From then on a packet has no time.
 const YEAR_10000: u128 = 253_402_300_800_000_000_000;
 
-/// The length of a section header block in either order.
+/// Reads the length of a section header block in both byte orders.
 fn length_by_order(octets: &[u8], at: usize) -> Outcome
     requires { at + 4 ≤ length octets.now }
     ensures value { result ≡ length_by_order at octets.now }
@@ -43,7 +43,7 @@ pub fn section_length(octets: &[u8]) -> Outcome
     length_by_order(octets, 0)
 }
 
-/// What comes of a section header block of this length.
+/// What comes after the byte-order magic of a section, by the length of its header block.
 #[tactic(auto, unfolding(crate::specs::Blocks::section))]
 fn section(order: ByteOrder, length: u32) -> Outcome
     ensures value { result ≡ section order length }
@@ -91,7 +91,7 @@ pub fn section_version(block: Block, octets: &[u8]) -> Outcome
     }
 }
 
-/// The total length that the fixed fields of a type need.
+/// The least total length that a block of this type needs, for its fixed fields.
 fn least_length(kind: u32) -> u32
     ensures { result ≡ least_length kind }
 {
@@ -103,7 +103,7 @@ fn least_length(kind: u32) -> u32
     }
 }
 
-/// What comes of a block after its length, in a section that has so many interfaces.
+/// What comes after the type and the length of a block, in a section that has this number of interfaces.
 #[tactic(auto, unfolding(crate::specs::Blocks::block_of))]
 fn block_of(order: ByteOrder, kind: u32, length: u32, interfaces: usize) -> Outcome
     requires { least_length kind ≤ length }
@@ -126,7 +126,7 @@ fn block_of(order: ByteOrder, kind: u32, length: u32, interfaces: usize) -> Outc
     }
 }
 
-/// After the type and the length of a block, in a section that has so many interfaces.
+/// After the type and the length of a block, in a section that has this number of interfaces.
 #[tactic(auto, unfolding(crate::specs::Blocks::block_header))]
 pub fn block_header(order: ByteOrder, interfaces: usize, octets: &[u8]) -> Outcome
     requires { 8 ≤ length octets.now }
@@ -145,7 +145,8 @@ pub fn block_header(order: ByteOrder, interfaces: usize, octets: &[u8]) -> Outco
     }
 }
 
-/// Options while there is room for the header of one, after so many octets of the one before.
+/// What comes among the options of a block: another option, if there is room for its header after `skip` octets of the one
+/// before, else the block's end.
 #[tactic(auto, unfolding(crate::specs::Blocks::options))]
 fn options(block: Block, interface: Interface, skip: u32) -> Outcome
     requires { skip ≤ 65536 }
@@ -177,7 +178,7 @@ pub fn interface_header(block: Block, octets: &[u8]) -> Outcome
     options(block, interface, 0)
 }
 
-/// So many octets with padding to 4.
+/// The number of octets with their padding to a multiple of 4.
 fn padded(count: u16) -> u32
     ensures value { result ≡ padded count }
     ensures few { result ≤ 65536 }
@@ -205,7 +206,7 @@ pub fn option_header(block: Block, interface: Interface, octets: &[u8]) -> Outco
     options(block, interface, skip)
 }
 
-/// How many units of times make a second.
+/// How many units of time make a second, by the number of the unit.
 fn ticks_of(unit: u8) -> u64
     requires { (unit < 20) ⊎ ((128 ≤ unit) × (unit < 192)) }
     ensures { result ≡ ticks_of unit }
@@ -217,7 +218,7 @@ fn ticks_of(unit: u8) -> u64
     }
 }
 
-/// After the unit of an interface's times.
+/// After the number that gives the unit of an interface's times.
 #[tactic(auto, unfolding(crate::specs::Blocks::time_unit))]
 pub fn time_unit(block: Block, interface: Interface, octets: &[u8]) -> Outcome
     requires { 1 ≤ length octets.now }
@@ -233,7 +234,7 @@ pub fn time_unit(block: Block, interface: Interface, octets: &[u8]) -> Outcome
     }
 }
 
-/// After the number of an enhanced packet's interface.
+/// After the number of the interface of an enhanced packet.
 #[tactic(auto, unfolding(crate::specs::Blocks::enhanced_interface))]
 pub fn enhanced_interface(block: Block, interfaces: &[Interface], octets: &[u8]) -> Outcome
     requires { 4 ≤ length octets.now }
@@ -247,7 +248,7 @@ pub fn enhanced_interface(block: Block, interfaces: &[Interface], octets: &[u8])
     }
 }
 
-/// A packet, if it isn't too long and its block has room for it.
+/// What comes before the octets of a packet: the packet, if it isn't too long and its block has room for it.
 #[tactic(auto, unfolding(crate::specs::Blocks::packet_of))]
 fn packet_of(block: Block, body: Body) -> Outcome
     requires { body.packet_offset ≤ 4 }
@@ -261,7 +262,7 @@ fn packet_of(block: Block, body: Body) -> Outcome
     Outcome::Continues(Part::Packet(Block { left, ..block }, body))
 }
 
-/// So many units in nanoseconds, rounded down. The units of most captures need no division.
+/// A number of units in nanoseconds, rounded down. The units of most captures need no division.
 fn nanoseconds_of(units: u64, ticks: u64) -> u128
     requires { 0 < ticks }
     ensures { result ≡ nanoseconds_of units ticks }
@@ -274,7 +275,7 @@ fn nanoseconds_of(units: u64, ticks: u64) -> u128
     }
 }
 
-/// Nanoseconds since 1970 of so many units; none from the year 10000 on.
+/// A number of units in nanoseconds since 1970. From the year 10000 on there is none.
 #[tactic(auto, unfolding(crate::specs::Blocks::time_of))]
 fn time_of(units: u64, ticks: u64) -> Option<u128>
     ensures { result ≡ time_of units ticks }
@@ -308,7 +309,7 @@ pub fn enhanced_header(block: Block, interface: Interface, octets: &[u8]) -> Out
     )
 }
 
-/// How many octets of so many an interface captures.
+/// How many octets of a packet an interface captures, by the packet's original length.
 fn cut(original: u32, snapshot: u32) -> u32
     ensures { result ≡ cut original snapshot }
 {
@@ -341,7 +342,7 @@ pub fn simple_header(block: Block, interfaces: &[Interface], octets: &[u8]) -> O
     )
 }
 
-/// After the second length of a block, where this comes if it is the first again.
+/// After the second length of a block: `outcome`, if that length is the first one again.
 #[tactic(auto, unfolding(crate::specs::Blocks::block_end))]
 pub fn block_end(block: Block, octets: &[u8], outcome: Outcome) -> Outcome
     requires long { 4 ≤ length octets.now }

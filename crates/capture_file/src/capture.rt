@@ -1,4 +1,4 @@
-//! A capture that is read in pieces of any size, in memory that is taken once.
+//! A capture that is read in pieces of any size. All its memory is taken once.
 
 ghost use Rattle.std.specs.Prelude.{◌≡◌, ℕ, true, ◌+◌, ◌-◌, ◌^◌, ◌<◌, ◌≤◌, min, Bool, List, [], ◌++◌, length, take, drop, Option, None, IfOk, IfSome, vec_len, vec_capacity};
 ghost use Rattle.std.specs.Option.{ForSome};
@@ -15,10 +15,10 @@ use crate::records::whole_record;
 use crate::window::{copy_to_window, push_front};
 use std::alloc::{AllocError, Global};
 
-/// A packet of the greatest length and an original length in front of it.
+/// Enough for a packet of the greatest length, and the original length that stands before it.
 const ROOM: usize = 262_148;
 
-/// Where the last packet stands: in the octets that were taken last, or in those that are held.
+/// The place of the last packet: in the octets that were taken last, or in those that are held.
 #[derive(Clone, Copy)]
 struct PacketRange {
     head: Head,
@@ -34,13 +34,13 @@ pub struct Capture {
     packets: u64,
     /// The part that has begun.
     part: Part,
-    /// How many of its octets were taken.
+    /// How many octets of that part were taken.
     taken: u64,
     /// The interfaces of the section.
     interfaces: Vec<Interface>,
-    /// What has come of the octets at the part's front, where they come in pieces.
+    /// The octets at the part's front that have come until now, if they come in pieces.
     packet_octets: Vec<u8>,
-    /// What has come of those at its end.
+    /// The octets at the part's end that have come until now.
     end_octets: [u8; 16],
     packet_range: PacketRange,
     fault: Option<CaptureFault>,
@@ -62,7 +62,7 @@ impl Capture {
     ghost use Rattle.capture_file.specs.CaptureSteps.{Completes, PartBegins, EndsPacketAt, HoldsPiece, Advances};
     ghost use Rattle.capture_file.specs.CaptureSteps.{IsRecordDue, TakesRecord};
 
-    /// A capture of which nothing was taken, with memory for one packet.
+    /// Makes a capture of which nothing was taken, with memory for one packet.
     pub fn new(alloc: Global) -> Result<Capture, AllocError>
         ensures { IfOk result (λ c. Reads c []) }
     {
@@ -96,16 +96,16 @@ impl Capture {
         self.octets
     }
 
-    /// How many packets they complete.
+    /// How many packets those octets complete.
     pub fn packets(&self) -> u64
         ensures { (p : List ℕ) → Reads self.now p → result ≡ length (packets p) }
     {
         self.packets
     }
 
-    /// Takes octets: all of them, or as many as there are up to one that completes a packet or shows a fault. Answers how
-    /// many it took, and what came of them. A capture that has shown a fault takes no more, and answers the fault again. All
-    /// that it takes are fewer than 2^64 octets.
+    /// Takes octets: all of them, or only those up to the first one that completes a packet or shows a fault. Returns how
+    /// many it took, and what they complete or show. If the capture has shown a fault before, it takes no octet, and
+    /// returns the fault again. Together all octets that it takes must be fewer than 2^64.
     pub fn take(&mut self, octets: &[u8]) -> (usize, Progress)
         requires { octets_of self.old + length octets.now < 2 ^ 64 }
         ensures reads { (p : List ℕ) → Reads self.old p →
@@ -134,7 +134,7 @@ impl Capture {
         (start, Progress::More)
     }
 
-    /// Takes the octets from this place on: as many as the part that has begun lacks, or all.
+    /// Takes octets from this index on: as many as the part that has begun still needs, or all.
     fn take_part(&mut self, octets: &[u8], start: usize) -> (usize, Progress)
         requires running { self.old.fault ≡ None }
         requires some { start < length octets.now }
@@ -170,8 +170,8 @@ impl Capture {
         (count, self.complete(end, start, false))
     }
 
-    /// Where a record may begin, and stands whole in front of these octets: what is known of its packet, and how many octets the
-    /// packet has.
+    /// The head of a packet and the number of its octets, if a record may begin here and these octets begin with the whole
+    /// record.
     #[inline]
     fn due_record(&self, octets: &[u8]) -> Option<(Head, usize)>
         ensures { IfSome result (λ r. IsRecordDue self.now octets.now r.0 r.1) }
@@ -185,7 +185,7 @@ impl Capture {
         whole_record(file, octets)
     }
 
-    /// Takes a whole record at once, from this place on. Answers how many octets it has.
+    /// Takes a whole record at once, from this index on. Returns how many octets it has.
     #[inline]
     fn take_record(&mut self, head: Head, start: usize, captured: usize) -> usize
         requires running { self.old.fault ≡ None }
@@ -201,7 +201,7 @@ impl Capture {
         count
     }
 
-    /// Holds a piece of the part that has begun, which doesn't complete it.
+    /// Holds a piece of the part that has begun. The piece doesn't complete the part.
     fn hold(&mut self, piece: &[u8])
         requires running { self.old.fault ≡ None }
         requires within { self.old.taken + length piece.now < size self.old.part }
@@ -216,7 +216,7 @@ impl Capture {
         self.taken += piece.len() as u64;
     }
 
-    /// Completes a part of which a front is held, with the octets that it lacks.
+    /// Completes a part whose first octets are held, with the octets that it still needs.
     #[tactic(auto, using(crate::proofs::Sizes::back_few))]
     fn complete_held(&mut self, piece: &[u8]) -> Progress
         requires running { self.old.fault ≡ None }
@@ -248,7 +248,7 @@ impl Capture {
         self.octets += count as u64;
     }
 
-    /// Keeps of a piece of the part that has begun what is looked at or given when it is complete.
+    /// Keeps those octets of a piece that will be looked at, or given to the caller, when the part is complete.
     fn hold_piece(&mut self, piece: &[u8])
         requires running { self.old.fault ≡ None }
         requires taken { self.old.taken + length piece.now < 2 ^ 64 }
@@ -266,7 +266,8 @@ impl Capture {
         self.octets += piece.len() as u64;
     }
 
-    /// The part is complete, by the octets at its end. It began at this offset of the octets that are given, or is held.
+    /// Ends a part that is complete, by the octets at its end. The part began at this index of the octets that the caller
+    /// gave, or is held.
     fn complete(&mut self, end: &[u8], start: usize, held: bool) -> Progress
         requires running { self.old.fault ≡ None }
         requires back { length end.now ≡ back self.old.part }
@@ -297,7 +298,8 @@ impl Capture {
         }
     }
 
-    /// A packet ends, which stands from one offset to another of the octets that are given, or of those that are held.
+    /// Ends a packet. Its octets stand between these two indices of the octets that the caller gave, or of those that are
+    /// held.
     #[inline]
     fn end_packet(&mut self, head: Head, start: usize, end: usize, held: bool)
         requires some { self.old.packets < self.old.octets }
@@ -315,7 +317,7 @@ impl Capture {
         self.packets += 1;
     }
 
-    /// Another part begins.
+    /// Begins the part that comes next.
     #[tactic(auto, using(crate::proofs::ReadingSteps::size_some))]
     fn begin(&mut self, part: Part)
         requires room { HasRoom
@@ -334,7 +336,7 @@ impl Capture {
         self.taken = 0;
     }
 
-    /// The packet that the last call of `take` completed, where these are the octets that it was given.
+    /// The packet that the last call of `take` completed. The caller gives the same octets again.
     pub fn packet<'a>(&'a self, octets: &'a [u8]) -> Packet<'a>
         requires { IsIn self.now octets.now }
         ensures link { result.link ≡ (head_in self.now).link }
@@ -359,7 +361,7 @@ impl Capture {
         }
     }
 
-    /// The fault of the capture, if it ends here.
+    /// The fault that the capture has if it ends here.
     pub fn finish(&self) -> Option<CaptureFault>
         ensures { (p : List ℕ) → Reads self.now p → result ≡ final_fault p }
     {

@@ -1,4 +1,4 @@
-//! Why a capture is read no further.
+//! Why a capture isn't read to its end.
 
 ghost use Rattle.std.specs.Prelude.{◌≡◌};
 ghost use Rattle.capture_file.specs.FaultWords.{fault_word};
@@ -10,22 +10,22 @@ use thiserror::Error;
 /// The rule that a capture breaks.
 #[derive(Clone, Copy, Debug, PartialEq, Eq)]
 pub enum FaultKind {
-    /// It begins neither as pcap nor as pcapng, but like this.
+    /// The capture begins neither as pcap nor as pcapng, but as this other file.
     Magic(OtherFile),
-    /// A byte-order magic of neither order, a unit of times out of range, or a block whose two lengths differ.
+    /// The byte-order magic is of neither order, the unit of times is out of range, or the two lengths of a block differ.
     Format,
-    /// A length that its block can't have, or a packet of more octets than are read or than its block has room for.
+    /// A block can't have its length; or a packet has more octets than are read, or than its block has room for.
     Length,
-    /// A major version other than 2 (pcap) or 1 (pcapng).
+    /// The major version isn't 2 (pcap) or 1 (pcapng).
     Version,
-    /// A packet of an interface that its section doesn't have, or one interface too many.
+    /// A packet has an interface that its section doesn't have; or a section has one interface too many.
     Interface,
-    /// It ends within a header, a record or a block, or is empty.
+    /// The capture is empty, or ends within a header, a record or a block.
     Truncated,
 }
 
 impl FaultKind {
-    /// Its word (docs/FORMATS.md, Capture files).
+    /// The word for the rule (docs/FORMATS.md, Capture files).
     pub fn word(self) -> &'static str
         ensures { result.now ≡ fault_word self }
     {
@@ -51,6 +51,6 @@ impl Display for FaultKind {
 #[error("{kind} at {place}")]
 pub struct CaptureFault {
     pub kind: FaultKind,
-    /// How many octets of the capture there are up to and with the one that shows it; for `Truncated` all.
+    /// The number of the octet that shows it, from 1; for `Truncated` the number of all octets.
     pub place: u64,
 }

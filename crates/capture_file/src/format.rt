@@ -8,7 +8,7 @@ ghost use Rattle.capture_file.specs.Fits.{Fits, adds};
 use crate::part::{Interface, Outcome, Part};
 use crate::{blocks, records};
 
-/// What comes after a part whose end has these octets, in a section that has these interfaces.
+/// What comes after a part that ends in these octets, in a section that has these interfaces.
 #[tactic(auto, using(crate::proofs::Fitting::fits_more))]
 pub fn next(part: &Part, interfaces: &[Interface], octets: &[u8]) -> Outcome
     requires back { length octets.now ≡ back part.now }

@@ -1,4 +1,4 @@
-//! The numbers that octets at an offset spell, in either order.
+//! The numbers in octets at an offset, in either byte order.
 
 ghost use Rattle.std.specs.Prelude.{◌≡◌, ◌+◌, ◌≤◌, length, take, drop};
 ghost use Rattle.capture_file.specs.Numbers.{two_at, four_at};
@@ -6,7 +6,7 @@ ghost use Rattle.capture_file.specs.Numbers.{two_at, four_at};
 use crate::part::ByteOrder;
 
 impl ByteOrder {
-    /// The number of two octets at this offset.
+    /// The number in the two octets at this offset.
     #[tactic(auto, unfolding(crate::specs::Numbers::two_at))]
     pub fn two_at(self, octets: &[u8], at: usize) -> u16
         requires { at + 2 ≤ length octets.now }
@@ -18,7 +18,7 @@ impl ByteOrder {
         }
     }
 
-    /// The number of four octets at this offset.
+    /// The number in the four octets at this offset.
     #[tactic(auto, unfolding(crate::specs::Numbers::four_at))]
     pub fn four_at(self, octets: &[u8], at: usize) -> u32
         requires { at + 4 ≤ length octets.now }

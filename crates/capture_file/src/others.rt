@@ -1,4 +1,4 @@
-//! Files that are no captures, and are often given as ones.
+//! Files that are no captures, but are often given as captures.
 
 ghost use Rattle.std.specs.Prelude.{◌≡◌, ◌≤◌, length};
 ghost use Rattle.capture_file.specs.OtherFiles.{other_file};
@@ -15,7 +15,7 @@ const SNOOP: u32 = 0x736e_6f6f;
 
 const MODIFIED_PCAP: u32 = 0xa1b2_cd34;
 
-/// What a file is that begins like no capture.
+/// What a file is, if it doesn't begin as a capture does.
 #[derive(Clone, Copy, Debug, PartialEq, Eq)]
 pub enum OtherFile {
     /// It is compressed by gzip.
@@ -24,15 +24,15 @@ pub enum OtherFile {
     Zstandard,
     /// It is compressed by xz.
     Xz,
-    /// A capture of snoop (RFC 1761).
+    /// It is a capture of snoop (RFC 1761).
     Snoop,
-    /// A pcap file whose records have more fields, in either byte order.
+    /// It is a pcap file whose records have more fields, in either byte order.
     ModifiedPcap,
-    /// None of these.
+    /// It is none of these.
     Unknown,
 }
 
-/// What a file is that begins like no capture, by its first four octets.
+/// What a file is, if it doesn't begin as a capture does, by its first four octets.
 #[tactic(auto, unfolding(crate::specs::OtherFiles::other_file))]
 pub fn other_file(octets: &[u8]) -> OtherFile
     requires { 4 ≤ length octets.now }

@@ -1,10 +1,10 @@
-//! The parts of a capture: which one comes, how long it is, and what of it is looked at.
+//! The parts of a capture: which part comes next, how long it is, and which of its octets are looked at.
 
 ghost use Rattle.std.specs.Prelude.{◌≡◌, ◌<◌, ◌≤◌, ◌^◌};
 
 use crate::fault::FaultKind;
 
-/// The order of a number's octets.
+/// The byte order of a number.
 #[derive(Clone, Copy)]
 pub enum ByteOrder {
     /// The most significant octet first.
@@ -17,7 +17,7 @@ pub enum ByteOrder {
 #[derive(Clone, Copy)]
 pub struct Magic {
     pub order: ByteOrder,
-    /// How many nanoseconds a unit of a time's fraction has.
+    /// How many nanoseconds a unit of the times' fractions has.
     pub unit: u32,
 }
 
@@ -28,7 +28,7 @@ pub struct FileHeader {
     pub link: u16,
 }
 
-/// The length of a section header block in either order, as the section's isn't known yet.
+/// The length of a section header block in both byte orders, because the order of the section isn't known yet.
 #[derive(Clone, Copy)]
 pub struct LengthByOrder {
     pub big: u32,
@@ -38,11 +38,11 @@ pub struct LengthByOrder {
 /// A block of a pcapng file that has begun.
 #[derive(Clone, Copy)]
 pub struct Block {
-    /// The order of its section.
+    /// The byte order of its section.
     pub order: ByteOrder,
     /// Its total length.
     pub length: u32,
-    /// How many octets there are between the part that stands with it and its second length.
+    /// How many octets come between the part that holds this block and the block's second length.
     pub left: u32,
 }
 
@@ -50,13 +50,13 @@ pub struct Block {
 #[derive(Clone, Copy)]
 pub struct Interface {
     pub link: u16,
-    /// How many octets of a packet are captured at most; 0 means all.
+    /// The greatest number of octets that are captured of a packet; 0 means all.
     pub snapshot: u32,
     /// How many units of its times make a second.
     pub ticks: u64,
 }
 
-/// What is known of a packet before its octets.
+/// What is known of a packet before its octets come.
 #[derive(Clone, Copy)]
 pub struct Head {
     pub link: u16,
@@ -64,17 +64,17 @@ pub struct Head {
     pub time: Option<u128>,
 }
 
-/// The octets of a packet block that are the packet's, and the original length where that is in front of them.
+/// The octets of a packet block that belong to the packet, with the original length if that stands directly before them.
 #[derive(Clone, Copy)]
 pub struct Body {
     pub head: Head,
-    /// How many octets the original length takes in front of the packet's: 4, or 0.
+    /// How many octets stand before the packet's own: 4 for the original length, or 0.
     pub packet_offset: u32,
     /// How many octets the packet has.
     pub captured: u32,
 }
 
-/// The part of a capture that comes: a part ends where it is known what comes next, or where a fault may show.
+/// The part of a capture that comes next. A part ends where it becomes known what comes next, or where a fault may show.
 #[derive(Clone, Copy)]
 pub enum Part {
     /// The first four octets of a capture.
@@ -85,7 +85,7 @@ pub enum Part {
     FileRest(Magic),
     /// The header of a record up to the captured length.
     RecordHeader(FileHeader),
-    /// The rest of a record: the original length, and the packet of so many octets.
+    /// The rest of a record: the original length, and then the packet, of this number of octets.
     Record(FileHeader, Head, u32),
     /// The length of the first block of a pcapng file.
     SectionLength,
@@ -95,11 +95,11 @@ pub enum Part {
     SectionVersion(Block),
     /// The type and the length of a block.
     BlockHeader(ByteOrder),
-    /// The fields of an interface description block in front of its options.
+    /// The fields of an interface description block before its options.
     InterfaceHeader(Block),
-    /// So many octets that are passed over, and the code and the length of an option.
+    /// This number of octets, which are skipped, and then the code and the length of an option.
     OptionHeader(Block, Interface, u32),
-    /// The value of the option that says the unit of an interface's times.
+    /// The value of the option that gives the unit of an interface's times.
     TimeUnit(Block, Interface),
     /// The rest of an interface description block.
     InterfaceEnd(Block, Interface),
@@ -111,16 +111,16 @@ pub enum Part {
     SimpleHeader(Block),
     /// The rest of a packet block.
     Packet(Block, Body),
-    /// The rest of a block that gives nothing.
+    /// The rest of a block that has no packet and no interface.
     BlockEnd(Block),
 }
 
 /// What comes after a part.
 #[derive(Clone, Copy)]
 pub enum Outcome {
-    /// This part.
+    /// This part comes.
     Continues(Part),
-    /// A packet is complete, and then comes this part.
+    /// A packet is complete, and then this part comes.
     EndsPacket(Head, Part),
     /// The reading ends.
     Fails(FaultKind),
@@ -129,7 +129,7 @@ pub enum Outcome {
 impl Part {
     ghost use Rattle.capture_file.specs.Parts.{front, passed, back, packet_offset, size, may_end_before};
 
-    /// How many octets at its front are those of a packet, with what is in front of them.
+    /// How many octets at the part's front belong to a packet, with those that stand before the packet's own.
     pub fn front(&self) -> u64
         ensures value { result ≡ front self.now }
         ensures few { result < 2 ^ 34 }
@@ -141,7 +141,7 @@ impl Part {
         }
     }
 
-    /// How many octets after those are passed over.
+    /// How many octets are skipped after those.
     pub fn passed(&self) -> u64
         ensures value { result ≡ passed self.now }
         ensures few { result < 2 ^ 32 }
@@ -155,7 +155,7 @@ impl Part {
         }
     }
 
-    /// How many octets at its end are looked at.
+    /// How many octets at the part's end are looked at.
     pub fn back(&self) -> u64
         ensures value { result ≡ back self.now }
         ensures few { result ≤ 16 }
@@ -170,21 +170,21 @@ impl Part {
         }
     }
 
-    /// How many octets it has.
+    /// How many octets the part has.
     pub fn size(&self) -> u64
         ensures { result ≡ size self.now }
     {
         self.front() + self.passed() + self.back()
     }
 
-    /// Whether a capture may end in front of it.
+    /// Whether a capture may end before this part.
     pub fn may_come_last(&self) -> bool
         ensures { result ≡ may_end_before self.now }
     {
         matches!(self, Part::RecordHeader(_) | Part::BlockHeader(_))
     }
 
-    /// How many octets of its front are in front of a packet.
+    /// How many octets at the part's front stand before the packet's own.
     pub fn packet_offset(&self) -> u32
         ensures value { result ≡ packet_offset self.now }
         ensures few { result ≤ front self.now }

@@ -1,15 +1,15 @@
-//! What comes of the octets that a capture takes, and a packet.
+//! What the octets that a capture takes complete or show; and a packet of a capture.
 
 use crate::fault::CaptureFault;
 
-/// What came of octets.
+/// What the octets that were taken complete or show.
 #[derive(Clone, Copy, Debug, PartialEq, Eq)]
 pub enum Progress {
-    /// All were taken, and neither a packet nor a fault is complete with them.
+    /// All octets were taken. They complete no packet and show no fault.
     More,
     /// The last octet that was taken completes a packet.
     Packet,
-    /// The last octet that was taken shows a fault, and no more are read.
+    /// The last octet that was taken shows a fault. No more octets are read.
     Fault(CaptureFault),
 }
 
@@ -18,8 +18,9 @@ pub enum Progress {
 pub struct Packet<'a> {
     /// The link type of its file or its interface.
     pub link: u16,
-    /// Nanoseconds since 1970-01-01 UTC, rounded down; none from the year 10000 on, and for a simple packet.
+    /// The time in nanoseconds since 1970-01-01 UTC, rounded down. From the year 10000 on there is none, and a simple
+    /// packet has none.
     pub time: Option<u128>,
-    /// As many of its octets as were captured.
+    /// The octets of the packet that were captured.
     pub octets: &'a [u8],
 }

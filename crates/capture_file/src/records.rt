@@ -8,7 +8,7 @@ use crate::fault::FaultKind;
 use crate::others::other_file;
 use crate::part::{ByteOrder, FileHeader, Head, Magic, Outcome, Part};
 
-/// A packet has at most so many octets.
+/// The greatest number of octets of a packet.
 pub const MOST_CAPTURED: u32 = 262_144;
 
 const MICROSECONDS: u32 = 0xa1b2_c3d4;
@@ -82,7 +82,7 @@ fn record_time(magic: Magic, octets: &[u8]) -> u128
     seconds * 1_000_000_000 + fraction * u128::from(magic.unit)
 }
 
-/// What is known of a record's packet before its octets.
+/// What is known of a record's packet before its octets come.
 #[inline]
 fn record_head(file: FileHeader, octets: &[u8]) -> Head
     requires { 8 ≤ length octets.now }
@@ -107,7 +107,7 @@ pub fn record_header(file: FileHeader, octets: &[u8]) -> Outcome
     Outcome::Continues(Part::Record(file, record_head(file, octets), captured))
 }
 
-/// What is known of the packet of a record that stands whole in front, and how many octets the packet has.
+/// If octets begin with a whole record: the head of its packet, and how many octets the packet has.
 #[inline]
 #[tactic(auto, unfolding(crate::specs::Records::record_header))]
 pub fn whole_record(file: FileHeader, octets: &[u8]) -> Option<(Head, usize)>

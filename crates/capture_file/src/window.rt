@@ -1,10 +1,10 @@
-//! What is held of the octets of a part that comes in pieces.
+//! The octets that are held of a part that comes in pieces.
 
 ghost use Rattle.std.specs.Prelude.{◌≡◌, ℕ, ◌+◌, ◌^◌, ◌<◌, ◌≤◌, min, List, ◌++◌, length, vec_len, vec_capacity};
 ghost use Rattle.capture_file.specs.Window.{IsHeld};
 
-/// Where a part has come up to an offset, copies those octets of its next piece into a window that are among so many of
-/// the part from `begin` on.
+/// Copies octets of the next piece of a part into a window. The window is for `size` octets of the part, from offset
+/// `begin` on. The piece begins at offset `at` of the part.
 pub fn copy_to_window(window: &mut [u8], begin: u64, size: u64, at: u64, piece: &[u8])
     requires room { size ≤ length window.old }
     requires few { begin + size < 2 ^ 64 }
@@ -20,8 +20,8 @@ pub fn copy_to_window(window: &mut [u8], begin: u64, size: u64, at: u64, piece: 
     }
 }
 
-/// Where a part has come up to an offset, puts those octets of its next piece that are among so many first ones of the part
-/// after those of the pieces before it. What is after them is of an earlier part, and goes.
+/// Adds octets of the next piece of a part to the front that is held. The front is the first `size` octets of the part. The
+/// piece begins at offset `at` of the part; what is held after that offset is of an earlier part, and goes.
 pub fn push_front(front: &mut Vec<u8>, size: u64, at: u64, piece: &[u8])
     requires room { size ≤ vec_capacity front.old }
     requires come { min at size ≤ length front.old.items }
@@ -37,8 +37,8 @@ pub fn push_front(front: &mut Vec<u8>, size: u64, at: u64, piece: &[u8])
     }
 }
 
-/// Puts octets after those that are there, where there is room for them: none is taken. (What `extend_from_slice` says of its
-/// room doesn't tell that.)
+/// Adds octets to a vector that has room for them, so no memory is taken. (The contract of `extend_from_slice` doesn't say
+/// that.)
 fn push_all(to: &mut Vec<u8>, octets: &[u8])
     requires room { vec_len to.old + length octets.now ≤ vec_capacity to.old }
     ensures items { to.new.items ≡ to.old.items ++ octets.now }

@@ -1,4 +1,4 @@
--- Entries found by their ids, and what is left of entries whose ids stay apart.
+-- Entries that are found by their ids, and what is left of entries that have ids of their own.
 use Rattle.std.proofs.Common.{◌≡◌, ℕ, zero, suc, ◌+◌, ◌-◌, ◌≤◌, ◌==◌, Bool, true, false, List, [], ◌∷◌, ◌++◌, length, drop, slice_get, Option, Some, None, IfSome, refl, sym, ap, arith}
 use Rattle.std.specs.List.{AllByRecursion as Each, filter, find, remove, position_from}
 use Rattle.std.proofs.lemmas.Bool.{eqb-true, eqb-false, ne_eqb}
@@ -6,7 +6,7 @@ use Rattle.giop_entry_table.specs.declared.entry_table.Entry.{Entry}
 use Rattle.giop_calls.specs.Outstanding.{without, AreApart}
 
 module _ {V : Type 0} where
-  -- what is found stands at the place that the search gives
+  -- the entry that is found is at the index that the search gives
   found : (t : Entry V → Bool) (es : List (Entry V)) (from : ℕ) →
       IfSome (position_from t from es)
       (λ place. (from ≤ place) × (slice_get es (place - from) ≡ find t es))
@@ -47,13 +47,13 @@ module _ {V : Type 0} where
       by true is rest = absurd (cc (rw is at none))
       by false is rest = rw is (rest (rw is at none))
 
-  -- where no call has the id, all are of other ids
+  -- if no call has the id, all calls are of other ids
   all_others : (id : ℕ) (es : List (Entry V)) →
       Each (λ e. (e.key == id) ≡ false) es → without id es ≡ es
   all_others id [] others = refl
   all_others id (e ∷ es) others = rw (others.0, all_others id es others.1) refl
 
-  -- none is found where none is taken away
+  -- if no call of the id is found, none is taken away
   pub none_without : (id : ℕ) (es : List (Entry V)) (from : ℕ) →
       position_from (λ e. e.key == id) from es ≡ None → without id es ≡ es
   none_without id [] from none = refl
@@ -65,7 +65,8 @@ module _ {V : Type 0} where
       by true is rest = absurd (cc (rw is at none))
       by false is rest = rw (is, rest (rw is at none)) refl
 
-  -- without the first call of an id there is none of it, since each has its own
+  -- without the first call of an id there is no call of the id, because each call has an id of its
+  -- own
   removed : (id : ℕ) (es : List (Entry V)) (from : ℕ) → AreApart es →
       IfSome (position_from (λ e. e.key == id) from es)
       (λ place. (from ≤ place) × (remove es (place - from) ≡ without id es))
@@ -116,7 +117,7 @@ module _ {V : Type 0} where
       by true is rest = rw is rest
       by false is rest = rw is (each_filter _ _ es apart.0, rest)
 
-  -- those that are left have other ids
+  -- the calls that are left have other ids
   pub others_without : (id : ℕ) (es : List (Entry V)) →
       Each (λ e. (e.key == id) ≡ false) (without id es)
   others_without id [] = tt

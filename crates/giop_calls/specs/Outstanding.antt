@@ -1,4 +1,5 @@
--- What becomes of outstanding calls, which are entries under request ids, oldest first (meaning).
+-- What becomes of outstanding calls. They are entries under request ids, the oldest first
+-- (meaning).
 use Rattle.std.specs.Prelude.{◌≡◌, ℕ, ◌==◌, ◌-◌, not, false, List, [], ◌∷◌, length, drop}
 use Rattle.std.specs.List.{AllByRecursion as Each, filter}
 use Rattle.giop_entry_table.specs.declared.entry_table.Entry.{Entry}
@@ -8,7 +9,7 @@ module _ {V : Type 0} where
   abbrev pub without : ℕ → List (Entry V) → List (Entry V)
   without id calls = filter (λ e. not (e.key == id)) calls
 
-  -- the newest of the calls, at most so many
+  -- the newest of the calls, at most `most` of them
   abbrev pub newest : ℕ → List (Entry V) → List (Entry V)
   newest most calls = drop (length calls - most) calls
 

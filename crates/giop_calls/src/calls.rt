@@ -10,7 +10,7 @@ use giop_entry_table::EntryTable;
 use std::alloc::{AllocError, Global};
 use std::marker::Model;
 
-/// How many octets of an operation's name are kept at most.
+/// The greatest number of octets that are kept of an operation's name.
 pub const NAME_ROOM: usize = 128;
 
 /// A Request whose reply is outstanding (ISO/IEC 19500-2, 9.4.2 and 9.4.3).
@@ -18,18 +18,19 @@ pub const NAME_ROOM: usize = 128;
 pub struct Call {
     /// The octets of the operation's name.
     pub name: ArrayVec<u8, 128>,
-    /// The number of the operation, if the signature file has it: two of one name may be of different interfaces.
+    /// The number of the operation, if the signature file has the operation. Two operations of one name may belong to
+    /// different interfaces.
     pub operation: Option<u32>,
     /// The number of the stream that the Request came in, from 1.
     pub stream: u64,
     /// The number of the Request in its stream, from 1.
     pub message: u64,
-    /// When the Request's header was complete, in nanoseconds since 1970-01-01 UTC; none where its packet has no time.
+    /// When the Request's header was complete, in nanoseconds since 1970-01-01 UTC; none if its packet has no time.
     pub time: Option<u128>,
 }
 
-/// The outstanding calls of one direction, oldest first, one an id. Where as many are outstanding as may be, the oldest
-/// is forgotten for a new one.
+/// The outstanding calls of one direction, the oldest first, each with an id of its own. If as many are outstanding as may
+/// be, the oldest one is forgotten for a new one.
 #[derive(Drop)]
 pub struct Calls {
     table: EntryTable<Call>,
@@ -49,7 +50,7 @@ impl Model for Calls {
 }
 
 impl Calls {
-    /// No call, and memory for so many.
+    /// Makes a table without calls, with memory for this number of them.
     pub fn new(alloc: Global, most: u32) -> Result<Calls, AllocError>
         ensures none { IfOk result (λ c. c.entries ≡ []) }
         ensures most { IfOk result (λ c. c.most ≡ most) }
@@ -70,8 +71,8 @@ impl Calls {
         }
     }
 
-    /// Adds a call as the newest. An older one of its id is no longer outstanding; where as many are as may be, the oldest
-    /// is forgotten.
+    /// Adds a call as the newest one. An older call of its id is no longer outstanding. If as many are outstanding as may
+    /// be, the oldest one is forgotten.
     pub fn add(&mut self, id: u32, call: Call)
         ensures entries { self.new.entries ≡ newest self.old.most
             (without id self.old.entries ++ record { key = id; value = call } ∷ []) }
@@ -84,7 +85,7 @@ impl Calls {
         }
     }
 
-    /// Forgets the oldest call where as many are outstanding as may be.
+    /// Forgets the oldest call if as many are outstanding as may be.
     fn make_room(&mut self)
         ensures entries { self.new.entries ≡ newest (self.old.most - 1) self.old.entries }
         ensures most { self.new.most ≡ self.old.most }
@@ -94,7 +95,7 @@ impl Calls {
         }
     }
 
-    /// The call that a Reply with this request id answers, which is no longer outstanding.
+    /// Takes the call that a Reply with this request id answers. It is no longer outstanding.
     pub fn take(&mut self, id: u32) -> Option<Call>
         ensures value { result
             ≡ option_map (λ e. e.value) (find (λ e. e.key == id) self.old.entries) }
@@ -107,7 +108,7 @@ impl Calls {
         }
     }
 
-    /// A call with this request id is no longer outstanding.
+    /// Forgets the call with this request id: it is no longer outstanding.
     pub fn forget(&mut self, id: u32)
         ensures entries { self.new.entries ≡ without id self.old.entries }
         ensures most { self.new.most ≡ self.old.most }
@@ -120,7 +121,7 @@ impl Calls {
         }
     }
 
-    /// No call is outstanding any more. The memory is kept.
+    /// Forgets all calls. The memory is kept.
     pub fn clear(&mut self)
         ensures entries { self.new.entries ≡ [] }
         ensures most { self.new.most ≡ self.old.most }

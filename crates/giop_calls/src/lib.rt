@@ -1,4 +1,5 @@
-//! The calls of one direction of a connection that have no reply yet. All of their memory is allocated when they are made.
+//! The calls of one direction of a connection that have no reply yet. All of their memory is allocated when the table is
+//! made.
 #![tactic(auto)]
 
 mod calls;

@@ -1,4 +1,4 @@
--- What was put where the run over a capture failed.
+-- What was put if the run over a capture failed.
 use Rattle.std.proofs.Common.{◌≡◌, ◌<◌, ◌∙◌, ℕ, Bool, List, [], Option, Some, Err, refl}
 use Rattle.std.specs.Io.KnownBytes.{Consumes}
 use Rattle.capture_file.specs.declared.capture.Capture.{Capture}
@@ -25,7 +25,7 @@ use Rattle.giop_capture_run.specs.PacketState.{HasRead}
 use Rattle.giop_capture_program.specs.Text.{HasTextSoFar}
 use Rattle.giop_capture_program.specs.Steps.{ReadInPart, RunFailed}
 
--- the conversations have followed events, and told them
+-- the conversations have followed the events, and written their text
 abbrev pub Observed : {O : Type 0} → (Setup → List ℕ → Type 0) → Conversations O → Seen →
     List Event → Type 0
 Observed begins c s events =

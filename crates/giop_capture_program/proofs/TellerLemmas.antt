@@ -1,4 +1,5 @@
--- What the conversations of a capture have followed and told stays where nothing happens in a flow.
+-- If nothing happens in a flow, what the conversations of a capture have followed and written
+-- stays.
 use Rattle.std.proofs.Common.{◌≡◌, ◌||◌, ℕ, Bool, true, false, List, [], ◌∷◌, ◌++◌, Option, Some, None, refl, ◌∙◌, ap, subst, sym}
 use Rattle.std.proofs.lemmas.List.Folds.{list_any-append}
 use Rattle.std.specs.Io.KnownBytes.{Keeps}
@@ -36,7 +37,7 @@ any_more : (f : Event → Bool) (events : List Event) (e : Event) →
 any_more f events e =
     list_any-append f events (e ∷ []) ∙ ap (λ b. list_any f events || b) (or_false (f e))
 
--- after one more event
+-- what was seen, after one more event
 seen_more : (events : List Event) (e : Event) → seen (events ++ e ∷ []) ≡ seen_after (seen events) e
 seen_more events e =
     rw (
@@ -45,13 +46,13 @@ seen_more events e =
       any_more (passes_by is_ziop) events e,
     ) refl
 
--- what is known of all events is known after one more
+-- what is known of all events is known after one more event
 pub seen_on : (events : List Event) (e : Event) (before after : Seen) → before ≡ seen events →
     after ≡ seen_after before e → after ≡ seen (events ++ e ∷ [])
 seen_on events e before after same now =
     now ∙ ap (λ (s : Seen). seen_after s e) same ∙ sym (seen_more events e)
 
--- an event of which no notice is told changes nothing
+-- an event that no notice is given of changes nothing
 pub seen_stays : (events : List Event) (e : Event) (s : Seen) → makes_room e ≡ false →
     passes_by is_tls e ≡ false → passes_by is_ziop e ≡ false →
     s ≡ seen events → s ≡ seen (events ++ e ∷ [])
@@ -59,7 +60,7 @@ seen_stays events e s room tls ziop same =
     seen_on events e s s same
     (rw (room, tls, ziop, or_false s.room, or_false s.tls, or_false s.ziop) refl)
 
--- a stream that closes
+-- what was seen after a stream closes
 pub seen_closed : (s : Seen) (flow : ℕ) (cause : CloseCause) (room : Bool) →
     room ≡ (s.room || is_room cause) →
     record s { room = room } ≡ seen_after s (Closes flow cause)

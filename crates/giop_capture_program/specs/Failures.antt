@@ -1,4 +1,4 @@
--- What has failed, and what was put until then, by why a capture was not dumped (meaning).
+-- The fault of a capture that wasn't dumped, and what was put until then (meaning).
 use Rattle.std.specs.Prelude.{Option, Some, None}
 use Rattle.giop_print.specs.Output.{OutLog}
 use Rattle.giop_run.specs.declared.fault.ProgramFault.{ProgramFault}
@@ -6,12 +6,12 @@ use Rattle.giop_run.specs.declared.fault.ProgramFault.TheVariants as faults
 use Rattle.giop_capture_program.specs.declared.failure.Failure.{Failure}
 use Rattle.giop_capture_program.specs.declared.failure.Failure.TheVariants as failures
 
--- the step that failed, or the run
+-- the fault of the step that failed, or of the run
 abbrev pub fault_of : {O : Type 0} → Failure O → ProgramFault
 fault_of (failures.Step fault) = fault
 fault_of (failures.Run fault out) = faults.Run fault
 
--- the log of the out, where the run has begun
+-- the log of the out, if the run had begun
 abbrev pub log_of : {O : Type 0} → (O → OutLog) → Failure O → Option OutLog
 log_of log (failures.Step fault) = None
 log_of log (failures.Run fault out) = Some (log out)

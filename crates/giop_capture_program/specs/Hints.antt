@@ -1,4 +1,5 @@
--- What is said of a file that is no capture (docs/FORMATS.md, The program giopcap; meaning).
+-- What the program says about a file that is no capture (docs/FORMATS.md, The program giopcap;
+-- meaning).
 use Rattle.std.specs.Prelude.{ℕ, List, codes}
 use Rattle.capture_file.specs.declared.others.OtherFile.{OtherFile}
 use Rattle.capture_file.specs.declared.others.OtherFile.TheVariants.{Gzip, Zstandard, Xz, Snoop, ModifiedPcap, Unknown}

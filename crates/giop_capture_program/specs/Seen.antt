@@ -1,4 +1,4 @@
--- That all that was put to an out is to be seen, where reading failed (meaning).
+-- If the reading failed, all that was put to an out can be seen (meaning).
 use Rattle.std.specs.Prelude.{ℕ, List}
 use Rattle.giop_print.specs.Output.{OutLog}
 use Rattle.giop_conversation.specs.Seen.{IsSeen}
@@ -6,7 +6,7 @@ use Rattle.giop_run.specs.declared.fault.RunFault.TheVariants as runs
 use Rattle.giop_capture_program.specs.declared.failure.Failure.{Failure}
 use Rattle.giop_capture_program.specs.declared.failure.Failure.TheVariants as failures
 
--- It is so of what was put where a read failed, or there were too many.
+-- If a read failed, or there were too many reads, all that was put can be seen.
 abbrev pub SeenWhereReadingFailed : {O : Type 0} → (O → OutLog) → (O → List ℕ) → Failure O → Type 0
 SeenWhereReadingFailed log kept (failures.Step fault) = Unit {0}
 SeenWhereReadingFailed log kept (failures.Run runs.Read out) = IsSeen log kept (log out).written

@@ -1,4 +1,4 @@
--- What the steps of the program came to, by their result (meaning).
+-- What the steps of the program did, by their result (meaning).
 use Rattle.std.specs.Prelude.{◌≡◌, ◌<◌, ◌≤◌, ◌^◌, ◌⊎◌, ℕ, Bool, List, [], ◌++◌, length, map, Option, Some, None, IsSome, option_map, Result, Ok, Err}
 use Rattle.std.specs.Io.KnownBytes.{Consumes, IsAtEnd}
 use Rattle.capture_file.specs.Reading.{packets, fault, final_fault}
@@ -21,32 +21,34 @@ use Rattle.giop_capture_run.specs.Arrivals.{after_packets, capture_ended}
 use Rattle.giop_capture_run.specs.CaptureRun.{ending_of}
 use Rattle.giop_capture_program.specs.Text.{HasText, HasTextSoFar, HasStreams}
 
--- the program's status: whether a fault was counted or a stream was cut, or what failed
+-- the program's status: 0; 1 if a fault was counted, a stream was cut, or the file is no capture;
+-- or the status of the failure
 abbrev pub capture_status : Result Ending ProgramFault → ℕ
 capture_status (Ok endings.Whole) = 0
 capture_status (Ok endings.Faulty) = 1
 capture_status (Ok (endings.NoCapture file)) = 1
 capture_status (Err fault) = fault_status fault
 
--- the names of the files that are asked for
+-- the names of the signature files that the arguments give
 abbrev pub signatures_of : Arguments → List (List ℕ)
 signatures_of asked = map (λ name. name.now) asked.signatures.items
 
 abbrev pub capture_of : Arguments → Option (List ℕ)
 capture_of asked = option_map (λ name. name.now) asked.capture
 
--- What is known of a dump before it begins is true: its setup is that which is asked for, by these
--- types, and this was written before.
+-- What is known of a dump before it begins is true: its setup is the one that the arguments ask
+-- for, with these types, and this was written before.
 abbrev pub BeginsAs : (Setup → List ℕ → Type 0) → Arguments → Table → Option (List ℕ) → Type 0
 BeginsAs begins asked table before =
     (S : Setup) (written : List ℕ) → begins S written
     → (S ≡ setup table asked.messages asked.calls asked.connections asked.first_stream)
     × (before ≡ Some written)
 
--- A source, of which this is known, was read to the end of a capture or to its fault, after which
--- nothing was read. What was put is the text of what its packets, its fault and its end do to no
--- known connections, with the capture's last line, after what was written before, and no more; the
--- lines of each stream in it are giopdump's. The ending says whether it has a fault.
+-- A source was read to the end of a capture or to the capture's fault, after which nothing was
+-- read. `source` tells the octets of the source, if they are known. What was put is what was
+-- written before, then the text of what the capture's packets, its fault and its end do if no
+-- connection was known before, then the capture's last line, and nothing else. In it the lines of
+-- each stream are giopdump's. The ending says whether there was a fault.
 pub record CaptureDumped (ending : Ending) (begins : Setup → List ℕ → Type 0) (asked : Arguments)
     (source put : Option (List ℕ)) : Type 0 where
   pub left : Option (List ℕ)
@@ -68,8 +70,9 @@ pub record CaptureDumped (ending : Ending) (begins : Setup → List ℕ → Type
       read).events
       (length (packets read)) (length read) (text S written known)
 
--- The reading of a capture stopped after some octets of a source. What was put is the text of what
--- their packets do to no known connections, after what was written before, and no more.
+-- The reading of a capture stopped after some octets of a source. What was put is what was written
+-- before, and then the text of what the packets in these octets do if no connection was known
+-- before, and nothing else.
 pub record ReadInPart (begins : Setup → List ℕ → Type 0) (asked : Arguments)
     (source put : Option (List ℕ)) : Type 0 where
   pub left : Option (List ℕ)
@@ -81,8 +84,8 @@ pub record ReadInPart (begins : Setup → List ℕ → Type 0) (asked : Argument
       (taken_of octets)).events
       put
 
--- The reading of a capture failed or had too many reads, each of which gave an octet, or the
--- writing of its lines failed: a put or a flush of the out.
+-- A read failed; or the reads were used up, and each of them gave an octet; or the writing of the
+-- lines failed: a put or a flush of the out.
 abbrev pub RunFailed : (Setup → List ℕ → Type 0) → Arguments → Option (List ℕ) → ProgramFault
     → Option OutLog → Type 0
 RunFailed begins asked source (faults.Run runs.Read) (Some log) =
@@ -92,7 +95,7 @@ RunFailed begins asked source (faults.Run runs.Turns) (Some log) =
 RunFailed begins asked source (faults.Run runs.Out) (Some log) = 0 < log.failures
 RunFailed begins asked source _ _ = ⊥
 
--- why a capture was not dumped: the first step that failed, or the run, with the log of its out
+-- why a capture wasn't dumped: the first step that failed, or the run, with the log of its out
 abbrev pub NotDumped : Folder → Refusals → Option (List ℕ) → (Setup → List ℕ → Type 0) → Arguments
     → ProgramFault → Option OutLog → Type 0
 NotDumped held refuses source begins asked fault log =
@@ -106,8 +109,8 @@ NotDumped held refuses source begins asked fault log =
 abbrev pub unknown : Setup → List ℕ → Type 0
 unknown S written = ⊥
 
--- What the steps came to, where nothing is known of files, of standard input, and of what was
--- written before.
+-- What the steps did, if nothing is known of files, of standard input, and of what was written
+-- before.
 abbrev pub Came : Arguments → Result Ending ProgramFault → Type 0
 Came asked (Ok ending) =
     (put : Option (List ℕ))
@@ -117,16 +120,16 @@ Came asked (Err fault) =
     × NotDumped (λ name. None) (λ name kind. Unit {0})
     (stream_of (λ name. None) None (capture_of asked)) unknown asked fault log
 
--- a status is that of what the steps came to
+-- the status is the one for what the steps did
 abbrev pub HasStatus : Arguments → ℕ → Type 0
 HasStatus asked status =
     (ended : Result Ending ProgramFault) × Came asked ended × (status ≡ capture_status ended)
 
--- a status is that of words that ask for no dump: for help or a version, ones that can't be read,
--- what can't be printed, and no memory
+-- the status is one for words that ask for no dump: 0 for help or a version, 2 for words that can't
+-- be read, 4 for a text that can't be printed, 5 for no memory
 abbrev pub IsOfWords : ℕ → Type 0
 IsOfWords status = (status ≡ 0) ⊎ (status ≡ 2) ⊎ (status ≡ 4) ⊎ (status ≡ 5)
 
--- a status of the program
+-- the status is one that the program may have
 abbrev pub IsStatus : ℕ → Type 0
 IsStatus status = IsOfWords status ⊎ ((asked : Arguments) × HasStatus asked status)

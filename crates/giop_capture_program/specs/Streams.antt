@@ -1,4 +1,4 @@
--- That the lines of each stream of a capture are giopdump's, but for those of five kinds
+-- The lines of each stream of a capture, except those of five kinds, are giopdump's
 -- (docs/FORMATS.md, Conversations of a capture; meaning).
 use Rattle.std.specs.Prelude.{◌≡◌, ◌<◌, ◌≤◌, ℕ, true, List, ◌++◌}
 use Rattle.std.specs.List.{AllByRecursion as Each}
@@ -7,15 +7,15 @@ use Rattle.giop_conversation.specs.Captured.{Setup, rules_in, number_in}
 use Rattle.giop_conversation.specs.CaptureParts.{Part, text_of, IsWhole, read_of, own_of}
 use Rattle.giop_conversation.specs.StreamTexts.{StreamHistory, History, dumped, IsUnique}
 
--- The lines that a stream has by itself are giopdump's: those where its octets are read are its
--- text, and all of them with those at its end are what giopdump writes.
+-- The lines of a stream that giopdump writes too are exactly giopdump's: those of its octets are
+-- its text, and those of its octets and of its end together are what giopdump writes of it.
 pub record IsWholeDump (S : Setup) (s : StreamHistory) (reads own : List ℕ) : Type 0 where
   pub reads_are : reads ≡ text (rules_in S s.answers) s.octets
   pub own_are : own ≡ dumped (rules_in S s.answers) s
 
--- After what was written before, the text is parts, each of whole lines. Those that a stream has
--- by itself are giopdump's. Each stream that began has closed, if its connection has a room: its
--- closing lines stand there.
+-- The text is what was written before, and then parts, each of whole lines. In them, the lines of
+-- each stream that giopdump writes too are exactly giopdump's. If the connection of a stream has a
+-- room, the stream has closed, and its closing is among its lines.
 pub record ShowsEachStream (S : Setup) (written : List ℕ) (h : History) (all : List ℕ) : Type 0
   where
     pub parts : List Part

@@ -1,4 +1,4 @@
-//! The program: its words, its steps, and its status.
+//! The program: the words of its command line, its steps, and its status.
 
 ghost use Rattle.std.specs.Prelude.{◌≡◌, ◌≤◌};
 ghost use Rattle.giop_run.specs.Console.{fault_status};
@@ -17,18 +17,18 @@ use giop_run::{
 use std::fs;
 use std::io::Write;
 
-/// The program's name, which stands in front of what it says on standard error.
+/// The program's name, with which each message on standard error begins.
 const PROGRAM: &str = "giopcap";
 
 /// Prints notices on standard error.
 #[derive(Drop)]
 struct Console<'a> {
     rt: &'a HostRuntime,
-    /// How many connections are known at once.
+    /// The greatest number of connections that are known at once.
     connections: u32,
 }
 
-/// It remembers nothing of what it is told.
+/// It doesn't remember what it is told.
 impl Notices for Console<'_> {
     ghost told = { λ _ _. Unit {0} };
 
@@ -62,7 +62,7 @@ pub fn program(rt: &HostRuntime) -> u8
     }
 }
 
-/// The steps after the words, with the lines on standard output; returns the program's status.
+/// Takes the steps after the words of the command line, with the lines on standard output. Returns the program's status.
 fn print_capture(rt: &HostRuntime, asked: Arguments) -> u8
     ensures most { result ≤ 5 }
     ensures status { HasStatus asked.entry result }
@@ -82,7 +82,7 @@ fn print_capture(rt: &HostRuntime, asked: Arguments) -> u8
     }
 }
 
-/// Says of a file that was read to its end and is no capture what it is, and returns the program's status.
+/// If a file was read to its end and is no capture, prints what it is. Returns the program's status.
 fn report_ending(rt: &HostRuntime, name: Option<&str>, ending: Ending) -> u8
     ensures { result ≡ spec_status (Ok ending) }
 {
@@ -96,8 +96,8 @@ fn report_ending(rt: &HostRuntime, name: Option<&str>, ending: Ending) -> u8
     capture_status(&Ok(ending))
 }
 
-/// Prints why a capture was not dumped, and returns the program's status. Nothing is said where nobody reads the lines any more:
-/// a reader that has what it wants is no error to look at.
+/// Prints why a capture wasn't dumped, and returns the program's status. If nobody reads the lines any more, nothing is
+/// printed: a reader that has all it wants is no error.
 fn report_failure<W: Write + Drop>(
     rt: &HostRuntime,
     name: Option<&str>,
@@ -113,7 +113,7 @@ fn report_failure<W: Write + Drop>(
     }
 }
 
-/// Why the reading of a capture failed. A folder is opened as a file is, and its first read fails.
+/// Why the reading of a capture failed. A folder can be opened like a file, but its first read fails.
 fn read_fault<'a>(rt: &HostRuntime, name: Option<&'a str>) -> ProgramFault<'a>
     ensures { fault_status result ≡ 4 }
 {
@@ -129,8 +129,8 @@ fn read_fault<'a>(rt: &HostRuntime, name: Option<&'a str>) -> ProgramFault<'a>
     }
 }
 
-/// The status that the program ends with: 0, or 1 where a fault was counted, a stream was cut, or the capture has a fault, or
-/// that of what failed.
+/// The status that the program ends with: 0; or 1 if a fault was counted, a stream was cut, or the capture has a fault; or
+/// the status of the failure.
 pub fn capture_status(ended: &Result<Ending, ProgramFault>) -> u8
     ensures { result ≡ spec_status ended.now }
 {

@@ -1,21 +1,21 @@
-//! Why a capture was not dumped.
+//! Why a capture wasn't dumped.
 
 ghost use Rattle.std.specs.Prelude.{◌≡◌};
 ghost use Rattle.giop_capture_program.specs.Failures.{fault_of};
 
 use giop_run::{ProgramFault, RunFault};
 
-/// Why a capture was not dumped, and what has become of the out that its lines were to be put to.
+/// Why a capture wasn't dumped, and what became of the out that its lines should have been put to.
 #[derive(Drop)]
 pub enum Failure<'a, O: Drop> {
-    /// A step before the reading failed, where nothing was put; or there was no room for what is to be put.
+    /// A step before the reading failed, so nothing was put. Or there was no room for what should be put.
     Step(ProgramFault<'a>),
-    /// The reading or the writing failed: the out has what was put until then.
+    /// The reading or the writing failed. The out has what was put until then.
     Run(RunFault, O),
 }
 
 impl<'a, O: Drop> Failure<'a, O> {
-    /// What the program says of it.
+    /// The fault that the program prints.
     pub fn fault(&self) -> ProgramFault<'a>
         ensures { result ≡ fault_of self.now }
     {
@@ -26,7 +26,7 @@ impl<'a, O: Drop> Failure<'a, O> {
     }
 }
 
-/// Why a step before the reading failed.
+/// The fault of a step before the reading.
 impl<'a, O: Drop> From<ProgramFault<'a>> for Failure<'a, O> {
     ghost use Rattle.std.specs.Prelude.{◌≡◌};
     ghost use Rattle.giop_capture_program.specs.declared.failure.Failure.TheVariants.{Step};

@@ -1,12 +1,12 @@
-//! What is said of a file that is no capture.
+//! What the program says about a file that is no capture.
 
 ghost use Rattle.std.specs.Prelude.{◌≡◌};
 ghost use Rattle.giop_capture_program.specs.Hints.{hint};
 
 use capture_file::OtherFile;
 
-/// What the program says after the name of a file that is no capture: by which command it is read, if one reads it. FILE stands
-/// there for the name.
+/// What the program says after the name of a file that is no capture: the command that reads it, if there is one. FILE
+/// stands there for the name.
 pub fn hint(file: OtherFile) -> &'static str
     ensures { result.now ≡ hint file }
 {

@@ -1,4 +1,4 @@
-//! What is so of the text of a capture.
+//! What holds of the text of a capture.
 
 ghost use Rattle.std.specs.Prelude.{ℕ, ◌≡◌, ◌≤◌, [], List};
 ghost use Rattle.tcp_connections.specs.Connections.{none_known};
@@ -11,10 +11,10 @@ ghost use Rattle.giop_capture_program.specs.Streams.{ShowsEachStream, EachHasRoo
 use giop_capture_run::no_stream_of_a_capture_has_a_gap;
 use giop_conversation::each_stream_is_dumped;
 
-/// Whatever a capture is, the lines of each of its streams in the text to which it leads, without the tag and without the lines
-/// `stream`, `time`, `answers`, `raises` and `closed`, are those that `giopdump` writes of the octets that were delivered of the
-/// stream, and of its end: none goes on after its close, since streams are without a gap, and each has closed, if its
-/// connection has a room.
+/// In the text to which a capture leads, take the lines of one stream without their tags, and leave out the lines `stream`,
+/// `time`, `answers`, `raises` and `closed`. What remains is what `giopdump` writes of the octets that were delivered of
+/// the stream, and of its end. This holds whatever the capture is: streams have no gap, so no stream goes on after its
+/// close; and each stream whose connection has a room has closed.
 pub fn each_stream_of_a_capture_is_dumped()
     ensures shows { (S : Setup) (written : List ℕ) (ports : List ℕ) (blocks most : ℕ)
         (octets : List ℕ) (d : Dump)
@@ -24,7 +24,7 @@ pub fn each_stream_of_a_capture_is_dumped()
         → ShowsEachStream S written (history S no_history (start S written)
         (capture_ended stream_reader (none_known ports blocks most []) octets).events d leads)
         d.text }
-    // A dump of as many connections as may be known has a room for that of each stream.
+    // If the dump has rooms for as many connections as may be known, the connection of each stream has a room.
     ensures rooms { (S : Setup) (written : List ℕ) (ports : List ℕ) (blocks most : ℕ)
         (octets : List ℕ) (d : Dump)
         → 1 ≤ most → most ≤ 65536 → S.connections ≡ most

@@ -1,5 +1,5 @@
-//! The program's steps after its words: signatures, the opening of the capture, room, reading. The first that fails determines
-//! the status.
+//! The program's steps after the words of its command line: it reads the signatures, opens the capture, takes memory, and
+//! reads. The first step that fails decides the status.
 
 ghost use Rattle.std.specs.Prelude.{◌≡◌, ◌<◌, ◌⊎◌, List, ℕ, [], Some, IfOk, IfErr};
 ghost use Rattle.std.specs.Io.KnownBytes.{Keeps};
@@ -28,7 +28,7 @@ use giop_run::{Flush, Inputs, ProgramFault, RunFault, Source, joint_catalogue, o
 use giop_sig::{Catalogue, Requests};
 use std::alloc::{AllocError, Global};
 
-/// The steps after the words. Answers how the dump ended, and the out that it was put to.
+/// Takes the steps after the words of the command line. Returns how the dump ended, and the out that it was put to.
 pub fn perform_capture<
     'a,
     R: Inputs + AllocGlobal,
@@ -52,7 +52,7 @@ pub fn perform_capture<
     open_and_dump::<R, O, N, B>(rt, asked, &catalogue, out, notices)
 }
 
-/// The steps after the signatures.
+/// Takes the steps after the signatures.
 fn open_and_dump<'a, R: Inputs + AllocGlobal, O: Flush + Drop, N: Notices + Drop, B: Beginning>(
     rt: &R,
     asked: Arguments<'a>,
@@ -82,7 +82,7 @@ fn open_and_dump<'a, R: Inputs + AllocGlobal, O: Flush + Drop, N: Notices + Drop
     }
 }
 
-/// The steps after the opening of the capture.
+/// Takes the steps after the capture was opened.
 fn dump<
     'a,
     R: Inputs + AllocGlobal,
@@ -130,7 +130,7 @@ fn dump<
     }
 }
 
-/// Nothing is left in the buffer of an out, or it has failed.
+/// Flushes an out. It has nothing left to write then, or it has failed.
 fn flushed<'a, O: Flush + Drop>(mut out: O) -> Result<O, Failure<'a, O>>
     ensures put { IfOk result (λ after. Keeps (O.log out).written (O.log after).written) }
     ensures none { IfOk result (λ after. O.kept after ≡ []) }

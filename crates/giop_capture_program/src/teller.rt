@@ -1,4 +1,4 @@
-//! The conversations of a capture, as they are told what happens in its flows.
+//! The conversations of a capture as a listener, which is told what happens in the capture's flows.
 
 ghost use Rattle.std.specs.Prelude.{◌≡◌, ◌<◌, ◌⊎◌, ◌||◌, [], true, nat_lt};
 ghost use Rattle.tcp_flow.specs.Flow.{OfCapture, Passes};
@@ -13,8 +13,8 @@ use tcp_flow::{CloseCause, Listener, ListenerFault, Start};
 use tcp_segment::Flow;
 use tcp_waiting::Arrival;
 
-/// What is known of a dump before it begins. It has no value: contracts alone speak of it, and what they say of a dump they say
-/// of each.
+/// What is known of a dump before it begins. There is no value of such a type: only contracts use it. What a contract says
+/// of a dump holds for each setup and each text before it that `begins` allows.
 pub trait Beginning {
     ghost use Rattle.std.specs.Prelude.{List, ℕ};
     ghost use Rattle.giop_conversation.specs.Captured.{Setup};
@@ -30,17 +30,18 @@ impl Beginning for Unknown {
     ghost begins = { λ _ _. ⊥ };
 }
 
-/// Tells conversations what happens in the flows of a capture, and writes their lines to an out that is flushed.
+/// A listener that tells conversations what happens in the flows of a capture, and writes their lines to an out that can be
+/// flushed.
 #[derive(Drop)]
 pub struct Teller<'a, O: Flush + Drop, B: Beginning> {
     conversations: Conversations<'a, O>,
-    /// Of which notices are told.
+    /// What was seen until now that needs a notice.
     seen: Seen,
     beginning: PhantomData<B>,
 }
 
 impl<'a, O: Flush + Drop, B: Beginning> Teller<'a, O, B> {
-    /// Tells these conversations.
+    /// Makes a listener that tells these conversations.
     pub fn new(conversations: Conversations<'a, O>) -> Teller<'a, O, B>
         ensures conversations { result.conversations ≡ conversations.entry }
         ensures none { result.seen ≡ seen [] }
@@ -56,17 +57,17 @@ impl<'a, O: Flush + Drop, B: Beginning> Teller<'a, O, B> {
         }
     }
 
-    /// Whether it has failed for want of room.
+    /// Whether it has failed because there was no room.
     pub fn is_full(&self) -> bool
         ensures { result ≡ self.now.conversations.out.full }
     {
         self.conversations.is_full()
     }
 
-    /// The out below.
+    /// Gives the out below back.
     pub fn into_out(self) -> O
         ensures written { (O.log result).written ≡ self.entry.conversations.out.whole }
-        // Where it has failed that out has, unless it is full.
+        // If it has failed, the out below has failed, unless it is full.
         ensures cause { 0 < self.entry.conversations.out.failures →
             (0 < (O.log result).failures) ⊎ (self.entry.conversations.out.full ≡ true) }
     {
@@ -74,7 +75,8 @@ impl<'a, O: Flush + Drop, B: Beginning> Teller<'a, O, B> {
     }
 }
 
-/// Whether a connection has made room for another once a stream closes: whether one had, or it is for this that the stream does.
+/// Whether a connection has made room for another one, after a stream closes: one had before, or the stream closes for this
+/// cause.
 fn has_made_room(before: bool, cause: CloseCause) -> bool
     ensures { result ≡ (before || is_room cause) }
 {
@@ -89,7 +91,7 @@ fn has_made_room(before: bool, cause: CloseCause) -> bool
     }
 }
 
-/// What was seen after a payload in which no stream begins.
+/// What was seen, after a payload in which no stream begins.
 fn seen_in(before: Seen, octets: &[u8]) -> Seen
     ensures { result ≡ seen_after before (OfCapture (Passes octets.now)) }
 {
@@ -108,7 +110,7 @@ impl<'a, O: Flush + Drop, B: Beginning> Listener for Teller<'a, O, B> {
     ghost use Rattle.giop_conversation.specs.Followed.{stream_reader};
     ghost use Rattle.giop_conversation.specs.DumpTold.{Told};
 
-    // The streams are those of the events, and below stands their text.
+    // The streams are those of the events, and the text below is the text of the events.
     ghost observed = { λ t events. Follows t.conversations events
         × ((S : Setup) (written : List ℕ) → B.begins S written
         → Told S written events t.conversations)
@@ -168,12 +170,12 @@ impl<'a, O: Flush + Drop, B: Beginning> CaptureListener for Teller<'a, O, B> {
     ghost use Rattle.giop_conversation.specs.Seen.{IsSeen};
     ghost use Rattle.giop_capture_program.specs.Text.{HasText};
 
-    // All that was put below is to be seen.
+    // All that was put to the out below can be seen.
     ghost flushed = { λ t. IsSeen O.log O.kept t.conversations.out.whole };
 
     ghost faulty = { λ t. t.conversations.cut || nat_lt 0 t.conversations.totals.faults };
 
-    // Below stands the text of the events and the last line, and no more.
+    // The text below is the text of the events and then the last line, and nothing else.
     ghost finished = { λ t events packets octets faulty. (S : Setup) (written : List ℕ) →
         B.begins S written
         → HasText S written events packets octets faulty t.conversations.out.whole };

@@ -1,4 +1,4 @@
--- What one packet more does.
+-- What one more packet does.
 use Rattle.std.proofs.Common.{◌≡◌, ◌∙◌, ℕ, Bool, true, false, ◌+◌, ◌≤◌, List, [], ◌∷◌, ◌++◌, append-nil, append_assoc, Option, Some, None, Ok, Err, length, subst, sym, ap, refl, arith}
 use Rattle.std.specs.Prelude.{Result, OnOk}
 use Rattle.std.proofs.lemmas.List.{length-append}
@@ -20,14 +20,14 @@ use Rattle.giop_capture_run.specs.declared.notices.Seen.{Seen}
 use Rattle.giop_capture_run.specs.PacketState.{HasRead}
 use Rattle.giop_capture_run.proofs.ShortSegments.{short}
 
--- what follows where a listener didn't fail
+-- what follows if a listener didn't fail
 pub answered : {A B : Type 0} (a : Result (Unit {0}) ListenerFault) (r : Result (Unit {0}) OutFault)
     → r ≡ (elim a [ Ok value ↦ Ok value | Err fault ↦ Err (record {}) ]) → OnOk a A → (A → B) →
     OnOk r B
 answered (Ok value) r e h f = rw e (f h)
 answered (Err fault) r e h f = rw e tt
 
--- what came where no listener failed
+-- what the listener has taken if it didn't fail
 pub heard_ok : (A : Type 0) (a : Result (Unit {0}) ListenerFault) (r : Result (Unit {0}) OutFault)
     (u : Unit {0}) → r ≡ (elim a [ Ok value ↦ Ok value | Err fault ↦ Err (record {}) ]) → r ≡ Ok u
     → OnOk a A → A
@@ -60,7 +60,7 @@ notices_more F w told (q ∷ ps) p =
     (notices_more F (packet_arrived F w q) (links_noted told q.head.link) ps p)
     ∙ sym (append_assoc due _ _)
 
--- ---- What one packet more tells.
+-- ---- Which notices one more packet gives.
 
 seen_before : (n : Notice) (b : Bool) → once n b b ≡ []
 seen_before n true = refl
@@ -69,7 +69,7 @@ seen_before n false = refl
 nothing_new : (s : Seen) → new_notices s s ≡ []
 nothing_new s = rw (seen_before NoRoom s.room, seen_before Tls s.tls, seen_before Ziop s.ziop) refl
 
--- without a segment: its link type alone
+-- a packet without a segment: only its link type may give a notice
 pub told_link : (T : List Notice → Type 0) (F : Reader) (start : State) (ps : List Taken)
     (p : Taken) (told due : List Notice) → segment p.head.link p.octets ≡ None → T (told ++ due)
     → T (told ++ (due ++ new_notices (seen (after_packets F start ps).events)
@@ -84,7 +84,7 @@ told_link T F start ps p told due none h =
     ∙ nothing_new (seen w.events) in
     rw (quiet, append-nil due) h
 
--- with one: what was seen in its flows too
+-- a packet with a segment: what was seen in its flows may give notices too
 pub told_seen : (T : List Notice → Type 0) (told due : List Notice) (before after : Seen)
     (first next : List Event) → before ≡ seen first → after ≡ seen next
     → T ((told ++ due) ++ new_notices before after)
@@ -94,7 +94,7 @@ told_seen T told due before after first next b a h =
     (subst (λ (x : Seen). T (told ++ (due ++ new_notices x after))) b
     (subst T (append_assoc told due (new_notices before after)) h))
 
--- its segment came, or it has none
+-- the segment of the packet came, or the packet has none
 pub segment_came : (O : List Event → Type 0) (live : List ℕ) (c : Connections) (F : Reader)
     (start : State)
     (ps : List Taken) (p : Taken) (found : Option Segment) → segment p.head.link p.octets ≡ found
@@ -106,7 +106,7 @@ segment_came O live c F start ps p found same h =
     let v : State = with_packet (after_packets F start ps) p.head.time in
     subst (IsState O live c) (sym (after_more F start ps p ∙ ap (with_segment F v) same)) h
 
--- the code's segment is the packet's
+-- the segment that the code finds is the packet's
 pub segment_of : (link : ℕ) (octets : List ℕ) (found : Option code.Segment) (s : code.Segment)
     → option_map segment_view found ≡ segment link octets → found ≡ Some s
     → segment link octets ≡ Some (segment_view s)
@@ -120,7 +120,7 @@ pub both : {X E : Type 0} (A B : Type 0) (r : Result X E) → OnOk r A → OnOk 
 both A B (Ok value) a b = (a, b)
 both A B (Err fault) a b = tt
 
--- one packet more was read, of which the connections have what it makes of them
+-- one more packet was read, and the connections have the state that it leads to
 pub read_more : (O O' : List Event → Type 0) (T T' : List Notice → Type 0) (F : Reader)
     (c c' : Connections)
     (live live' links links' : List ℕ) (start : State) (ps : List Taken) (p : Taken)

@@ -1,4 +1,4 @@
--- Streams are without a gap, whatever the packets of a capture are.
+-- Streams have no gap, whatever the packets of a capture are.
 use Rattle.std.proofs.Common.{◌≡◌, ℕ, ◌≤◌, List, [], ◌∷◌, ◌++◌, Option, Some, None, refl, sym, ◌∙◌, subst, append_assoc, append-nil}
 use Rattle.std.proofs.lemmas.List.{length-replicate}
 use Rattle.capture_file.specs.declared.fault.CaptureFault.{CaptureFault}
@@ -49,7 +49,7 @@ packets_gapless F ports blocks most packets some few =
     (packets_at [] F (none_known ports blocks most []) packets
     (start_at ports blocks most some few))
 
--- the packets of a capture, and its fault, have come
+-- after the packets of a capture and its fault came
 capture_at : (F : Reader) (ports : List ℕ) (blocks most : ℕ) (octets : List ℕ) → 1 ≤ most →
     most ≤ 65536
     → At (segments_of (taken_of octets))
@@ -79,7 +79,7 @@ capture_whole F ports blocks most octets some few =
     ended_whole (segments_of (taken_of octets)) F _
     (capture_at F ports blocks most octets some few)
 
--- ---- As many rooms as before.
+-- ---- The number of rooms stays.
 
 segment_rooms : (F : Reader) (w : State) (s : Option Segment) →
     rooms_in (with_segment F w s) ≡ rooms_in w

@@ -1,4 +1,4 @@
--- How handing packets on goes on with one call of `take`.
+-- How one more call of `take` gives packets to the listener.
 use Rattle.std.proofs.Common.{◌≡◌, ◌∙◌, ℕ, ◌-◌, ◌≤◌, arith, List, [], ◌∷◌, ◌++◌, length, take, drop, Some, map, sym, ap, append_assoc, refl}
 use Rattle.std.specs.Option.{IsSome}
 use Rattle.std.proofs.lemmas.List.{take-append-drop, map-append, length-drop, take_all}
@@ -10,7 +10,7 @@ use Rattle.capture_file.specs.Reading.{PacketRecord, packets, fault}
 use Rattle.giop_capture_run.specs.Packets.{Taken, HandedOn, taken, taken_of, packet_view}
 use Rattle.giop_capture_run.proofs.ShortPackets.{short}
 
--- what was read and what a call took are in front of what is left
+-- what was read, and what a call took, come before what is left
 seam : (octets read rest : List ℕ) (n : ℕ) → octets ≡ read ++ rest
     → octets ≡ (read ++ take n rest) ++ drop n rest
 seam octets read rest n whole =
@@ -32,14 +32,14 @@ handed_more HasTaken d p octets read rest n whole reads taken =
           rw same at taken;
     }
 
--- a fault that shows after it is one of what was read
+-- if a fault shows after the call, it is a fault of what was read
 pub fault_shows : (p read more : List ℕ) (f : CaptureFault) → fault ((p ++ read) ++ more) ≡ Some f
     → IsSome (fault (p ++ (read ++ more)))
 fault_shows p read more f shows =
     let e : fault (p ++ (read ++ more)) ≡ Some f = rw (append_assoc p read more) at shows in
     rw e refl
 
--- the listener was handed the packet that the longer list has more
+-- the listener was given the packet that the longer list has and the shorter one hasn't
 pub one_more : (c : Capture) (p more octets : List ℕ) (packet : Packet)
     → packets (p ++ more) ≡ packets p ++ record {
       place = length (p ++ more);
@@ -59,7 +59,7 @@ one_more c p more octets packet e link time same =
     let view : taken r ≡ packet_view packet = rw (link, time, same) refl in
     ap (map taken) e ∙ (map-append taken (packets p) (r ∷ []) ∙ ap (λ v. taken_of p ++ v ∷ []) view)
 
--- its packet is no longer than may be
+-- the packet isn't longer than a packet may be
 pub packet_short : (c : Capture) (p more octets : List ℕ) (packet : Packet)
     → packets (p ++ more) ≡ packets p ++ record {
       place = length (p ++ more);
@@ -71,6 +71,6 @@ packet_short c p more octets packet e same =
     rw same (short (p ++ more) (packets p)
     (record { place = length (p ++ more); head = head_in c; octets = octets_in c octets }) e)
 
--- the rest of a slice, as the code takes it
+-- the rest of a slice, in the way that the code takes it
 pub rest_of : (n : ℕ) (xs : List ℕ) → take (length xs - n) (drop n xs) ≡ drop n xs
 rest_of n xs = take_all (length xs - n) (drop n xs) (simp length-drop (omega arith))

@@ -1,4 +1,4 @@
--- How a run over a source goes on with one read.
+-- How one more read of a source leads on.
 use Rattle.std.proofs.Common.{◌≡◌, ◌∙◌, ℕ, ◌+◌, ◌<◌, ◌≤◌, Bool, true, false, List, [], ◌++◌, Option, Some, None, Err, Ok, length, take, length-take, length-append, sym, ap, append_assoc, refl, inl, inr, ◌⊎◌, ◌==◌, ◌&&◌, nat_lt, if◌then◌else◌, arith}
 use Rattle.std.specs.Io.KnownBytes.{Consumes}
 use Rattle.std.proofs.lemmas.Bool.{eq-eqb, ne_eqb, lt-ltb}
@@ -18,26 +18,26 @@ consumes_append (Some xs) (Some ys) None s t p q = absurd q
 consumes_append (Some xs) (Some ys) (Some zs) s t p q =
     p ∙ (ap (λ v. s ++ v) q ∙ sym (append_assoc s t zs))
 
--- one read more, in a count that allows for it
+-- one more read, in a count that has room for it
 pub one_more_read : (before so_far turns after most : ℕ) → so_far ≤ before + turns
     → after ≡ counted so_far → turns < most → after ≤ before + most
 unfolding counted
 one_more_read before so_far turns after most below one room = omega arith
 
--- a read of some octets isn't the end
+-- if a read gave octets, the source isn't at its end
 pub not_end : (into : List ℕ) (n before after : ℕ) → 0 < n
     → after ≡ (if n == 0 && nat_lt 0 (length into) then counted before else before)
     → after ≡ before
 not_end into n before after some is = is ∙ rw (ne_eqb n 0 (λ none. omega arith)) refl
 
--- and one of none into some room is
+-- if a read gave none though there was room, the source is at its end
 pub is_end : (into : List ℕ) (n before after : ℕ) → n ≡ 0 → 0 < length into
     → after ≡ (if n == 0 && nat_lt 0 (length into) then counted before else before)
     → after ≡ counted before
 is_end into n before after none room is =
     is ∙ rw (eq-eqb n 0 none, lt-ltb 0 (length into) room) refl
 
--- the octets of a read, of which the packets were handed on
+-- the octets of a read, whose packets were given to the listener
 pub handed_once : (goes_on : Bool) (HasTaken : List Taken → Type 0) (c : Capture) (p s : List ℕ)
     (before after : SourceLog) → 0 < length s → Consumes before.left after.left s
     → after.failures ≡ before.failures → after.ends ≡ before.ends
@@ -54,16 +54,16 @@ handed_once false HasTaken c p s before after some given failures ends (read, re
       over = inr shows;
     }
 
--- a read of some octets gives as many
+-- if a read gave octets, the list of them isn't empty
 pub some_given : (into : List ℕ) (n : ℕ) → n ≤ length into → 0 < n → 0 < length (take n into)
 some_given into n within some = let l = length-take n into in omega arith
 
--- one octet more at least, for each read
+-- each read gives at least one more octet
 pub longer : (s t : List ℕ) (turns : ℕ) → turns ≤ length s → 0 < length t →
     turns + 1 ≤ length (s ++ t)
 longer s t turns so_far some = let l = length-append s t in omega arith
 
--- what was handed on of more octets is so of all of them
+-- what holds of the octets after others holds of all of them together
 handed_behind : (HasTaken : List Taken → Type 0) (c : Capture) (s t read rest : List ℕ)
     → HandedOn HasTaken c s t read rest → HandedOn HasTaken c [] (s ++ t) (s ++ read) rest
 handed_behind HasTaken c s t read rest h =

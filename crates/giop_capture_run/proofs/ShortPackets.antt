@@ -24,7 +24,7 @@ use Rattle.capture_file.specs.declared.capture.Capture.{Capture}
 use Rattle.capture_file.specs.CaptureState.{Reads}
 use Rattle.capture_file.specs.Reading.{PacketRecord, ParserState, Within, Reading, end_of, packet_in, behind, reading_from, start, reading, packets}
 
--- the packet at a part's front, if it has one, is no longer than may be
+-- the packet at the start of a part, if there is one, isn't longer than a packet may be
 abbrev IsShort : Part → Type 0
 IsShort part = front part ≤ packet_offset part + 262144
 
@@ -219,7 +219,7 @@ last_short : (rs : List PacketRecord) (r : PacketRecord) → AllShort (rs ++ r �
 last_short [] r h = h.0
 last_short (x ∷ xs) r h = last_short xs r h.1
 
--- the packet that comes last of those of a capture
+-- the last packet of a capture isn't longer than a packet may be
 pub short : (p : List ℕ) (rs : List PacketRecord) (r : PacketRecord) → packets p ≡ rs ++ r ∷ []
     → length r.octets ≤ 262144
 short p rs r e = last_short rs r (rw e at (all_short p))

@@ -1,4 +1,4 @@
--- A segment's payload is no longer than its packet.
+-- The payload of a segment isn't longer than its packet.
 use Rattle.std.proofs.Common.{◌≡◌, ℕ, zero, suc, ◌≤◌, List, Bool, true, false, Some, None, Option, length, take, drop, arith, option_map}
 use Rattle.std.specs.Prelude.{if◌then◌else◌, ◌==◌}
 use Rattle.std.proofs.lemmas.List.{length-drop, length-take}
@@ -9,7 +9,7 @@ use Rattle.tcp_segment.specs.Frames.{Packet, is_tag, behind_tag, behind_tags, ve
 use Rattle.tcp_segment.specs.Datagrams.{Datagram, limited, behind_header, ipv4, behind_extension, behind_extensions, payload_of, behind_headers, between_hosts, ipv6, datagram_by, datagram_of}
 use Rattle.tcp_segment.specs.Segments.{Segment, header_size, segment_in, segment}
 
--- what there is, if anything, has at most so many octets
+-- if there is a value, its size is at most `most`
 abbrev IsWithin : {A : Type 0} → (A → ℕ) → ℕ → Option A → Type 0
 IsWithin size most None = Unit {0}
 IsWithin size most (Some a) = size a ≤ most
@@ -42,7 +42,7 @@ then_within : {A B : Type 0} (size : A → ℕ) (size' : B → ℕ) (most : ℕ)
 then_within size size' most None f h k = nothing
 then_within size size' most (Some a) f h k = k a h.within
 
--- of what doesn't count
+-- the same if nothing is known of the size of the first value
 any_then : {A B : Type 0} (size' : B → ℕ) (most : ℕ) (o : Option A) (f : A → Option B)
     → ((a : A) → Within size' most (f a)) → Within size' most (o >>= f)
 any_then size' most None f k = nothing
@@ -178,7 +178,7 @@ within link octets =
     (either p.version p.octets (length octets) k)
     (λ d l. carried d (length octets) l))
 
--- the payload of a packet's segment
+-- the payload of a packet's segment isn't longer than the packet
 pub short : (link : ℕ) (octets : List ℕ) (s : Segment) → segment link octets ≡ Some s
     → length s.payload ≤ length octets
 short link octets s e =

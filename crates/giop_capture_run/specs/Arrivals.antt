@@ -1,4 +1,5 @@
--- What the packets of a capture do to its connections, and what is told of them (meaning).
+-- What the packets of a capture do to its connections, and which notices are given of them
+-- (meaning).
 use Rattle.std.specs.Prelude.{ℕ, List, [], ◌∷◌, ◌++◌, flat_map, cond, Option, Some, None, if◌then◌else◌}
 use Rattle.capture_file.specs.declared.fault.CaptureFault.{CaptureFault}
 use Rattle.capture_file.specs.FaultWords.{fault_word}
@@ -13,52 +14,53 @@ use Rattle.giop_capture_run.specs.declared.notices.Notice.{Notice}
 use Rattle.giop_capture_run.specs.declared.notices.Notice.TheVariants.{UnreadLink}
 use Rattle.giop_capture_run.specs.Packets.{Taken, taken_of}
 
--- a packet's segment comes, where it has one
+-- after the segment of a packet came, if the packet has one
 abbrev pub with_segment : Reader → State → Option Segment → State
 with_segment F w None = w
 with_segment F w (Some s) = step F w s
 
--- one packet more: it is read, and its segment comes
+-- after one more packet: its time is noted, and its segment comes
 unfoldable pub packet_arrived : Reader → State → Taken → State
 packet_arrived F w p =
     with_segment F (with_packet w p.head.time) (segment p.head.link p.octets)
 
--- all packets, the first first
+-- after all packets, in their order
 unfoldable pub after_packets : Reader → State → List Taken → State
 after_packets F w [] = w
 after_packets F w (p ∷ ps) = after_packets F (packet_arrived F w p) ps
 
--- the segment of a packet, where it has one
+-- the segment of a packet as a list: none or one
 abbrev pub segment_in : Option Segment → List Segment
 segment_in None = []
 segment_in (Some s) = s ∷ []
 
--- those of all packets
+-- the segments of all packets
 abbrev pub segments_of : List Taken → List Segment
 segments_of packets = flat_map (λ p. segment_in (segment p.head.link p.octets)) packets
 
--- the capture has a fault, where it has one
+-- after the fault of the capture, if it has one
 abbrev pub with_fault : State → Option CaptureFault → State
 with_fault w None = w
 with_fault w (Some fault) = with_capture_event w (HasFault (fault_word fault.kind) fault.place)
 
--- a capture with these octets, up to its end: its packets, its fault, and then the end of its
+-- after a whole capture with these octets: its packets, then its fault, and then the end of its
 -- connections
 unfoldable pub capture_ended : Reader → State → List ℕ → State
 capture_ended F w p = ended F (with_fault (after_packets F w (taken_of p)) (final_fault p))
 
 -- ---- Notices.
 
--- how many link types are told
+-- for how many link types a notice is given
 abbrev pub most_links : ℕ
 most_links = 16
 
--- those that were told, after one packet more of this link type: it is told where it isn't read,
--- with its first packet
+-- the link types that a notice was given of, after one more packet of this link type: if it isn't
+-- read, its first packet gives a notice
 abbrev pub links_noted : List ℕ → ℕ → List ℕ
 links_noted told link = if is_link_read link then told else told_after most_links told link
 
--- those that were told of all packets, after these
+-- the link types that a notice was given of, after all packets, if a notice was given of `told`
+-- before
 unfoldable pub links_from : List ℕ → List Taken → List ℕ
 links_from told [] = told
 links_from told (p ∷ ps) = links_from (links_noted told p.head.link) ps
@@ -66,12 +68,13 @@ links_from told (p ∷ ps) = links_from (links_noted told p.head.link) ps
 abbrev pub links_told : List Taken → List ℕ
 links_told packets = links_from [] packets
 
--- the notice of a packet of this link type: of the first of each
+-- the notice of a packet of this link type: only the first packet of a link type that isn't read
+-- has one
 abbrev pub link_notices : List ℕ → ℕ → List Notice
 link_notices told link =
     if is_link_read link then [] else cond (is_new most_links told link) (UnreadLink link ∷ []) []
 
--- the notices of packets that come to a state, after these link types were told
+-- the notices of packets that come to a state, if a notice was given of these link types before
 unfoldable pub notices_from : Reader → State → List ℕ → List Taken → List Notice
 notices_from F w told [] = []
 notices_from F w told (p ∷ ps) =

@@ -1,11 +1,12 @@
--- Which link types of a capture are told, of those whose packets aren't read (meaning).
+-- The link types for which a notice is given, among those in a capture whose packets aren't read
+-- (meaning).
 use Rattle.std.specs.Prelude.{ℕ, ◌==◌, ◌||◌, Bool, cond, not, ltb, List, [], ◌∷◌, ◌++◌, length}
 use Rattle.std.specs.List.{list_any}
 
--- a link type is new where it was not told, and where fewer than so many were
+-- whether a link type is new: it isn't among those of `told`, and these are fewer than `room`
 abbrev pub is_new : ℕ → List ℕ → ℕ → Bool
 is_new room told link = not (list_any (λ other. other == link) told || not (ltb (length told) room))
 
--- those that were told, after one more packet of a link type that isn't read
+-- the link types of `told` after one more packet of a link type that isn't read
 abbrev pub told_after : ℕ → List ℕ → ℕ → List ℕ
 told_after room told link = cond (is_new room told link) (told ++ link ∷ []) told

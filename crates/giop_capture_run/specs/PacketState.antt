@@ -8,7 +8,8 @@ use Rattle.giop_capture_run.specs.Packets.{Taken}
 use Rattle.giop_capture_run.specs.Arrivals.{after_packets, links_told, notices_told}
 use Rattle.giop_capture_run.specs.declared.notices.Notice.{Notice}
 
--- The connections have the state that these packets make of one, and what is due of them was told.
+-- From this start on, the connections have the state that these packets lead to, and the notices
+-- that are due of them were given.
 pub record HasRead (O : List Event → Type 0) (Told : List Notice → Type 0) (F : Reader)
     (c : Connections) (live links : List ℕ)
     (start : State) (packets : List Taken) : Type 0 where

@@ -1,4 +1,4 @@
--- The packets of a capture that were handed on (meaning).
+-- The packets of a capture that a listener was given (meaning).
 use Rattle.std.specs.Prelude.{◌≡◌, ℕ, List, [], ◌++◌, length, Bool, true, false, IsSome, map, Result, Ok, Err, ◌⊎◌, ◌<◌, ◌≤◌, ◌^◌}
 use Rattle.std.specs.Io.KnownBytes.{Consumes}
 use Rattle.capture_file.specs.declared.capture.Capture.{Capture}
@@ -12,7 +12,7 @@ use Rattle.giop_run.specs.Running.{IsEnded}
 use Rattle.giop_run.specs.declared.fault.RunFault.{RunFault}
 use Rattle.giop_run.specs.declared.fault.RunFault.TheVariants as faults
 
--- a packet as it is handed on: its link type and time, and its octets
+-- a packet as a listener gets it: its link type and time, and its octets
 pub record Taken : Type 0 where
   pub head : Head
   pub octets : List ℕ
@@ -23,34 +23,34 @@ packet_view p = record { head = record { link = p.link; time = p.time }; octets 
 abbrev pub taken : PacketRecord → Taken
 taken p = record { head = p.head; octets = p.octets }
 
--- the packets of a capture, as they are handed on
+-- the packets of a capture, as a listener gets them
 abbrev pub taken_of : List ℕ → List Taken
 taken_of p = map taken (packets p)
 
--- a listener has taken the packets of what a capture has read, from some start on
+-- from some start on, the listener has taken all packets of what the capture has read
 abbrev pub KeepsUp : {Self Start : Type 0} → (Self → Start → List Taken → Type 0) → Self → Capture →
     Type 0
 KeepsUp {Start = Start} taken to c =
     (start : Start) × (p : List ℕ) × Reads c p × taken to start (taken_of p)
 
--- Of octets that came after p, these were read and the packets that they complete handed on; the
--- rest wasn't looked at.
+-- Of the octets that came after p, those of `read` were read, and the packets that they complete
+-- were given to the listener. Those of `rest` weren't looked at.
 pub record HandedOn (HasTaken : List Taken → Type 0) (c : Capture) (p octets read rest : List ℕ) :
     Type 0 where
   pub parts : octets ≡ read ++ rest
   pub reads : Reads c (p ++ read)
   pub taken : HasTaken (taken_of (p ++ read))
 
--- All octets were read, or those up to a fault of the capture.
+-- All octets were read, or, if the result is false, those up to a fault of the capture.
 abbrev pub HandedWhole : Bool → (List Taken → Type 0) → Capture → List ℕ → List ℕ → Type 0
 HandedWhole true HasTaken c p octets = HandedOn HasTaken c p octets octets []
 HandedWhole false HasTaken c p octets =
     (read rest : List ℕ) × HandedOn HasTaken c p octets read rest × IsSome (fault (p ++ read))
 
--- ---- What a run over a source did, which gave the octets s.
+-- ---- What a run did with a source, which gave the octets s.
 
--- all that the source gave was read, after p, and its packets were handed on; no read failed, and
--- none came to the end
+-- all that the source gave was read after p, and its packets were given to the listener; no read
+-- failed, and none was at the end
 pub record ReadAll (HasTaken : List Taken → Type 0) (c : Capture) (p s : List ℕ)
     (before after : SourceLog) : Type 0 where
   pub given : Consumes before.left after.left s
@@ -58,14 +58,15 @@ pub record ReadAll (HasTaken : List Taken → Type 0) (c : Capture) (p s : List 
   pub ends : after.ends ≡ before.ends
   pub handed : HandedOn HasTaken c p s s []
 
--- a read failed, after which none was made: the packets of all that was read were handed on
+-- a read failed, and there was no read after it; the packets of all that was read were given to the
+-- listener
 pub record ReadStopped (HasTaken : List Taken → Type 0) (c : Capture) (p s : List ℕ)
     (before after : SourceLog) : Type 0 where
   pub given : Consumes before.left after.left s
   pub failures : after.failures ≡ counted before.failures
   pub handed : HandedOn HasTaken c p s s []
 
--- The source came to its end, or the capture to a fault, after which nothing was read; no read
+-- The source came to its end, or the capture to a fault, after which nothing was read. No read
 -- failed.
 pub record ReadToEnd (HasTaken : List Taken → Type 0) (c : Capture) (p s : List ℕ)
     (before after : SourceLog) : Type 0 where
@@ -81,8 +82,8 @@ pub record NotTaken (s : List ℕ) (before after : SourceLog) : Type 0 where
   pub given : Consumes before.left after.left s
   pub failures : after.failures ≡ before.failures
 
--- What a run did, by its result: where the listener failed, it alone knows what it has taken. Where
--- the reads were used up, each gave an octet.
+-- What a run did, by its result. If the listener failed, nothing is said of what it has taken. If
+-- the reads were used up, each of them gave an octet.
 abbrev pub Ran : Result (Unit {0}) RunFault → (List Taken → Type 0) → Capture → List ℕ → SourceLog →
     SourceLog → Type 0
 Ran (Ok _) HasTaken c s before after = ReadToEnd HasTaken c [] s before after
@@ -92,9 +93,9 @@ Ran (Err faults.Turns) HasTaken c s before after =
 Ran (Err faults.Out) HasTaken c s before after = NotTaken s before after
 Ran (Err faults.Failed) HasTaken c s before after = ⊥
 
--- ---- One read of it (steps).
+-- ---- One read of a run (steps).
 
--- what a read and its packets came to, after p: true where the reading goes on
+-- what a read and its packets did after p; the result is true if the reading goes on
 abbrev pub HasReadOnce : Result Bool RunFault → (List Taken → Type 0) → Capture → List ℕ → List ℕ →
     SourceLog → SourceLog → Type 0
 HasReadOnce (Ok true) HasTaken c p s before after =

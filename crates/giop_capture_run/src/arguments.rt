@@ -1,4 +1,4 @@
-//! The program's arguments: the capture that it reads and how much it may remember (docs/FORMATS.md, The program giopcap).
+//! The program's arguments: the capture that it reads, and how much it may remember (docs/FORMATS.md, The program giopcap).
 
 ghost use Rattle.std.specs.Prelude.{◌≡◌, ◌≢◌, ◌≤◌, ◌^◌, ℕ, Some, None, codes, option_map};
 ghost use Rattle.giop_stream.specs.Rules.{most_open};
@@ -11,13 +11,13 @@ use giop_run::marked;
 use giop_stream::MOST_OPEN;
 use std::alloc::{AllocError, Global};
 
-/// How many ports may be chosen.
+/// The greatest number of ports that may be chosen.
 pub const PORTS_ROOM: usize = 64;
 
-/// How many signature files may be given.
+/// The greatest number of signature files that may be given.
 pub const SIGNATURES_ROOM: usize = 16;
 
-/// How many connections may be known, and how many calls may be outstanding in each direction of one.
+/// The greatest number of known connections, and of outstanding calls in each direction of a connection.
 const MOST_KNOWN: u32 = 65_536;
 
 /// The least and the greatest number of blocks of 1,024 octets for payloads that wait.
@@ -25,7 +25,8 @@ const LEAST_POOL: u32 = 1_024;
 
 const MOST_POOL: u32 = 1_048_576;
 
-/// The greatest number of a first stream: 10^18. A capture has at most 2^63 streams, so their numbers stay below 2^64.
+/// The greatest number that a first stream may have: 10^18. A capture has at most 2^63 streams, so their numbers stay below
+/// 2^64.
 const MOST_FIRST: u64 = 1_000_000_000_000_000_000;
 
 const DEFAULT_CONNECTIONS: u32 = 1_024;
@@ -75,19 +76,19 @@ sources, /usr/share/doc/giopdump/docs of the package).";
 /// What the arguments ask for: each file by its name.
 #[derive(Debug, Drop)]
 pub struct Arguments<'a> {
-    /// The signature files, which are read as one; none for the built-in types alone.
+    /// The signature files, which are read as one. If there are none, only the built-in types are known.
     pub signatures: ArrayVec<&'a str, 16>,
-    /// The ports at which GIOP is looked for; every port where it is empty.
+    /// The ports at which GIOP is looked for. If there are none, it is looked for at every port.
     pub ports: ArrayVec<u16, 64>,
-    /// How many connections may be known at once.
+    /// The greatest number of connections that may be known at once.
     pub connections: u32,
-    /// How many messages of a stream may be open at once.
+    /// The greatest number of messages of a stream that may be open at once.
     pub messages: u32,
-    /// How many calls of a direction of a connection may be outstanding.
+    /// The greatest number of calls of a connection's direction that may be outstanding.
     pub calls: u32,
-    /// How many blocks of 1,024 octets hold payloads that wait.
+    /// The number of blocks for payloads that wait, of 1,024 octets each.
     pub pool: u32,
-    /// The number of the first stream; the others follow it.
+    /// The number of the first stream. The numbers of the other streams follow it.
     pub first_stream: u64,
     /// The file with the capture; None for standard input.
     pub capture: Option<&'a str>,
@@ -98,7 +99,7 @@ pub struct Arguments<'a> {
     ghost first_range: { (1 ≤ first_stream) × (first_stream ≤ 10 ^ 18) },
 }
 
-/// An option that takes a number of a range, with the number where it is missing.
+/// An option that takes a number within a range, and has a default.
 fn number_option<'a>(
     alloc: Global,
     name: &'a str,
@@ -114,7 +115,7 @@ fn number_option<'a>(
         .default_value(default)
 }
 
-/// The option for the memory of payloads that wait.
+/// The option for the memory that payloads may wait in.
 fn pool_option<'a>(alloc: Global) -> Arg<'a> {
     number_option(alloc, "pool", POOL_HELP, (LEAST_POOL, MOST_POOL), "16384").value_name("KIB")
 }
@@ -129,7 +130,7 @@ fn first_option<'a>(alloc: Global) -> Arg<'a> {
         .default_value("1")
 }
 
-/// The option that chooses a port, and may be given more than once.
+/// The option that chooses a port. It may be given more than once.
 fn port_option<'a>(alloc: Global) -> Arg<'a> {
     Arg::new(alloc, "port")
         .long("port")
@@ -167,7 +168,7 @@ fn command<'a>(alloc: Global) -> Result<Command<'a>, AllocError> {
         .arg(Arg::new(alloc, "CAPTURE").help(CAPTURE_HELP))
 }
 
-/// The ports that are chosen, of which `clap` has checked the range; None where they are more than may be.
+/// The ports that are chosen; `clap` has checked their range. None if there are too many.
 fn ports_of(matches: &ArgMatches) -> Option<ArrayVec<u16, 64>> {
     let mut ports = ArrayVec::new();
     let Some(given) = matches.get_many::<u16>("port") else {
@@ -179,7 +180,7 @@ fn ports_of(matches: &ArgMatches) -> Option<ArrayVec<u16, 64>> {
     Some(ports)
 }
 
-/// The signature files that are given; None where they are more than may be.
+/// The signature files that are given. None if there are too many.
 fn signatures_of<'a>(matches: &ArgMatches<'a>) -> Option<ArrayVec<&'a str, 16>> {
     let mut files = ArrayVec::new();
     for file in matches.get_strs("signatures").unwrap_or(&[]) {
@@ -188,7 +189,7 @@ fn signatures_of<'a>(matches: &ArgMatches<'a>) -> Option<ArrayVec<&'a str, 16>> 
     Some(files)
 }
 
-/// A number by its argument, of which `clap` has checked the range, or the default where there is none.
+/// The number that an argument gives, or the default if there is no argument. `clap` has checked the range.
 fn number_of(word: Option<u32>, range: (u32, u32), default: u32) -> u32
     requires order { range.0 ≤ range.1 }
     requires within { (range.0 ≤ default) × (default ≤ range.1) }
@@ -202,7 +203,7 @@ fn number_of(word: Option<u32>, range: (u32, u32), default: u32) -> u32
     }
 }
 
-/// The number of the first stream by its argument, of which `clap` has checked the range; 1 where it is missing.
+/// The number of the first stream that an argument gives, or 1 if there is no argument. `clap` has checked the range.
 fn first_of(word: Option<u64>) -> u64
     ensures range { (1 ≤ result) × (result ≤ 10 ^ 18) }
     ensures word { (n : ℕ) → word ≡ Some n → 1 ≤ n → n ≤ 10 ^ 18 → result ≡ n }
@@ -211,7 +212,8 @@ fn first_of(word: Option<u64>) -> u64
     word.unwrap_or(1).clamp(1, MOST_FIRST)
 }
 
-/// The file of the capture by its argument: none, for standard input, where it is missing or `-`.
+/// The file of the capture, by its argument. If there is no argument, or it is `-`, there is no file: the capture is
+/// standard input.
 fn capture_of<'a>(word: Option<&'a str>) -> Option<&'a str>
     ensures standard { option_map (λ w. w.now) word.entry ≡ Some (codes "-") → result ≡ None }
     ensures file { option_map (λ w. w.now) word.entry ≢ Some (codes "-") → result ≡ word.entry }
@@ -223,10 +225,10 @@ fn capture_of<'a>(word: Option<&'a str>) -> Option<&'a str>
 }
 
 impl<'a> Arguments<'a> {
-    /// Parses the arguments, the first of which is the program's name. An `Err` has the text to print and the status,
-    /// also for `--help` and `--version`, which have status 0.
+    /// Parses the arguments. The first word is the program's name. An `Err` has the text to print and the status. It is
+    /// also the answer to `--help` and `--version`, with status 0.
     pub fn read(alloc: Global, words: &'a [String]) -> Result<Arguments<'a>, Error> {
-        // What is wrong with the words is said of marked ones.
+        // If something is wrong with the words, the error's text is made of the marked words.
         command(alloc)?.try_get_matches_from(marked(alloc, words)?.as_slice())?;
         let mut command = command(alloc)?;
         let matches = command.try_get_matches_from_mut(words)?;

@@ -1,4 +1,4 @@
-//! A capture from its first packet to its end.
+//! Reading a capture from its first packet to its end.
 
 ghost use Rattle.std.specs.Prelude.{◌≡◌, ◌≢◌, ◌⊎◌, ◌≤◌, ◌+◌, ◌^◌, List, ℕ, [], length, Err, IfOk, IfErr, OnOk, OnErr};
 ghost use Rattle.capture_file.specs.CaptureState.{Reads};
@@ -19,8 +19,9 @@ use capture_file::{Capture, CaptureFault, FaultKind, OtherFile};
 use giop_print::OutFault;
 use giop_run::{RunFault, Source};
 
-/// Reads a capture of which nothing was read from a source, up to its end: to the end of the source or to the capture's fault,
-/// after which nothing is read. A fault is told before the streams close. Answers that fault.
+/// Reads a capture from a source, from the beginning to the end: up to the end of the source, or up to the capture's fault,
+/// after which nothing is read. If there is a fault, the listener is told of it before the streams close. Returns the
+/// fault.
 pub fn read_capture<S: Source, L: CaptureListener + Drop, N: Notices + Drop>(
     source: &mut S,
     capture: &mut Capture,
@@ -51,18 +52,18 @@ pub fn read_capture<S: Source, L: CaptureListener + Drop, N: Notices + Drop>(
     }
 }
 
-/// How the dump of a capture ended that was read to its end.
+/// How the dump of a capture ended, if the capture was read to its end.
 #[derive(Clone, Copy, Debug, PartialEq, Eq)]
 pub enum Ending {
     /// No fault was counted, and no stream was cut.
     Whole,
-    /// A fault of a message, a stream or the capture was counted, or a stream was cut.
+    /// A fault of a message, of a stream or of the capture was counted, or a stream was cut.
     Faulty,
-    /// What was read begins like no capture, but like this.
+    /// The source doesn't begin as a capture does, but as this other file does.
     NoCapture(OtherFile),
 }
 
-/// Reads a capture of which nothing was read from a source, up to its end, and writes all that is due of it. Answers how it ended.
+/// Reads a capture from a source, from the beginning to the end, and writes all that is due. Returns how the dump ended.
 pub fn dump_capture<S: Source, L: CaptureListener + Drop, N: Notices + Drop>(
     source: &mut S,
     capture: &mut Capture,
@@ -78,7 +79,8 @@ pub fn dump_capture<S: Source, L: CaptureListener + Drop, N: Notices + Drop>(
         → IfOk result (λ ending. Dumped ending L.observed L.finished L.faulty L.reader
         (N.told reader.new.notices) capture.new w (S.log source.old) (S.log source.new)
         reader.new.streams.listener) }
-    // Where a read failed or the reads were used up, packets came as always, and the capture has not ended.
+    // If a read failed, or the reads were used up, the listener has taken the packets that came until then, and the capture
+    // hasn't ended.
     ensures stopped { (w : State) → HasRead (L.observed reader.old.streams.listener)
         (N.told reader.old.notices) L.reader reader.old.connections
         reader.old.streams.live.items reader.old.unread.told.items w []
@@ -99,7 +101,7 @@ pub fn dump_capture<S: Source, L: CaptureListener + Drop, N: Notices + Drop>(
     }
 }
 
-/// Writes what is still due of a capture that has ended, with this fault where it has one. Answers how its dump ended.
+/// Writes what is still due after a capture has ended, by its fault if it has one. Returns how the dump ended.
 fn finished<L: CaptureListener + Drop, N: Notices + Drop>(
     fault: Option<CaptureFault>,
     capture: &Capture,
@@ -122,7 +124,7 @@ fn finished<L: CaptureListener + Drop, N: Notices + Drop>(
     }
 }
 
-/// How a dump ended, by the fault of the capture and whether its listener was told of one.
+/// How a dump ended, by the fault of the capture, and by whether the listener was told of any fault.
 fn ending_of(fault: Option<CaptureFault>, is_faulty: bool) -> Ending
     ensures { result ≡ ending_of fault is_faulty }
 {
@@ -138,7 +140,7 @@ fn ending_of(fault: Option<CaptureFault>, is_faulty: bool) -> Ending
     }
 }
 
-/// Ends a capture: its fault is told, where it has one, and then its streams close. Answers the fault.
+/// Ends a capture: tells the listener of its fault, if it has one, and then closes its streams. Returns the fault.
 fn end<L: CaptureListener + Drop, N: Notices + Drop>(
     capture: &Capture,
     reader: &mut PacketReader<L, N>,
@@ -159,7 +161,7 @@ fn end<L: CaptureListener + Drop, N: Notices + Drop>(
     Ok(fault)
 }
 
-/// The fault of the capture is told, where it has one.
+/// Tells the listener of the fault of the capture, if it has one.
 fn tell_fault<L: CaptureListener + Drop, N: Notices + Drop>(
     fault: Option<CaptureFault>,
     reader: &mut PacketReader<L, N>,

@@ -1,4 +1,4 @@
-//! What is so of the streams of a capture, whatever its packets are.
+//! What holds of the streams of a capture, whatever its packets are.
 
 ghost use Rattle.std.specs.Prelude.{ℕ, ◌≤◌, [], List};
 ghost use Rattle.tcp_flow.specs.Flow.{Reader};
@@ -7,9 +7,10 @@ ghost use Rattle.tcp_connections.specs.Gapless.{AreGapless, AreWhole, HaveRooms}
 ghost use Rattle.giop_capture_run.specs.Packets.{Taken, taken_of};
 ghost use Rattle.giop_capture_run.specs.Arrivals.{after_packets, segments_of, capture_ended};
 
-/// Streams are without a gap: after any packets, and after a whole capture with its fault and its end, octets have come and
-/// streams have closed only while they lived, and what was delivered of each stands one after another, as segments of the
-/// packets have it; and after a whole capture each stream that began has closed. It has no body, and is called for its contract.
+/// Streams have no gap. After any packets, and after a whole capture with its fault and its end, this holds in each flow.
+/// Octets came and streams closed only while a stream lived. The octets that were delivered of a stream follow one another
+/// as the segments of the packets have them. After a whole capture each stream that began has closed. The function has no
+/// body; it is called for its contract.
 pub fn no_stream_of_a_capture_has_a_gap()
     ensures packets { (reader : Reader) (ports : List ℕ) (blocks most : ℕ) (packets : List Taken)
         → 1 ≤ most → most ≤ 65536 → AreGapless (segments_of packets)
@@ -20,7 +21,7 @@ pub fn no_stream_of_a_capture_has_a_gap()
     ensures closed { (reader : Reader) (ports : List ℕ) (blocks most : ℕ) (octets : List ℕ)
         → 1 ≤ most → most ≤ 65536 → AreWhole (segments_of (taken_of octets))
         (capture_ended reader (none_known ports blocks most []) octets).events }
-    // Each event in a flow is in one of a connection that has a room.
+    // Each event of a flow is of a connection that has a room.
     ensures rooms { (reader : Reader) (ports : List ℕ) (blocks most : ℕ) (octets : List ℕ)
         → 1 ≤ most → most ≤ 65536 → HaveRooms most
         (capture_ended reader (none_known ports blocks most []) octets).events }

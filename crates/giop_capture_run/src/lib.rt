@@ -1,4 +1,5 @@
-//! The program `giopcap` without its `main` and its conversations: its arguments, and the packets of a capture up to its end.
+//! The program `giopcap` without its `main` and its conversations: its arguments, and how the packets of a capture are read
+//! up to its end.
 #![tactic(auto)]
 
 mod arguments;

@@ -1,45 +1,46 @@
-//! What is said of a capture beside its lines.
+//! The notices that are given of a capture, beside its lines.
 
 ghost use Rattle.std.specs.Prelude.{◌≡◌, Bool, List, [], ◌∷◌, ◌++◌};
 ghost use Rattle.giop_capture_run.specs.Notices.{once, new_notices, is_tls, is_ziop};
 ghost use Rattle.giop_capture_run.specs.declared.notices.Notice.{Notice};
 
-/// What is said beside the lines. What can't be shown is lost.
+/// A notice beside the lines. If it can't be shown, it is lost.
 #[derive(Clone, Copy, Debug, PartialEq, Eq)]
 pub enum Notice {
-    /// A packet is of this link type, which isn't read.
+    /// A packet has this link type, which isn't read.
     UnreadLink(u16),
-    /// A stream closed because its connection made room for another: more come at once than are known.
+    /// A stream closed because its connection made room for another one: there are more connections at once than can be
+    /// known.
     NoRoom,
-    /// A payload in which no stream begins has a record of TLS at its front.
+    /// A payload in which no stream begins starts with a record of TLS.
     Tls,
-    /// One has a message of ZIOP at its front.
+    /// A payload in which no stream begins starts with a message of ZIOP.
     Ziop,
 }
 
-/// What was seen so far of which notices are told, each once.
+/// What was seen until now that needs a notice. Each notice is given once.
 #[derive(Clone, Copy, Debug, PartialEq, Eq)]
 pub struct Seen {
-    /// A stream closed because its connection made room for another.
+    /// A stream closed because its connection made room for another one.
     pub room: bool,
-    /// A payload in which no stream begins has a record of TLS at its front.
+    /// A payload in which no stream begins started with a record of TLS.
     pub tls: bool,
-    /// One has a message of ZIOP at its front.
+    /// A payload in which no stream begins started with a message of ZIOP.
     pub ziop: bool,
 }
 
-/// Is told of what isn't read, and of what there is no room for.
+/// Something that is told what isn't read, and what there is no room for.
 pub trait Notices {
-    /// It was told these notices, in this order: a relation, so that one that forgets can be told.
+    /// It was told these notices, in this order. It is a relation, so that it may forget notices.
     ghost told: { Self → List Notice → Type 0 };
 
-    /// A notice is due.
+    /// Gives a notice.
     fn tell(&mut self, notice: Notice)
         ensures { (notices : List Notice) → told self.old notices
             → told self.new (notices ++ notice ∷ []) };
 }
 
-/// Whether octets begin as a record of TLS does: the type of its content, and its version (RFC 8446, 5.1).
+/// Whether octets begin as a record of TLS does, by the type of its content and by its version (RFC 8446, 5.1).
 pub fn is_tls(octets: &[u8]) -> bool
     ensures { result ≡ is_tls octets.now }
 {
@@ -57,7 +58,7 @@ pub fn is_ziop(octets: &[u8]) -> bool
         && octets[3] == b'P'
 }
 
-/// Notices are told of what was seen after something happened, and not before.
+/// Gives a notice of each thing that has been seen now and had not been seen before.
 pub fn tell_new<N: Notices>(before: Seen, after: Seen, notices: &mut N)
     ensures { (told : List Notice) → N.told notices.old told
         → N.told notices.new (told ++ new_notices before after) }
@@ -67,7 +68,7 @@ pub fn tell_new<N: Notices>(before: Seen, after: Seen, notices: &mut N)
     tell_once(Notice::Ziop, before.ziop, after.ziop, notices);
 }
 
-/// A notice is told after its cause was seen, if it was not seen before.
+/// Gives a notice if its cause has been seen now and had not been seen before.
 fn tell_once<N: Notices>(notice: Notice, before: bool, after: bool, notices: &mut N)
     ensures { (told : List Notice) → N.told notices.old told
         → N.told notices.new (told ++ once notice before after) }

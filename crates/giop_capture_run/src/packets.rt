@@ -1,4 +1,4 @@
-//! The packets of a capture as what happens in its flows.
+//! What the packets of a capture do to its flows.
 
 ghost use Rattle.std.specs.Prelude.{◌≡◌, ◌<◌, ◌≤◌, ◌+◌, ◌^◌, List, ℕ, [], ◌∷◌, ◌++◌, length, IfOk, OnOk, OnErr};
 ghost use Rattle.tcp_segment.specs.Segments.{segment_view};
@@ -22,8 +22,8 @@ use tcp_flow::ListenerFault;
 use tcp_segment::{is_link_read, segment};
 use tcp_streams::Streams;
 
-/// Reads the packets of a capture: a listener is told of their times and of what their segments do to the connections, and
-/// another of what isn't read, and of what there is no room for.
+/// Reads the packets of a capture. One listener is told of their times, and of what their segments do to the connections.
+/// Another one is told what isn't read, and what there is no room for.
 #[derive(Drop)]
 pub struct PacketReader<L: CaptureListener + Drop, N: Notices + Drop> {
     connections: Connections,
@@ -32,7 +32,7 @@ pub struct PacketReader<L: CaptureListener + Drop, N: Notices + Drop> {
     notices: N,
 }
 
-/// What a failed listener is to whoever hands packets on.
+/// Turns the failure of a listener into the failure that those who hand packets on know.
 fn heard(answer: Result<(), ListenerFault>) -> Result<(), OutFault>
     ensures { result ≡ elim answer [ Ok value ↦ Ok value | Err fault ↦ Err (record {}) ] }
 {
@@ -42,7 +42,7 @@ fn heard(answer: Result<(), ListenerFault>) -> Result<(), OutFault>
     }
 }
 
-/// The first packet of a link type that isn't read is told.
+/// Gives a notice of a link type that isn't read, when its first packet comes.
 fn note_link<N: Notices>(unread: &mut UnreadLinks, notices: &mut N, link: u16)
     ensures items { unread.new.told.items ≡ links_noted unread.old.told.items link }
     ensures told { (told : List Notice) → N.told notices.old told
@@ -54,7 +54,7 @@ fn note_link<N: Notices>(unread: &mut UnreadLinks, notices: &mut N, link: u16)
 }
 
 impl<L: CaptureListener + Drop, N: Notices + Drop> PacketReader<L, N> {
-    /// No packet was read, and nothing told.
+    /// Makes a reader that has read no packet and given no notice.
     pub fn new(connections: Connections, streams: Streams<L>, notices: N) -> PacketReader<L, N>
         ensures { (w : State) → IsState (L.observed streams.listener) streams.live.items connections
             w
@@ -70,7 +70,7 @@ impl<L: CaptureListener + Drop, N: Notices + Drop> PacketReader<L, N> {
         }
     }
 
-    /// The capture has a fault, and ends there.
+    /// Tells the listener that the capture has a fault, and ends there.
     pub fn has_fault(&mut self, fault: CaptureFault) -> Result<(), OutFault>
         ensures does { (w : State) → IsState (L.observed self.old.streams.listener)
             self.old.streams.live.items self.old.connections w
@@ -83,7 +83,7 @@ impl<L: CaptureListener + Drop, N: Notices + Drop> PacketReader<L, N> {
         heard(self.streams.listener.has_fault(fault))
     }
 
-    /// The capture ends: its streams close.
+    /// Ends the capture: its streams close.
     pub fn end(&mut self) -> Result<(), OutFault>
         requires state { HasState (L.observed self.old.streams.listener)
             self.old.streams.live.items self.old.connections }
@@ -97,8 +97,8 @@ impl<L: CaptureListener + Drop, N: Notices + Drop> PacketReader<L, N> {
         heard(self.connections.end(&mut self.streams))
     }
 
-    /// What is still to be written is, with how many packets and octets the capture has. Answers whether the listener was told
-    /// of a fault, or of a stream that was cut.
+    /// Lets the listener write what is still due, with the number of packets and octets of the capture. Returns whether the
+    /// listener was told of a fault, or of a stream that was cut.
     pub fn finish(&mut self, packets: u64, octets: u64) -> Result<bool, OutFault>
         ensures value { IfOk result
             (λ is_faulty. is_faulty ≡ L.faulty self.old.streams.listener) }
@@ -114,7 +114,7 @@ impl<L: CaptureListener + Drop, N: Notices + Drop> PacketReader<L, N> {
         }
     }
 
-    /// The listener.
+    /// Gives the listener back.
     pub fn into_listener(self) -> L
         ensures { result ≡ self.streams.listener }
     {

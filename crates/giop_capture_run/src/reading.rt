@@ -1,4 +1,4 @@
-//! The packets of a capture, from a source to a listener, in the order of the capture.
+//! The packets of a capture, read from a source and given to a listener in their order.
 
 ghost use Rattle.std.specs.Prelude.{◌≡◌, ◌≢◌, ◌⊎◌, ◌+◌, ◌<◌, ◌≤◌, ◌^◌, List, ℕ, [], ◌∷◌, ◌++◌, length, OnOk, OnErr, IfOk, IfErr, Err};
 ghost use Rattle.capture_file.specs.CaptureState.{Reads, octets_of};
@@ -13,11 +13,11 @@ use giop_run::{RunFault, Source};
 /// The greatest number of reads: 2^40.
 const TURNS: u64 = 1 << 40;
 
-/// How many octets a read may give.
+/// The greatest number of octets that a read may give.
 const ROOM: usize = 16_384;
 
-/// Hands on the packets that octets of a capture complete. Answers whether the reading goes on: it does not after a fault of
-/// the capture, which no more octets are read of.
+/// Gives the listener the packets that these octets complete. Returns whether the reading goes on. It doesn't after a fault
+/// of the capture: no more octets of the capture are read then.
 fn hand_on<L: PacketListener>(
     capture: &mut Capture,
     octets: &[u8],
@@ -45,7 +45,7 @@ fn hand_on<L: PacketListener>(
     }
 }
 
-/// Reads once, and hands on the packets that are complete with it. Answers whether the reading goes on.
+/// Reads once, and gives the listener the packets that the read completes. Returns whether the reading goes on.
 fn read_once<S: Source, L: PacketListener>(
     source: &mut S,
     capture: &mut Capture,
@@ -89,8 +89,8 @@ fn flush<L: PacketListener>(to: &mut L) -> Result<(), RunFault>
     }
 }
 
-/// Reads a capture of which nothing was read from a source, and hands on its packets, up to the end of the source or to a fault
-/// of the capture. The listener is flushed before each read.
+/// Reads a capture from a source, from the beginning, and gives its packets to the listener, up to the end of the source or
+/// to a fault of the capture. The listener is flushed before each read.
 pub fn read_packets<S: Source, L: PacketListener>(
     source: &mut S,
     capture: &mut Capture,

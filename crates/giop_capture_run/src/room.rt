@@ -1,4 +1,4 @@
-//! The memory of a reader of packets, which is taken before the first octet of the capture is read.
+//! The memory of a reader of packets. It is taken before the first octet of the capture is read.
 
 ghost use Rattle.std.specs.Prelude.{[], IfOk};
 ghost use Rattle.tcp_connections.specs.Connections.{none_known};
@@ -12,8 +12,8 @@ use std::alloc::{AllocError, Global};
 use tcp_connections::Connections;
 use tcp_streams::Streams;
 
-/// A reader of packets that has read none, with as many connections and blocks as are asked for, and for the ports that are. No
-/// other call takes memory.
+/// Makes a reader that has read no packet, with the connections, the blocks and the ports that the arguments ask for. No
+/// later call takes memory.
 pub fn packet_reader<L: CaptureListener + Drop, N: Notices + Drop>(
     alloc: Global,
     asked: Arguments,

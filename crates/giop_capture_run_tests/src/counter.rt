@@ -4,7 +4,7 @@ use capture_file::Packet;
 use giop_capture_run::PacketListener;
 use giop_print::OutFault;
 
-/// What came to a listener. It fails at its packet of this number.
+/// What a listener has got. It fails at the packet of this number.
 #[derive(Clone, Copy, Debug, PartialEq, Eq)]
 pub struct Counter {
     pub packets: u32,
@@ -15,7 +15,7 @@ pub struct Counter {
 }
 
 impl Counter {
-    /// Nothing came so far.
+    /// Makes a listener that has got nothing yet.
     pub fn new(fails_at: u32) -> Counter {
         Counter {
             packets: 0,

@@ -1,4 +1,4 @@
-//! Tests of the reading of a capture from a source, and of the link types that are told.
+//! Tests of how a capture is read from a source, and of the link types that a notice is given of.
 #![tactic(auto)]
 
 #[cfg(test)]

@@ -1,4 +1,4 @@
-//! Which link types are told.
+//! The link types that a notice is given of.
 
 use giop_capture_run::UnreadLinks;
 

@@ -1,4 +1,4 @@
-//! A capture of two packets, read in pieces of some sizes.
+//! A capture of two packets, read in pieces of several sizes.
 
 use super::counter::Counter;
 use capture_file::{Capture, CaptureFault, FaultKind, OtherFile};
@@ -6,8 +6,8 @@ use giop_capture_run::read_packets;
 use giop_run::{Piecewise, RunFault};
 use std::test::Fail;
 
-/// A pcap file of microseconds, little-endian, of link type 1: packets of 3 and of 2 octets, the first one second and two
-/// microseconds after 1970, the second two seconds after it.
+/// A little-endian pcap file with microseconds and link type 1. It has a packet of 3 octets, one second and two
+/// microseconds after 1970 began, and a packet of 2 octets, two seconds after 1970 began.
 const CAPTURE: &[u8] = b"\xd4\xc3\xb2\xa1\x02\0\x04\0\0\0\0\0\0\0\0\0\0\0\x04\0\x01\0\0\0\
 \x01\0\0\0\x02\0\0\0\x03\0\0\0\x03\0\0\0abc\
 \x02\0\0\0\0\0\0\0\x02\0\0\0\x02\0\0\0de";

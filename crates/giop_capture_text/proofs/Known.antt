@@ -1,4 +1,4 @@
--- What is known of a reader at its end, of a writer whose buffer is empty, and of a dump at every
+-- What is known of a reader at its end, of a writer with an empty buffer, and of a dump at every
 -- port.
 use Rattle.std.proofs.Common.{◌≡◌, ℕ, Bool, List, [], ◌++◌, length, Option, Some, None, ◌⊎◌, inl, inr, append_assoc, append-nil, sym, ap, subst, ◌∙◌}
 use Rattle.std.specs.Io.KnownBytes.{Consumes, IsAtEnd, append_known}
@@ -9,8 +9,8 @@ use Rattle.giop_capture_run.specs.Arrivals.{capture_ended}
 use Rattle.giop_capture_program.specs.Text.{HasText}
 use Rattle.giop_capture_text.specs.Dumps.{plain_setup}
 
--- what was given of known octets, and what was read of it: either nothing was left, or there is
--- another reason to stop
+-- of known octets, these were read; either nothing is left of them, or there is another reason to
+-- stop
 pub record Front (X : Type 0) (all read : List ℕ) : Type 0 where
   pub rest : List ℕ
   pub parts : all ≡ read ++ rest
@@ -39,14 +39,14 @@ front before after all given read rest known consumed parts over =
     front_by after all given read rest (subst (λ b. Consumes b after given) known consumed) parts
     over
 
--- of octets that are known, all are in a writer whose buffer is empty
+-- if the buffer of a writer is empty, the writer has all octets that were put
 pub held : (put : Option (List ℕ)) (items kept text : List ℕ) → put ≡ Some text
     → append_known (Some items) kept ≡ put → kept ≡ [] → Some items ≡ Some text
 held put items kept text known seen none =
     ap Some (sym (append-nil items)) ∙ subst (λ k. append_known (Some items) k ≡ put) none seen
     ∙ known
 
--- the text of a capture where streams begin at these ports
+-- the text of a capture, if streams begin at these ports
 abbrev pub TextAt : (ports read : List ℕ) (faulty : Bool) (put : Option (List ℕ)) → Type 0
 TextAt ports read faulty put =
     HasText plain_setup [] (capture_ended stream_reader (none_known ports 16384 1024 [])

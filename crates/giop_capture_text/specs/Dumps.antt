@@ -1,5 +1,5 @@
--- What a dump of a capture in memory is, by the built-in types and the limits without words
--- (meaning).
+-- What a dump of a capture in memory is, with the built-in types and the limits that hold without
+-- arguments (meaning).
 use Rattle.std.specs.Prelude.{◌≡◌, ℕ, Bool, List, [], ◌++◌, length, Some, IsSome, ◌⊎◌}
 use Rattle.capture_file.specs.Reading.{packets, fault, final_fault}
 use Rattle.giop_sig.specs.Builtin.{builtin_table}
@@ -11,14 +11,15 @@ use Rattle.giop_capture_run.specs.Arrivals.{capture_ended}
 use Rattle.giop_capture_run.specs.CaptureRun.{ending_of}
 use Rattle.giop_capture_program.specs.Text.{HasText}
 
--- 16 open messages a stream, 128 outstanding calls a flow, 1,024 connections
+-- 16 open messages for each stream, 128 outstanding calls for each flow, 1,024 connections; the
+-- first stream is s1
 abbrev pub plain_setup : Setup
 plain_setup = setup builtin_table 16 128 1024 1
 
--- A text is that of what a capture's packets, its fault and its end do to no known connections,
--- with its last line, and no more;
--- after its fault nothing of it was read, and without one it was read to its end. The ending says
--- whether it has a fault, or a stream that was cut.
+-- The text is the text of what the capture's packets, its fault and its end do if no connection was
+-- known before, then the capture's last line, and nothing else. If the capture has a fault, nothing
+-- was read after it; else it was read to its end. The ending says whether there was a fault, or a
+-- stream that was cut.
 pub record IsDumpOf (capture : List ℕ) (ending : Ending) (text : List ℕ) : Type 0 where
   pub read : List ℕ
   pub rest : List ℕ

@@ -1,4 +1,4 @@
-//! The text of a capture in memory, by the steps of `giopcap`.
+//! The text of a capture, made in memory by the steps of `giopcap`.
 
 ghost use Rattle.std.specs.Prelude.{IfSome};
 ghost use Rattle.giop_capture_text.specs.Dumps.{IsDumpOf};
@@ -10,7 +10,7 @@ use giop_capture_run::{Arguments, Ending};
 use giop_run::Lines;
 use std::alloc::Global;
 
-/// A dump by the built-in types and without words begins where nothing was written.
+/// A dump with the built-in types and without arguments begins when nothing was written before.
 pub struct Empty;
 
 impl Beginning for Empty {
@@ -20,7 +20,7 @@ impl Beginning for Empty {
     ghost begins = { λ S written. (S ≡ plain_setup) × (written ≡ []) };
 }
 
-/// How the dump of a capture ended, and its text. None where anything fails.
+/// How the dump of a capture ended, and its text. If anything fails, there is none.
 pub fn text_of(alloc: Global, capture: &[u8]) -> Option<(Ending, Vec<u8>)>
     ensures { IfSome result (λ dump. IsDumpOf capture.now dump.0 dump.1.items) }
 {

@@ -1,8 +1,9 @@
-//! Dumps a capture of its standard input into memory, by the steps of `giopcap` without words, and prints what stands there
-//! then. `perform_capture` says what it has put where it is known what its writer held before; here it is known, and so `text_of`
-//! says that the text in memory is that of the capture, and no more, and whether that has a fault.
+//! Dumps a capture from standard input into memory, by the steps of `giopcap` without arguments, and prints what then
+//! stands in memory. `perform_capture` says exactly what it has put only if it is known what its writer held before. Here
+//! that is known. So `text_of` says that the text in memory is the text of the capture, and nothing else, and whether the
+//! capture has a fault.
 //!
-//! The status is 0 or 1 where there is a text, as that of `giopcap` would be.
+//! If there is a text, the status is 0 or 1, as `giopcap` would have it.
 #![tactic(auto)]
 
 mod dumping;
@@ -13,7 +14,7 @@ use giop_capture_run::Ending;
 use giop_run::{Inputs, front};
 use std::process::ExitCode;
 
-/// How many octets the capture has at most.
+/// The greatest size of the capture, in octets.
 const MOST: u64 = 16_777_216;
 
 fn main(rt: HostRuntime) -> ExitCode {

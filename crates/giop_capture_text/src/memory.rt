@@ -1,4 +1,4 @@
-//! What the steps of `giopcap` are handed in place of the system: a capture in memory, and nobody who is told what isn't in its lines.
+//! What the steps of `giopcap` get in place of the system: a capture in memory, and somebody who ignores the notices.
 
 ghost use Rattle.std.specs.Prelude.{◌≡◌, None, Some};
 ghost use Rattle.std.specs.declared.io.ErrorKind.TheVariants.{NotFound};
@@ -9,7 +9,7 @@ use std::alloc::Global;
 use std::io;
 use std::io::ErrorKind;
 
-/// Standard input has these octets, and there are no files.
+/// A system in which standard input has these octets, and there are no files.
 #[derive(Clone, Copy)]
 pub struct Memory<'a> {
     pub alloc: Global,
@@ -44,7 +44,7 @@ impl<'a> Inputs for Memory<'a> {
     }
 }
 
-/// Nobody is told what isn't in the lines.
+/// Gets the notices, and ignores them.
 #[derive(Drop)]
 pub struct Nobody;
 

@@ -1,4 +1,4 @@
--- Laws of the numbers that octets spell: one octet more, and their bounds.
+-- Laws of the numbers that octets are: with one more octet, and their bounds.
 use Rattle.std.proofs.Common.{◌≡◌, ℕ, suc, ◌+◌, ◌*◌, ◌^◌, ◌<◌, ◌≤◌, List, [], ◌∷◌, ◌++◌, length, reverse, refl, arith, pow-suc}
 use Rattle.std.proofs.lemmas.List.{reverse-append, length-reverse}
 use Rattle.std.proofs.Math.Nat.{mul-le-mul_left}
@@ -6,7 +6,7 @@ use Rattle.giop_cdr.specs.declared.order.Order.{Order}
 use Rattle.giop_cdr.specs.declared.order.Order.TheVariants.{Big, Little}
 use Rattle.giop_cdr.specs.Numbers.{AreOctets, little, num}
 
--- no octets spell 0
+-- no octets are the number 0
 pub num-nil : (order : Order) → num order [] ≡ 0
 unfolding num
 num-nil Big = refl
@@ -16,12 +16,12 @@ little-push : (xs : List ℕ) (x : ℕ) → little (xs ++ x ∷ []) ≡ little x
 little-push [] x = omega arith
 little-push (y ∷ xs) x = rw (little-push xs x, pow-suc) (omega arith)
 
--- one octet more in front, which is the least significant
+-- one more octet in front, which is the least significant one
 pub num_little-cons : (x : ℕ) (xs : List ℕ) → num Little (x ∷ xs) ≡ x + 256 * num Little xs
 unfolding num
 num_little-cons x xs = refl
 
--- one octet more in front, which is the most significant
+-- one more octet in front, which is the most significant one
 pub num_big-cons : (x : ℕ) (xs : List ℕ) → num Big (x ∷ xs) ≡ x * 256 ^ length xs + num Big xs
 unfolding num
 num_big-cons x xs =
@@ -34,14 +34,15 @@ first_octet x xs h = h 0 0 (omega arith)
 octets_after : (x : ℕ) (xs : List ℕ) → AreOctets (x ∷ xs) → AreOctets xs
 octets_after x xs h = λ k d below. h (suc k) d (omega arith)
 
--- one more significant octet in front stays below one power more
+-- with one more octet in front, which is the most significant one, the number is below one more
+-- power
 below_power : (x n power : ℕ) → x < 256 → n < power → x * power + n < power * 256
 below_power x n power octet below = omega (arith, mul-le-mul_left power (le_pred x octet))
   where
     le_pred : (x : ℕ) → x < 256 → x ≤ 255
     le_pred x h = omega arith
 
--- octets spell a number below 256 to the power of their count
+-- octets are a number below 256 to the power of their count
 pub num_bound : (order : Order) (xs : List ℕ) → AreOctets xs → num order xs < 256 ^ length xs
 num_bound Big [] h = rw num-nil (omega arith)
 num_bound Little [] h = rw num-nil (omega arith)
@@ -51,7 +52,7 @@ num_bound Big (x ∷ xs) h = rw (num_big-cons, pow-suc)
 num_bound Little (x ∷ xs) h = rw (num_little-cons, pow-suc)
     (omega (arith, num_bound Little xs (octets_after x xs h), first_octet x xs h))
 
--- four octets spell a number of 32 bits
+-- four octets are a number of 32 bits
 pub num_bound-4 : (order : Order) (xs : List ℕ) → AreOctets xs → length xs ≡ 4 →
     num order xs < 2 ^ 32
 num_bound-4 order xs h e = let b : num order xs < 256 ^ 4 = rw e at (num_bound order xs h) in

@@ -1,22 +1,22 @@
--- Laws of the padding that is computed: its value by the remainder, that it aligns an offset, and
--- that it depends on the offset modulo 8 only.
+-- Laws of the padding that is computed: its value by the remainder; that it aligns an offset; and
+-- that it depends only on the offset modulo 8.
 use Rattle.std.proofs.Common.{◌≡◌, ◌≢◌, ℕ, ◌+◌, ◌-◌, ◌%◌, inl, inr, sym, arith}
 use Rattle.giop_cdr.specs.Alignment.{IsAlignment, padding}
 
--- each size of an alignment is one of four: what holds of them holds of it
+-- an alignment has one of four sizes: what holds for all four holds for it
 pub by_alignment : (P : ℕ → Type 0) (size : ℕ) → IsAlignment size → P 1 → P 2 → P 4 → P 8 → P size
 by_alignment P size (inl e) p1 p2 p4 p8 = rw e p1
 by_alignment P size (inr (inl e)) p1 p2 p4 p8 = rw e p2
 by_alignment P size (inr (inr (inl e))) p1 p2 p4 p8 = rw e p4
 by_alignment P size (inr (inr (inr e))) p1 p2 p4 p8 = rw e p8
 
--- no padding where the offset is a multiple of the size
+-- there is no padding if the offset is a multiple of the size
 pub padding-aligned : (at size : ℕ) → IsAlignment size → at % size ≡ 0 → padding at size ≡ 0
 unfolding padding
 padding-aligned at size h = by_alignment (λ n. at % n ≡ 0 → (n - at % n) % n ≡ 0) size h
     (λ e. omega arith) (λ e. omega arith) (λ e. omega arith) (λ e. omega arith)
 
--- else what the remainder lacks of the size
+-- else the padding and the remainder together are the size
 pub padding-remainder : (at size : ℕ) → IsAlignment size → at % size ≢ 0 →
     padding at size + at % size ≡ size
 unfolding padding
@@ -30,7 +30,7 @@ unfolding padding
 padding_aligns at size h = by_alignment (λ n. (at + (n - at % n) % n) % n ≡ 0) size h (omega arith)
     (omega arith) (omega arith) (omega arith)
 
--- padding depends on the offset modulo 8 only
+-- padding depends only on the offset modulo 8
 pub padding-modulo : (at place size : ℕ) → IsAlignment size → at % 8 ≡ place % 8 →
     padding at size ≡ padding place size
 unfolding padding
@@ -38,7 +38,7 @@ padding-modulo at place size h =
     by_alignment (λ n. at % 8 ≡ place % 8 → (n - at % n) % n ≡ (n - place % n) % n) size h
     (λ e. omega arith) (λ e. omega arith) (λ e. omega arith) (λ e. omega arith)
 
--- `pad` computes it by the remainder
+-- `pad` computes the padding by the remainder
 pub padding-none : (at size : ℕ) → IsAlignment size → at % size ≡ 0 → 0 ≡ padding at size
 padding-none at size h e = sym (padding-aligned at size h e)
 

@@ -1,5 +1,5 @@
--- The code's loop over the octets of a number: at each octet 256 times the number so far, plus the
--- octet.
+-- The code's loop over the octets of a number: at each octet the number becomes 256 times the
+-- number before, plus the octet.
 use Rattle.std.proofs.Common.{◌≡◌, ℕ, zero, suc, ◌+◌, ◌-◌, ◌*◌, ◌^◌, ◌<◌, ◌≤◌, List, length, take, drop, get_or, reverse, ◌∙◌, ap, arith, add-zero, add-one, pow-suc, add-suc, le_refl}
 use Rattle.std.proofs.lemmas.List.{take_more, take_all, drop_more, reverse-append}
 use Rattle.giop_cdr.specs.declared.order.Order.TheVariants.{Big, Little}
@@ -24,7 +24,7 @@ pub little_all : (xs : List ℕ) (n : ℕ) → n ≡ little (drop 0 xs) → n �
 unfolding num
 little_all xs n e = e
 
--- one octet more stays within one power more
+-- with one more octet, the number is below one more power
 pub spelled_bound : (k n x : ℕ) → n < 256 ^ k → x < 256 → n * 256 + x < 256 ^ (k + 1)
 spelled_bound k n x h l = rw (add-one, pow-suc) (omega arith)
 
@@ -32,7 +32,7 @@ pow_le : (d k : ℕ) → 256 ^ k ≤ 256 ^ (k + d)
 pow_le zero k = rw add-zero (le_refl (256 ^ k))
 pow_le (suc d) k = rw (add-suc, pow-suc) (omega (arith, pow_le d k))
 
--- fewer than 8 octets leave room for one more in 64 bits
+-- a number of fewer than 8 octets leaves room for one more octet in 64 bits
 pub spelled_small : (k n : ℕ) → n < 256 ^ k → k < 8 → n < 2 ^ 56
 spelled_small k n h below =
     let e : k + (7 - k) ≡ 7 = omega arith in

@@ -11,6 +11,7 @@ pub record IsPadding (at size count : ℕ) : Type 0 where
   pub aligned : (at + count) % size ≡ 0
   pub least : (k : ℕ) → (at + k) % size ≡ 0 → count ≤ k
 
--- that number, as it is computed; the contract of `pad` has that it is the least
+-- the number of octets of padding, as it is computed; the contract of `pad` says that it is the
+-- least one
 unfoldable pub padding : ℕ → ℕ → ℕ
 padding at size = (size - at % size) % size

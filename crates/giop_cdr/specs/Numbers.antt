@@ -1,4 +1,4 @@
--- The number that octets spell, and its value as a primitive (CDR Transfer Syntax, Primitive Types;
+-- The number that octets are, and its value as a primitive (CDR Transfer Syntax, Primitive Types;
 -- meaning).
 use Rattle.std.specs.Prelude.{ℕ, ◌+◌, ◌-◌, ◌*◌, ◌^◌, ◌<◌, ◌==◌, ℤ, pos, ◌-ℤ◌, true, false, if◌then◌else◌, nat_lt, List, [], ◌∷◌, reverse, All, Option, Some, None}
 use Rattle.giop_cdr.specs.declared.order.Order.{Order}
@@ -12,19 +12,19 @@ use Rattle.giop_cdr.specs.declared.number.Number.TheVariants as numbers
 abbrev pub AreOctets : List ℕ → Type 0
 AreOctets xs = All (λ x. x < 256) xs
 
--- the whole number that octets spell in base 256, the least significant first
+-- the whole number that octets are in base 256, the least significant octet first
 abbrev pub little : List ℕ → ℕ
 little [] = 0
 little (x ∷ xs) = x + 256 * little xs
 
--- the whole number that octets spell in base 256, the most significant first for Big and last for
--- Little
+-- the whole number that octets are in base 256; the most significant octet is first for Big and
+-- last for Little
 unfoldable pub num : Order → List ℕ → ℕ
 num Big octets = little (reverse octets)
 num Little octets = little octets
 
--- the signed number that a number of so many octets is in two's complement: less 2 to its bits
--- where the most significant bit is set
+-- the signed number that a number of this many octets is in two's complement: if its most
+-- significant bit is set, it is less by 2 to the number of its bits
 unfoldable pub twos_complement : ℕ → ℕ → ℤ
 twos_complement size n = if nat_lt n (2 ^ (8 * size - 1)) then pos n else
     (pos n -ℤ pos (2 ^ (8 * size)))
@@ -34,7 +34,7 @@ abbrev pub truth_of : ℕ → Option Number
 truth_of n = if n == 0 then Some (numbers.Truth false) else
     (if n == 1 then Some (numbers.Truth true) else None)
 
--- what a whole number is as a primitive: none for a boolean above 1
+-- the value that a whole number is as a primitive; a boolean above 1 has none
 abbrev pub interpreted_as : Primitive → ℕ → Option Number
 interpreted_as prims.Octet n = Some (numbers.Unsigned n)
 interpreted_as prims.Char n = Some (numbers.Char n)
@@ -48,6 +48,6 @@ interpreted_as prims.ULongLong n = Some (numbers.Unsigned n)
 interpreted_as prims.Float n = Some (numbers.Bits n)
 interpreted_as prims.Double n = Some (numbers.Bits n)
 
--- the number of a primitive's octets
+-- the value that octets are as a primitive
 abbrev pub number_of : Primitive → Order → List ℕ → Option Number
 number_of prim order octets = interpreted_as prim (num order octets)

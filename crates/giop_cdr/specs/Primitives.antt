@@ -3,7 +3,7 @@ use Rattle.std.specs.Prelude.{ℕ}
 use Rattle.giop_cdr.specs.declared.prim.Primitive.{Primitive}
 use Rattle.giop_cdr.specs.declared.prim.Primitive.TheVariants.{Octet, Char, Boolean, Short, UShort, Long, ULong, LongLong, ULongLong, Float, Double}
 
--- how many octets a primitive takes; it is aligned to that
+-- how many octets a primitive has; it is aligned to this number too
 abbrev pub size_of : Primitive → ℕ
 size_of Octet = 1
 size_of Char = 1

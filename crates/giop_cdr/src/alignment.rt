@@ -1,10 +1,10 @@
-//! Padding in front of an aligned value.
+//! The padding before an aligned value.
 
 ghost use Rattle.std.specs.Prelude.{◌≡◌};
 ghost use Rattle.giop_cdr.specs.Alignment.{IsAlignment, IsPadding, padding};
 
-/// How many octets of padding stand in front of a value of this size. The offset counts from the first octet of the
-/// message, and each of 64 bits is exact.
+/// How many octets of padding come before a value of this size. The offset counts from the first octet of the message; each
+/// offset of 64 bits gives the exact result.
 #[tactic(auto, using(crate::proofs::PaddingLaws::padding_counts))]
 pub fn pad(at: u64, size: u8) -> u8
     requires { IsAlignment size }

@@ -1,4 +1,4 @@
-//! A carry: the octets so far of a number that comes octet by octet.
+//! A carry: the octets that have come of a number that comes octet by octet.
 
 ghost use Rattle.std.specs.Prelude.{◌≡◌, ℕ, ◌<◌, ◌≤◌, ◌↔◌, List, [], ◌∷◌, ◌++◌, length, IsTrue, IfOk, IsErr, Some};
 ghost use Rattle.giop_cdr.specs.Numbers.{AreOctets, num, number_of};
@@ -12,7 +12,7 @@ use crate::prim::{Prim, size};
 use arrayvec::ArrayVec;
 use std::marker::Model;
 
-/// The octets of a number that have come so far, at most 8. A contract sees the list of the octets held.
+/// The octets that have come of a number, at most 8. A contract sees the list of the octets that are held.
 #[derive(Clone, Debug, Default, Drop, PartialEq, Eq)]
 pub struct Carry {
     octets: ArrayVec<u8, 8>,
@@ -32,7 +32,7 @@ impl Model for Carry {
 }
 
 impl Carry {
-    /// A carry that holds nothing.
+    /// Makes a carry that holds no octet.
     pub fn new() -> Carry
         ensures { result ≡ [] }
     {
@@ -72,7 +72,7 @@ impl Carry {
         self.octets.clear();
     }
 
-    /// Takes one octet more.
+    /// Takes one more octet.
     pub fn push(&mut self, octet: u8)
         requires { length self.old < 8 }
         ensures { self.new ≡ self.old ++ octet ∷ [] }
@@ -80,18 +80,18 @@ impl Carry {
         self.octets.push(octet);
     }
 
-    /// Whether as many octets are held as the primitive takes.
+    /// Whether the carry holds as many octets as the primitive has.
     pub fn is_full_for(&self, prim: Prim) -> bool
         ensures { IsTrue result ↔ (length self.now ≡ size_of prim) }
     {
         self.len() == usize::from(size(prim))
     }
 
-    /// The number that the held octets spell, as the primitive for which the carry is full.
+    /// The number that the held octets are, as the primitive that the carry is full for.
     pub fn value(&self, order: Order, prim: Prim) -> Result<Number, CdrFault>
         requires { length self.now ≡ size_of prim }
         ensures ok { IfOk result (λ number. number_of prim order self.now ≡ Some number) }
-        // The only refusal is a boolean above 1.
+        // Only a boolean above 1 is refused.
         ensures err { IsErr result ↔ ((prim ≡ prims.Boolean) × (1 < num order self.now)) }
         ensures octets { AreOctets self.now }
     {

@@ -1,4 +1,4 @@
-//! The refusals of a number.
+//! The refusal of a number.
 
 use thiserror::Error;
 

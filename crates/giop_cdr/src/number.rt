@@ -1,4 +1,4 @@
-//! The number that octets spell, and its value as a primitive.
+//! The number that octets are, and its value as a primitive.
 
 ghost use Rattle.std.specs.Prelude.{◌≡◌, ◌^◌, ◌<◌, ◌≤◌, ◌↔◌, length, IfOk, IsErr, Some};
 ghost use Rattle.giop_cdr.specs.declared.order.Order.TheVariants as orders;
@@ -13,31 +13,31 @@ use crate::prim::Prim;
 /// The value of a primitive.
 #[derive(Clone, Copy, Debug, PartialEq, Eq, Hash)]
 pub enum Number {
-    /// Of an octet or an unsigned integer.
+    /// The value of an octet or an unsigned integer.
     Unsigned(u64),
-    /// Of a signed integer.
+    /// The value of a signed integer.
     Signed(i64),
-    /// Of a float (the lower 32 bits) or a double: its bits.
+    /// The bits of a float (the lower 32) or a double.
     Bits(u64),
-    /// Of a boolean.
+    /// The value of a boolean.
     Truth(bool),
-    /// Of a char: its octet.
+    /// The octet of a char.
     Char(u8),
 }
 
-/// The number that the octets of a primitive spell, as that primitive.
+/// The value that the octets of a primitive are, as that primitive.
 #[inline(always)]
 pub fn number_of(order: Order, prim: Prim, octets: &[u8]) -> Result<Number, CdrFault>
     requires { length octets.now ≡ size_of prim }
     ensures ok { IfOk result (λ number. number_of prim order octets.now ≡ Some number) }
-    // The only refusal is a boolean above 1.
+    // Only a boolean above 1 is refused.
     ensures err { IsErr result ↔ ((prim ≡ prims.Boolean) × (1 < num order octets.now)) }
     ensures octets { AreOctets octets.now }
 {
     interpreted(prim, spelled(order, octets))
 }
 
-/// The number that octets spell.
+/// The whole number that octets are in this byte order.
 #[inline(always)]
 fn spelled(order: Order, octets: &[u8]) -> u64
     requires { length octets.now ≤ 8 }
@@ -50,7 +50,7 @@ fn spelled(order: Order, octets: &[u8]) -> u64
     }
 }
 
-/// The value of that primitive which a number of its size spells.
+/// The value of a primitive that a whole number of its size is.
 #[inline(always)]
 #[tactic(auto, unfolding(crate::specs::Numbers::twos_complement))]
 fn interpreted(prim: Prim, n: u64) -> Result<Number, CdrFault>
@@ -73,7 +73,7 @@ fn interpreted(prim: Prim, n: u64) -> Result<Number, CdrFault>
     })
 }
 
-/// The number that octets spell, the most significant first.
+/// The whole number that octets are, the most significant octet first.
 #[inline(always)]
 #[tactic(auto, using(crate::proofs::Spelling::spelling_steps))]
 fn heaviest_first(octets: &[u8]) -> u64
@@ -88,7 +88,7 @@ fn heaviest_first(octets: &[u8]) -> u64
     n
 }
 
-/// The number that octets spell, the least significant first.
+/// The whole number that octets are, the least significant octet first.
 #[inline(always)]
 #[tactic(auto, using(crate::proofs::Spelling::spelling_steps))]
 fn lightest_first(octets: &[u8]) -> u64

@@ -3,7 +3,7 @@
 ghost use Rattle.std.specs.Prelude.{◌≡◌};
 ghost use Rattle.giop_cdr.specs.Primitives.{size_of};
 
-/// A type of one number (CDR Transfer Syntax, Primitive Types).
+/// The type of a single number (CDR Transfer Syntax, Primitive Types).
 #[derive(Clone, Copy, Debug, PartialEq, Eq, Hash)]
 pub enum Primitive {
     /// An octet that is never converted.
@@ -30,10 +30,10 @@ pub enum Primitive {
     Double,
 }
 
-/// The name by which the functions use it.
+/// The name that the functions use for it.
 pub type Prim = Primitive;
 
-/// How many octets a primitive takes, which is also what it is aligned to.
+/// How many octets a primitive has. It is aligned to this number too.
 pub fn size(prim: Prim) -> u8
     ensures { result ≡ size_of prim }
 {

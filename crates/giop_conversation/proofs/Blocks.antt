@@ -1,4 +1,4 @@
--- The octets of a tag at the end of its room.
+-- The octets of a tag are the end of the array that it stands in.
 use Rattle.std.proofs.Common.{◌≡◌, ℕ, ◌+◌, ◌-◌, ◌≤◌, List, length, drop, ap, ◌∙◌, arith, length-drop}
 use Rattle.std.proofs.lemmas.List.{drop-drop, take_all}
 use borrow.Rule.Slice.PartMut.{mid_of}

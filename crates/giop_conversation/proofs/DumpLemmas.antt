@@ -1,4 +1,4 @@
--- What connections hold of a dump, after one more event.
+-- What connections hold of a dump after one more event.
 use Rattle.std.proofs.Common.{arith, ◌≡◌, ℕ, zero, suc, Bool, true, false, List, [], ◌∷◌, ◌++◌, Some, None, refl, ap, slice_get, set, replicate, ◌==◌, Result, MatchResult}
 use Rattle.tcp_flow.specs.Flow.{Event}
 use Rattle.giop_message.specs.Signatures.{Answers}
@@ -75,7 +75,7 @@ held_push S (r' ∷ rs) (suc n) r c held new = (held.0, held_push S rs n r c hel
 
 -- ---- the two flows of a connection
 
--- by its two flows and its calls
+-- a conversation holds a connection if it holds its two flows and its calls
 pub holds_by : (S : Setup) (side : Side) (r : Conversation) (c : Connection) →
     r.side ≡ side →
     HoldsHalf S (direction side r) (half side c) →
@@ -84,7 +84,7 @@ pub holds_by : (S : Setup) (side : Side) (r : Conversation) (c : Connection) →
 holds_by S Even r c here own opposite calls = search (arith)
 holds_by S Odd r c here own opposite calls = search (arith)
 
--- the calls as a stream of a flow is read
+-- the calls when a stream of a flow is read
 pub reading_is : (S : Setup) (side : Side) (arrival : Arrival) (c : Connection)
     (d : DirectionView) (s : Exchanged) →
     HoldsHalf S d (half side c) → HasCalls side s c →
@@ -134,7 +134,7 @@ delivered_holds S Even k a octets arrival new is holds table most stream live fl
 delivered_holds S Odd k a octets arrival new is holds table most stream live flow opposite calls =
     search (arith)
 
--- the answers of a stream, and what the reading of it asks of them
+-- what is known of the answers of a stream before octets of it are read
 pub record GoesOn (S : Setup) (k : Connection) (side : Side) (octets : List ℕ)
     (arrival : Arrival) (d : DirectionView)
     (t : Exchanged) (a : Answers) : Type 0 where

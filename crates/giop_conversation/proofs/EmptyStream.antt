@@ -1,4 +1,4 @@
--- A stream of which nothing has come.
+-- A stream before its first octet.
 use Rattle.std.proofs.Common.{◌≡◌, [], refl}
 use Rattle.giop_stream.specs.Rules.{Rules}
 use Rattle.giop_stream.specs.HeaderOctets.{fronts, wrong, first_wrong, first_wrong_octet}
@@ -7,13 +7,13 @@ use Rattle.giop_stream.specs.Lines.{in_order, up_to_last_line, lines_of_messages
 use Rattle.giop_stream.specs.Text as stream
 use Rattle.giop_stream.specs.Stream.{text, closing, is_truncated, is_inside, first_messages, unfinished, start_count, fault_count, tally, final}
 
--- nothing is written of it,
+-- no text is written of it
 pub no_text : (R : Rules) → text R [] ≡ []
 unfolding text stream.lines_text lines lines_of_messages in_order up_to_last_line stop_line cut
     limited limit cut_from first_wrong_octet fronts first_wrong wrong
 no_text R = refl
 
--- and at its end the same whatever it is read by
+-- its closing is the same by all rules
 pub one_closing : (R Q : Rules) → closing R [] ≡ closing Q []
 unfolding closing is_truncated is_inside first_messages unfinished start_count fault_count tally
     final messages read_of lines lines_of_messages in_order up_to_last_line stop_line cut limited

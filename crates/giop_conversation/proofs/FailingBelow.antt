@@ -1,9 +1,9 @@
--- What a put does to an out that has failed so often before.
+-- How often an out has failed after a put, by how often it had failed before.
 use Rattle.std.proofs.Common.{◌≡◌, ◌⊎◌, ◌<◌, ◌≤◌, ◌+◌, ℕ, Result, Ok, Err, inl, inr, ap, ◌∙◌, arith}
 use Rattle.giop_print.specs.Output.{counted}
 use Rattle.giop_conversation.specs.Failing.{Counts}
 
--- a failure is counted
+-- after a failure was counted, the count isn't 0
 pub counted_more : (n : ℕ) → 0 < counted n
 unfolding counted
 counted_more n = omega arith
@@ -11,7 +11,8 @@ counted_more n = omega arith
 pub some_failed : (before after : ℕ) → after ≡ counted before → 0 < after
 some_failed before after one = rw one (counted_more before)
 
--- what has not failed before fails once, or is full for even more octets
+-- if an out fails without having failed in an earlier step, it fails once, or is full for even more
+-- octets
 pub lost : (most before between after since few more : ℕ) (Full : Type 0) → between ≡ before →
     few ≤ more → (after ≡ counted between) ⊎ (Full × (most < since + few)) →
     (after ≡ counted before) ⊎ (Full × (most < since + more))

@@ -1,4 +1,4 @@
--- What an engine and an out with tags do where a put fails.
+-- What an engine and an out with tags do if a put fails.
 use Rattle.std.proofs.Common.{◌≡◌, ℕ, zero, suc, ◌<◌, true, false, List, Result, Ok, Err, refl, ◌∙◌, arith}
 use Rattle.std.proofs.lemmas.Bool.{false≢true}
 use Rattle.std.specs.Prelude.{OnOk, OnErr}
@@ -12,14 +12,14 @@ use Rattle.giop_conversation.proofs.FailingBelow.{counted_more, some_failed}
 use Rattle.giop_stream.specs.EngineView.{EngineView}
 use Rattle.giop_stream.specs.EngineHolds.{StopWrites, Leaves}
 
--- an engine that had not failed stops where a put fails
+-- if an engine had not failed and stops, a put has failed
 pub stop_counts : (A : Type 0) (why : Stop) (before after : OutLog) (due : List ℕ)
     (e e' : EngineView) → e.failed ≡ false → Leaves {A = A} (Err why) e e' →
     StopWrites {A = A} (Err why) before after due → after.failures ≡ counted before.failures
 stop_counts A (stop.Out f) before after due e e' sound leaves writes = writes.failures
 stop_counts A stop.Failed before after due e e' sound leaves writes = search (arith, false≢true)
 
--- and so does one that has not failed where its closing is written
+-- the same when the closing is written
 pub closing_counts : (A : Type 0) (why : Stop) (before after : OutLog) (due : List ℕ)
     (e : EngineView) → e.failed ≡ false →
     ((let failed : Result A Stop = Err stop.Failed in Err why ≡ failed) → e.failed ≡ true) →
@@ -27,13 +27,13 @@ pub closing_counts : (A : Type 0) (why : Stop) (before after : OutLog) (due : Li
 closing_counts A (stop.Out f) before after due e sound only writes = writes.failures
 closing_counts A stop.Failed before after due e sound only writes = search (arith, false≢true)
 
--- what writes lines fails by a put
+-- a call that writes lines fails by a put
 pub by_writes : {A E : Type 0} (r : Result A E) (before after : Tagging) (due : List ℕ) →
     Writes r (tagging_log before) (tagging_log after) due → FailsByPut r before after
 by_writes (Ok x) before after due writes = writes.failures
 by_writes (Err e) before after due writes = writes.failures
 
--- where no put had failed
+-- the same if no put had failed before
 pub once : {A E : Type 0} (r : Result A E) (before after : Tagging) → before.failures ≡ 0 →
     FailsByPut r before after → FailsOnce r after
 once (Ok x) before after none fails = fails ∙ none
@@ -43,7 +43,7 @@ pub none_failed : (n : ℕ) → (0 < n → false ≡ true) → n ≡ 0
 none_failed zero h = refl
 none_failed (suc n) h = search (arith, false≢true)
 
--- by how often it has failed before and after
+-- if the call doesn't fail, the count of failures stays
 pub same_on_ok : {A E : Type 0} (r : Result A E) (before after : ℕ) → Counts r before after →
     OnOk r (after ≡ before)
 same_on_ok (Ok x) before after counts = counts

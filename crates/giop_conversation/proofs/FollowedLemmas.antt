@@ -1,4 +1,4 @@
--- What connections have followed, after one more event.
+-- What connections have followed after one more event.
 use Rattle.std.proofs.Common.{◌≡◌, ℕ, ◌<◌, ◌≤◌, ◌/◌, ◌%◌, ◌==◌, ◌⊎◌, true, false, List, [], ◌∷◌, ◌++◌, length, Option, Some, None, refl, sym, ap, ◌∙◌, arith, inl, inr, get_or, slice_get, Result, Ok, Err, IfOk, OnOk}
 use Rattle.std.proofs.Math.ListN.{set}
 use Rattle.std.proofs.lemmas.Bool.{eqb-true, eqb-false, eq-eqb, cases_lt, cases_eq, false≢true}
@@ -69,11 +69,11 @@ elsewhere xs i j y apart =
           slice_get_past (set xs i y) j past' ∙ sym (slice_get_past xs j past)
     ]
 
--- an event concerns no flow but this one
+-- the event changes no other flow's stream
 abbrev pub IsOfFlow : ℕ → Event → Type 0
 IsOfFlow flow e = (g : ℕ) (p : List ℕ) → (g ≡ flow → ⊥) → octets_behind g p e ≡ p
 
--- the direction of a flow changes, and no other
+-- if the direction of the event's flow follows it, all directions do
 pub followed_on : (rooms : List Conversation) (events : List Event) (e : Event) (flow : ℕ)
     (old new : Conversation) → HaveFollowed rooms events → slice_get rooms (flow / 2) ≡ Some old →
     IsOfFlow flow e →
@@ -94,13 +94,13 @@ followed_on rooms events e flow old new follows here only reads stays g = search
   elsewhere,
 )
 
--- what happens in no flow's stream
+-- the same for an event that is of no flow's stream
 pub followed_still : (rooms : List Conversation) (events : List Event) (e : Event) →
     HaveFollowed rooms events → ((g : ℕ) (p : List ℕ) → octets_behind g p e ≡ p) →
     HaveFollowed rooms (events ++ e ∷ [])
 followed_still rooms events e follows none g = search (arith, octets_more)
 
--- and what happens in a flow whose connection has no room
+-- the same for an event in a flow whose connection has no room
 pub followed_beyond : (rooms : List Conversation) (events : List Event) (e : Event) (flow : ℕ) →
     HaveFollowed rooms events → slice_get rooms (flow / 2) ≡ None → IsOfFlow flow e →
     HaveFollowed rooms (events ++ e ∷ [])
@@ -155,7 +155,7 @@ fault_of_delivers flow octets events =
 
 -- ---- the start
 
--- no stream of either flow has been read
+-- neither direction has read any octet of a stream
 pub record IsNew (c : Conversation) : Type 0 where
   pub even : HasRead c.even.engine []
   pub odd : HasRead c.odd.engine []
@@ -184,7 +184,7 @@ same_engine : (p : Side) (old new : Conversation) → new.even.engine ≡ old.ev
 same_engine Even old new even odd = even
 same_engine Odd old new even odd = odd
 
--- what a connection does without a change of what it has read
+-- the connection changes, but not what it has read
 pub engines_stay : (rooms : List Conversation) (events : List Event) (e : Event) (flow : ℕ)
     (old new : Conversation) → HaveFollowed rooms events → slice_get rooms (flow / 2) ≡ Some old →
     new.even.engine ≡ old.even.engine → new.odd.engine ≡ old.odd.engine →

@@ -30,7 +30,7 @@ use Rattle.giop_stream.specs.DueOctets.{begun_in}
 use Rattle.giop_conversation.specs.Stamped.{time_due, answers_due, raises_due, told, lines_due, stamped}
 use Rattle.giop_conversation.proofs.TagLemmas.{ends_append}
 
--- parts of which the last is LF
+-- a text whose last part is LF ends a line
 ends_joined : (first : Bool) (parts : List (List ℕ)) →
     ends_line first (joined (parts ++ codes "\n" ∷ [])) ≡ true
 unfolding ends_line
@@ -38,7 +38,7 @@ ends_joined first [] = refl
 ends_joined first (x ∷ xs) = ends_append first x (joined (xs ++ codes "\n" ∷ []))
     ∙ ends_joined (ends_line first x) xs
 
--- some lines and then others
+-- if two texts are whole lines, one after the other is too
 pub ends_both : (xs ys : List ℕ) → is_due xs ≡ true → is_due ys ≡ true → is_due (xs ++ ys) ≡ true
 ends_both xs ys first second = search (arith, ends_append)
 
@@ -110,7 +110,7 @@ unfolding text stream.lines_text lines lines_of_messages in_order up_to_last_lin
     limited limit cut_from first_wrong_octet fronts first_wrong wrong
 no_text R = refl
 
--- what more octets add
+-- the text that more octets add is whole lines
 pub added_ends : (C : Table) (a : Answers) (most : ℕ) (p q : List ℕ) →
     is_due (added (rules_by C a most) p q) ≡ true
 unfolding added
@@ -215,7 +215,7 @@ lines_due_end R s p octets =
     s.arrival.time) (raises_due behind.raised)
     (answers_due_ends behind.answered s.arrival.time) (raises_due_ends behind.raised))
 
--- all that is written of octets
+-- all that is written of octets is whole lines
 pub stamped_ends : (C : Table) (a : Answers) (most : ℕ) (octets p : List ℕ) (s : Exchanged) →
     is_due (stamped (rules_by C a most) s p octets) ≡ true
 unfolding stamped

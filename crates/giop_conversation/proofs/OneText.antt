@@ -1,5 +1,5 @@
--- Events lead to one text: two dumps to which they lead are one but for the answers of their streams,
--- and those agree at each header that ends in a stream.
+-- The same events lead to one text. Two dumps to which they lead differ at most in the answers of
+-- their streams, and these agree at each header that ends in a stream.
 use Rattle.std.proofs.Common.{inl, inr, ◌⊎◌, ◌≡◌, ℕ, zero, suc, ◌/◌, ◌||◌, List, [], ◌∷◌, ◌++◌, map, Option, Some, None, refl, sym, ap, subst, ◌∙◌, append_assoc, slice_get, set}
 use Rattle.giop_print.specs.Output.{counted}
 use Rattle.giop_message.specs.Signatures.{Answers}
@@ -67,7 +67,7 @@ module _ (S : Setup) (a b : Answers) where
       (told_alike p x s one) in
       λ j. (add j ++ due j) ++ more j
 
--- ---- one connection is another, but for the answers
+-- ---- two connections are the same except for the answers
 
 abbrev answered_by : Answers → Answers → Connection → Connection
 answered_by x y c = record {
@@ -104,7 +104,7 @@ alike_all S (c ∷ cs) = (
   alike_all S cs,
 )
 
--- those at one place
+-- the connections of two dumps at one index
 record Places (S : Setup) (cs cs' : List Connection) (i : ℕ) : Type 0 where
   c : Connection
   c' : Connection
@@ -189,13 +189,13 @@ ended_alike S Odd c c' k = record {
   odd = k.odd;
 }
 
--- what is said of a stream that begins
+-- what is said of a stream that begins is the same for both
 opening_alike : (S : Setup) (side : Side) (time : Option ℕ) (start : Start) (c c' : Connection) →
     IsAlike S c c' → opening side time start c' ≡ opening side time start c
 opening_alike S Even time start c c' k = ap (opening Even time start) k.is
 opening_alike S Odd time start c c' k = ap (opening Odd time start) k.is
 
--- what is written of a flow
+-- what is written of a flow is the same for both
 record Writes (S : Setup) (s s' : Half) : Type 0 where
   flow : s.flow ≡ s'.flow
   stream : s.stream ≡ s'.stream
@@ -218,7 +218,8 @@ writes_alike S Even c c' k = subst (λ (z : Connection). Writes S c.even z.even)
 writes_alike S Odd c c' k = subst (λ (z : Connection). Writes S c.odd z.odd) (sym k.is)
     (writes_by S c.odd k.y k.odd)
 
--- octets of a stream, which was read by answers that agree, and then by these
+-- if answers agree for what was read before, those of both dumps agree for the octets that come
+-- then
 agree_now : (S : Setup) (p q : List ℕ) (s x a b : Answers) (e : Exchanged) →
     AgreeAtHeaders S.table S.messages p s x → AnswersAgree S.messages p s a →
     AnswersAgree S.messages p x b →
@@ -232,7 +233,8 @@ agree_now S p q s x a b e h k l f g =
     (both C n p a s b (back C n p s a (at_headers C n s a p k))
     (both C n p s x b h (at_headers C n x b p l))) f g
 
--- after octets, and their lines
+-- the connections after the same octets differ only in their answers, and the lines of the octets
+-- are the same
 record BehindAlike (S : Setup) (a b : Answers) (side : Side) (q : List ℕ) (arrival : Arrival)
     (c c' : Connection) : Type 0 where
   connection : IsAlike S (delivered S a side q arrival c) (delivered S b side q arrival c')
@@ -287,7 +289,7 @@ behind_alike S a b side q arrival c c' k f g =
     (behind_by S a b side q arrival c k.x k.y k.even k.odd f
     (subst (λ (z : Connection). IsAnswered S b side q arrival z) k.is g))
 
--- ---- one dump is another, but for the answers
+-- ---- two dumps are the same except for the answers
 
 record IsSame (S : Setup) (d d' : Dump) : Type 0 where
   connections : List Connection

@@ -1,4 +1,4 @@
--- Lines of a stream in a capture as parts of its text.
+-- The lines of a stream in a capture as parts of the capture's text.
 use Rattle.std.proofs.Common.{arith, ◌≡◌, ℕ, ◌==◌, true, false, List, [], ◌∷◌, ◌++◌, drop, map, flat_map, Option, Some, None, refl, subst, append-nil}
 use Rattle.std.specs.List.{AllByRecursion as Each}
 use Rattle.std.proofs.Math.Seq.{drop-length}
@@ -26,7 +26,8 @@ use Rattle.giop_conversation.proofs.LineEnds.{added_ends, closing_ends, stream_l
 
 -- ---- the parts of lines
 
--- whole lines, by what the stream has by itself where octets are read, and all that it has
+-- whole lines as parts, by the lines of the stream's octets and by all lines of the stream that
+-- giopdump writes too
 pub record AreParts (lines reads own : List ℕ) : Type 0 where
   pub parts : List StreamPart
   pub whole : Each (λ part. is_due (lines_of part) ≡ true) parts
@@ -82,7 +83,8 @@ pub text_is : (number : ℕ) (parts : List StreamPart) →
 text_is number [] whole = search (arith, no_tags)
 text_is number (x ∷ xs) whole = search (arith, joined, flat_map, text_is number xs whole.1)
 
--- of the stream of the number they are all, and of another one none
+-- the parts of a stream give all their lines to the number of the stream, and none to another
+-- number
 pub of_it : (f : StreamPart → List ℕ) (number : ℕ) (parts : List StreamPart) →
     flat_map (of_stream f number) (map (OfStream number) parts) ≡ flat_map f parts
 of_it f number [] = refl
@@ -150,7 +152,7 @@ module _ (C : Table) (a : Answers) (most : ℕ) where
       (both first first first (lines_due R s p (x ∷ [])) [] []
       (one (Reads first) (added_ends C a most p (x ∷ []))) (due_parts R s p (x ∷ [])))
 
-  -- of octets after others
+  -- the lines of octets that come after others
   pub stamped_parts : (octets p : List ℕ) (s : Exchanged) →
       AreParts (stamped R s p octets) (added R p octets) (added R p octets)
   unfolding stamped

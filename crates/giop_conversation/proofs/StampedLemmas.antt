@@ -1,5 +1,5 @@
--- What is written of octets that come in parts, and of a piece before whose last octet nothing is
--- due.
+-- What is written of octets that come in parts, and of a piece in which no line is due before the
+-- last octet.
 use Rattle.std.specs.Prelude.{◌||◌, is_some}
 use Rattle.std.proofs.lemmas.Bool.{cases_lt, le-ltb, false≢true}
 use Rattle.std.proofs.lemmas.List.{drop_all}
@@ -91,7 +91,7 @@ exchanged_arrival R (x ∷ xs) s p =
     exchanged_arrival R xs (taken (told R s p (x ∷ []))) (p ++ x ∷ [])
     ∙ told_arrival R s p (x ∷ [])
 
--- nothing waits to be written
+-- no Reply waits for its lines to be written
 pub record IsTaken (s : Exchanged) : Type 0 where
   pub answered : s.answered ≡ None
   pub raised : s.raised ≡ None
@@ -106,7 +106,7 @@ exchanged_taken R [] s p none = none
 exchanged_taken R (x ∷ xs) s p none = exchanged_taken R xs (taken (told R s p (x ∷ [])))
     (p ++ x ∷ []) (record { answered = refl; raised = refl })
 
--- ---- answers that agree, where what a Reply answers was taken
+-- ---- answers that agree, when the lines of the last Reply were written
 
 answered_alike : (C : Table) (a : Answers) (e : HeaderEnd) (s : Exchanged)
     (answered : Option Answering) (raised : Option Raising) →
@@ -169,9 +169,10 @@ agrees_behind R C a (x ∷ xs) s p r table agrees =
     (agrees_behind R C a xs s' (p ++ x ∷ []) r (told_table R s p (x ∷ []) ∙ table)
     (agrees_then R C a s p (x ∷ []) (xs ++ r) table agrees))
 
--- ---- a piece before whose last octet nothing is due
+-- ---- a piece in which no line is due before the last octet
 
--- no line is due after fewer of these octets than n, by the operations of this table
+-- no line is due after the first k of these octets, for any k below n, by the operations of this
+-- table
 abbrev pub AreUndue : Table → Rules → Exchanged → List ℕ → List ℕ → ℕ → Type 0
 AreUndue C R s p octets n = (k : ℕ) → k < n →
     is_due_after is_waiting notified true C s R p (take k octets) ≡ false
@@ -188,7 +189,7 @@ none_of : {A : Type 0} (o : Option A) → is_some o ≡ false → o ≡ None
 none_of None e = refl
 none_of (Some x) e = absurd (false≢true (sym e))
 
--- where no Reply waits
+-- no Reply waits for its lines exactly if `is_waiting` is false
 waits_not : (s : Exchanged) → is_waiting s ≡ false → IsTaken s
 waits_not s e = search (arith, both_false, none_of)
 
@@ -206,19 +207,19 @@ module _ (C : Table) (a : Answers) (most : ℕ) where
   abbrev R : Rules
   R = rules_by C a most
 
-  -- where nothing is told that is written, and no message begins, nothing is due
+  -- if no Reply waits for its lines, and no message begins in the octets, nothing is due
   nothing_due : (s : Exchanged) (p octets : List ℕ) → begins_in p octets ≡ false →
       IsTaken (told R s p octets) → lines_due R s p octets ≡ []
   unfolding lines_due
   nothing_due s p octets none_begin behind = search (arith, none_due)
 
-  -- after the octets of a front
+  -- if nothing is due after the first octets, no Reply waits and no message has begun in them
   undue_front : (s : Exchanged) (p octets : List ℕ) → s.table ≡ C →
       is_due_after is_waiting notified true C s R p octets ≡ false →
       IsTaken (told R s p octets) × (begins_in p octets ≡ false)
   undue_front s p octets table undue = search (arith, both_false, waits_not)
 
-  -- as many have begun before it
+  -- if no message begins in the octets, the number of messages stays
   same_begun : (p q : List ℕ) → begins_in p q ≡ false → Begun (p ++ q) ≡ Begun p
   same_begun p q none = search (arith, not_less, messages_grow)
 
@@ -232,7 +233,7 @@ module _ (C : Table) (a : Answers) (most : ℕ) where
       ∙ (sym (told_both answer_of notified s.table s first others)
       ∙ ap (after_ends notified s.table s) (sym (header_ends_both R p (x ∷ []) rest)))
 
-  -- those after the first are undue as they were
+  -- the octets after the first one are undue as before
   undue_then : (n : ℕ) (s : Exchanged) (p : List ℕ) (x : ℕ) (rest : List ℕ) → s.table ≡ C →
       AreUndue C R s p (x ∷ rest) (suc n) → 0 < n →
       AreUndue C R (told R s p (x ∷ [])) (p ++ x ∷ []) rest n
@@ -256,7 +257,7 @@ module _ (C : Table) (a : Answers) (most : ℕ) where
         messages_grow p (x ∷ []),
       )))
 
-  -- what is due after a piece is due after its last octet
+  -- what is due after a piece is what is due after its last octet
   time_then : (p : List ℕ) (x : ℕ) (rest : List ℕ) → begins_in p (x ∷ []) ≡ false →
       begun_in (p ++ x ∷ []) rest ≡ begun_in p (x ∷ rest)
   time_then p x rest none = search (arith, append_assoc, same_begun)
@@ -266,7 +267,7 @@ module _ (C : Table) (a : Answers) (most : ℕ) where
   unfolding lines_due
   due_then s p x rest none = search (arith, told_arrival, time_then, told_then)
 
-  -- by its first octet and the others
+  -- what is written of octets, by the first octet and the others
   stamped_first : (s : Exchanged) (p : List ℕ) (x : ℕ) (rest : List ℕ) →
       stamped R s p (x ∷ rest)
       ≡ (added R p (x ∷ []) ++ lines_due R s p (x ∷ []))
@@ -279,7 +280,7 @@ module _ (C : Table) (a : Answers) (most : ℕ) where
   unfolding exchanged
   exchanged_first s p x rest = refl
 
-  -- of no octets
+  -- what is written if there are no octets
   stamped_none : (s : Exchanged) (p : List ℕ) → IsTaken s → stamped R s p [] ≡ added R p []
       ++ lines_due R s p []
   unfolding stamped added header_ends_from

@@ -1,4 +1,4 @@
--- Where each stream that lives closes in the end, each that has a room has closed.
+-- If each stream that lives closes in the end, each stream that has a room has closed.
 use Rattle.std.proofs.Common.{arith, ◌≡◌, ℕ, ◌==◌, ◌⊎◌, inl, inr, Bool, true, false, List, [], ◌∷◌, Option, Some, None, is_some, refl, sym, ap, ◌∙◌, if◌then◌else◌}
 use Rattle.std.proofs.lemmas.Bool.{eqb-true, eq-eqb, cases_eq, false≢true}
 use Rattle.giop_message.specs.Signatures.{Answers}
@@ -72,7 +72,7 @@ module _ (S : Setup) (h : History) (due behind : ℕ → Option ℕ) (t : AreLas
   abbrev FollowsBy : Event → Type 0
   FollowsBy e = (f : ℕ) → (payloads : _) × MayFollow payloads f (due f) e (behind f)
 
-  -- a flow that lived is another than that in which no stream did
+  -- a flow that lived isn't the one in which no stream lived
   still : (e : Event) (id : ℕ) → flow_of e ≡ Some id → FollowsBy e →
       ((payloads : _) (f : ℕ) → OwnMayFollow payloads f (due f) e (behind f) →
       is_some (due f) ≡ true → is_some (behind f) ≡ true) →

@@ -1,4 +1,4 @@
--- Where octets come, and streams close, only while they live, no stream goes on after its close.
+-- If octets come and streams close only while streams live, no stream goes on after its close.
 use Rattle.std.proofs.Common.{◌≡◌, ℕ, ◌/◌, ◌<◌, ◌==◌, ◌⊎◌, inl, inr, Bool, true, false, ◌||◌, List, [], ◌∷◌, Option, Some, None, is_some, refl, sym, ap, subst, ◌∙◌, arith, ◌≤◌, nat_lt, if◌then◌else◌}
 use Rattle.std.proofs.lemmas.Bool.{eqb-true, eqb-false, cases_eq, cases_lt, lt-ltb, false≢true}
 use Rattle.giop_message.specs.Signatures.{Answers}
@@ -14,7 +14,7 @@ use Rattle.giop_conversation.specs.StreamTexts.{StreamHistory, read_on, closed, 
 use Rattle.giop_conversation.proofs.StreamNumbers.{AreNumbered, stream_else, unequal}
 use Rattle.giop_conversation.proofs.StreamTextLemmas.{AreShown, on_event, at_start}
 
--- ---- one event of a flow, by the number that is due before and after it
+-- ---- one event of a flow, by the number that is due before and after the event
 
 opens_none : (payloads : _) (f g : ℕ) (e : Flow) (before behind : Option ℕ) →
     OwnMayFollow payloads f before (Opens g e) behind →
@@ -48,7 +48,7 @@ own_event : (payloads : _) (f : ℕ) (e : Event) (before behind : Option ℕ) �
 own_event payloads f e before behind is (inl own) = own.1
 own_event payloads f e before behind is (inr past) = absurd (past.0 is)
 
--- another flow lives as before
+-- another flow lives after the event only if it lived before
 lives_still : (payloads : _) (f : ℕ) (e : Event) (before behind : Option ℕ) →
     (flow_of e ≡ Some f → ⊥) →
     MayFollow payloads f before e behind → is_some behind ≡ true → is_some before ≡ true
@@ -58,7 +58,7 @@ lives_still payloads f e before behind past (inr same) lives = ap is_some same.1
 other_flow : (f id : ℕ) → (f ≡ id → ⊥) → Some id ≡ Some f → ⊥
 other_flow f id apart is = search (arith)
 
--- ---- streams that live are not closed, and none goes on after its close
+-- ---- streams that live haven't closed, and no stream goes on after its close
 
 record EndOnce (h : History) (due : ℕ → Option ℕ) : Type 0 where
   ends : (m : ℕ) → IsUnique m → (h.stream m).goes_on ≡ false
@@ -124,7 +124,7 @@ module _ (S : Setup) (h : History) (due behind : ℕ → Option ℕ) (k : AreNum
           t.live f (lives_still x.0 f (Begins id n) (due f) (behind f) (other_flow f id apart) x.1
           lives) number
 
-  -- a stream changes whose flow lived
+  -- the stream of a flow that lived changes
   changed_ends : (id : ℕ) (s : StreamHistory) → (IsUnique (h.stream_of id) → s.goes_on ≡ false) →
       (m : ℕ) → IsUnique m →
       ((with_stream h (h.stream_of id) s).stream m).goes_on ≡ false

@@ -15,7 +15,7 @@ use Rattle.giop_conversation.specs.StreamTexts.{StreamHistory, new_stream, Histo
 
 -- ---- the flows of connections
 
--- the id of a flow, by the place of its connection
+-- the id of a flow, by the index of its connection and its side
 abbrev pub flow_id : ℕ → Side → ℕ
 flow_id i Even = 2 * i
 flow_id i Odd = 2 * i + 1
@@ -44,8 +44,8 @@ set_each P (y ∷ ys) (suc i) x others here (suc j) =
     set_each (λ k. P (suc k)) ys i x (λ k apart. others (suc k) (λ is. apart (omega (arith, is))))
     here j
 
--- A flow has the stream that the history says: where no other has its number, its octets are those
--- of the history, and its answers give the same text and closing.
+-- The flow has the stream that the history gives it. If no other stream has its number, its octets
+-- are those of the history, and its answers give the same text and closing as those of the history.
 pub record IsHalf (S : Setup) (h : History) (id stream : ℕ) (octets : List ℕ) (answers : Answers) :
     Type 0 where
   pub stream_is : stream ≡ h.stream_of id
@@ -80,7 +80,7 @@ counted_most : (n : ℕ) → counted n ≤ 2 ^ 64 - 1
 unfolding counted
 counted_most n = search (arith, min-le_right)
 
--- the number of the next stream is no less, and greater where it is not at its greatest
+-- the number of the next stream doesn't fall, and rises if it isn't the greatest
 next_up : (S : Setup) (n : ℕ) → n ≤ 2 ^ 64 - 1 → number_in S n ≤ number_in S (counted n)
 unfolding counted
 next_up S n most = omega (arith, most)
@@ -127,7 +127,7 @@ alone Even c s = refl
 alone Odd c s = refl
 
 module _ (S : Setup) (h behind : History) (cs : List Connection) (id : ℕ) (c : Connection) where
-  -- the flow itself, and the other one of its connection
+  -- what each flow has: the flow itself, and the other one of its connection
   pub own_half : slice_get cs (id / 2) ≡ Some c → AreHalves S h cs →
       HasHalf S h id (half (side_of id) c)
   own_half is k = search (arith, id_is)
@@ -165,7 +165,7 @@ module _ (S : Setup) (h behind : History) (cs : List Connection) (id : ℕ) (c :
           (half q d).answers
           (λ same. apart (place_is (id / 2) j (side_of id) q (same ∙ sym (id_is id)))) (has q)
 
-  -- where the other one stays
+  -- the same if the other one stays
   pub half_on : (s : Half) → slice_get cs (id / 2) ≡ Some c → AreHalves S h cs →
       ((g n : ℕ) (p : List ℕ) (a : Answers) → (g ≡ id → ⊥) → IsHalf S h g n p a →
       IsHalf S behind g n p a) →

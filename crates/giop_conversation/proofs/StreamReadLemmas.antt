@@ -37,7 +37,7 @@ use Rattle.giop_conversation.proofs.Tagging.{ready_wrote, ready_front, ready_wit
 use Rattle.giop_conversation.proofs.StampedLemmas.{IsTaken, AreUndue, exchanged_both, stamped_both, exchanged_table, exchanged_arrival, exchanged_taken, agrees_behind, piece_text, piece_told}
 use Rattle.giop_conversation.proofs.LineEnds.{none_ends, stream_line_ends, stamped_ends}
 
--- an engine that had not failed writes a front where a put fails
+-- if a put fails in a call of an engine that hadn't failed, a front of what was due is written
 pub stop_front : (A : Type 0) (why : Stop) (before after : OutLog) (due : List ℕ)
     (e e' : EngineView) →
     e.failed ≡ false → Leaves {A = A} (Err why) e e' →
@@ -46,7 +46,7 @@ pub stop_front : (A : Type 0) (why : Stop) (before after : OutLog) (due : List �
 stop_front A (stop.Out f) before after due e e' sound leaves writes = writes
 stop_front A stop.Failed before after due e e' sound leaves writes = search (arith, false≢true)
 
--- and so does one of which the closing is written
+-- the same if the closing of the engine's stream is written
 pub closing_front : (A : Type 0) (why : Stop) (before after : OutLog) (due : List ℕ)
     (e : EngineView) →
     e.failed ≡ false → ((let failed : Result A Stop = Err stop.Failed in Err why ≡ failed) →
@@ -55,13 +55,13 @@ pub closing_front : (A : Type 0) (why : Stop) (before after : OutLog) (due : Lis
 closing_front A (stop.Out f) before after due e sound only writes = writes
 closing_front A stop.Failed before after due e sound only writes = search (arith, false≢true)
 
--- lines written by one call and then by another
+-- one call writes lines, and then another call writes more
 pub writes_both : {A E : Type 0} (r : Result A E) (a b c : OutLog) (x y : List ℕ) → Wrote a b x →
     Writes r b c y → Writes r a c (x ++ y)
 writes_both (Ok v) a b c x y first second = search (arith, wrote-append)
 writes_both (Err e) a b c x y first second = search (arith, wrote-front)
 
--- whole lines stand below
+-- a call that writes whole lines leaves them, with their tags, in the out below
 pub writes_below : {A E : Type 0} (r : Result A E) (t after : Tagging) (w lines : List ℕ) →
     IsReady t w → is_due lines ≡ true →
     Writes r (tagging_log t) (tagging_log after) lines → WritesTagged r after w t.tag lines
@@ -73,7 +73,7 @@ pub begin_lines_end : (flow : Option Flow) (opening : Opening) →
 begin_lines_end None opening = none_ends
 begin_lines_end (Some flow) opening = stream_line_ends flow opening
 
--- the same once a tag is set
+-- the same after a tag was set
 pub below_tag : {A E : Type 0} (r : Result A E) (t set after : Tagging) (w lines tag due : List ℕ) →
     IsReady t w →
     set ≡ record t { tag = tag; due = length tag; since = 0 } → tag ≡ due → is_due lines ≡ true →
@@ -84,7 +84,7 @@ below_tag r t set after w lines tag due ready is same ends writes =
     (writes_below r now after w lines (ready_with t w tag ready) ends
     (subst (λ (s : Tagging). Writes r (tagging_log s) (tagging_log after) lines) is writes))
 
--- a front of some lines is one of those and others
+-- a call that fails and has written a front of lines has written a front of these and more lines
 pub front_of : {A E : Type 0} (r : Result A E) (a b : OutLog) (x y : List ℕ) (e : E) → r ≡ Err e →
     WroteFront a b x →
     Writes r a b (x ++ y)
@@ -92,7 +92,7 @@ front_of r a b x y e is front = search (arith, front-append)
 
 -- ---- a piece
 
--- the lines of a front of some octets are a front of their lines
+-- a front of the lines of the first n octets is a front of the lines of all octets
 pub front_lines : (R : Rules) (s : Exchanged) (p octets : List ℕ) (n : ℕ) (a b : OutLog) →
     WroteFront a b (stamped R s p (take n octets)) → WroteFront a b (stamped R s p octets)
 front_lines R s p octets n a b front =
@@ -102,7 +102,7 @@ front_lines R s p octets n a b front =
     ∙ stamped_both R (take n octets) s p (drop n octets) in
     subst (WroteFront a b) (sym both) (front-append a b (stamped R s p (take n octets)) rest front)
 
--- the first n of them are undue before the last
+-- no line is due before the last of the first n octets, also if these are taken alone
 pub undue_taken : (C : Table) (R : Rules) (s : Exchanged) (p octets : List ℕ) (n : ℕ) →
     AreUndue C R s p octets n → AreUndue C R s p (take n octets) n
 undue_taken C R s p octets n undue k few = search (arith, take-take)
@@ -119,7 +119,7 @@ module _ (C : Table) (a : Answers) (most : ℕ) (s : Exchanged) (p octets : List
   piece_is : stamped R s p piece ≡ added R p piece ++ lines_due R s p piece
   piece_is = search (arith, piece_text, undue_taken, length-take-le)
 
-  -- what was told of it
+  -- what the exchange was told of the piece
   tells : (s' : Exchanged) → s' ≡ after_ends notified C s (header_ends_from R p piece) →
       s' ≡ told R s p piece
   tells s' is = search (arith)
@@ -144,7 +144,7 @@ module _ (C : Table) (a : Answers) (most : ℕ) (s : Exchanged) (p octets : List
       s'' ≡ exchanged R s p piece
   piece_calls s' s'' is behind = search (arith, tells, piece_told, undue_taken, length-take-le)
 
-  -- where the feeding of the piece failed
+  -- what is written if the feeding of the piece failed
   pub piece_front : (old new : OutLog) → WroteFront old new (added R p piece) →
       WroteFront old new (stamped R s p octets)
   piece_front old new front =
@@ -184,7 +184,7 @@ agree_on e e' a p octets at s s' same table told agrees = search (
   same_rules,
 )
 
--- the calls as they are read on
+-- what stays the same of the calls if more octets are read
 pub table_on : (e e' : EngineView) (a : Answers) (p octets : List ℕ) (at : ℕ) (s s' : Exchanged) →
     IsSetAlike e' e →
     s.table ≡ e.table → s' ≡ exchanged (rules_with e a) s p (take at octets) → s'.table ≡ e'.table
@@ -199,7 +199,7 @@ pub taken_on : (R : Rules) (p octets : List ℕ) (s s' : Exchanged) → IsTaken 
     s' ≡ exchanged R s p octets → IsTaken s'
 taken_on R p octets s s' none told = search (arith, exchanged_taken)
 
--- the lines of some octets and then those of others
+-- the lines of a front of octets, and then those of the other octets
 lines_on : (e e' : EngineView) (a : Answers) (p front more : List ℕ) (s s' : Exchanged) →
     IsSetAlike e' e →
     s' ≡ exchanged (rules_with e a) s p front →
@@ -238,7 +238,7 @@ come_on e e' e'' a p octets at n s s' s'' t t' t'' same so_far more =
           ∙ ap (exchanged (rules_with e a) s p) both);
     }
 
--- once the next n octets are read by calls that agree
+-- how far the octets are read after the next n octets were read by calls that agree
 pub read_on : (e e' e'' : EngineView) (a : Answers) (p octets : List ℕ) (at n : ℕ)
     (s s' s'' : Exchanged) (t t' t'' : Tagging) (arrival : Arrival) →
     IsSetAlike e' e → HasReadTo e e' a p octets at s s' t t' → AgreeWith e a s p octets →
@@ -274,7 +274,7 @@ front_on e e' a p octets at s s' t t' t'' same so_far front =
     (stamped (rules_with e a) s p first)
     (stamped (rules_with e' a) s' (p ++ first) rest) so_far.wrote front)
 
--- all octets: below stand their lines
+-- if all octets have been read, their lines were written to the out below
 pub stands_at_end : (e e' : EngineView) (a : Answers) (p octets w tag due : List ℕ) (at : ℕ)
     (s s' : Exchanged) (old t t' : Tagging) →
     length octets ≤ at → HasReadTo e e' a p octets at s s' t t' → IsReady old w →

@@ -201,19 +201,19 @@ module _ (S : Setup) (written : List ℕ)
             (λ m number apart. refl) (λ number r o t. rw (append-nil r, append-nil o) t);
       })
 
-  -- a stream changes that is not the flow's
+  -- a stream that isn't the stream of the flow changes
   half_stays : (h : History) (m : ℕ) (s : StreamHistory) (g n : ℕ) (p : List ℕ) (a : Answers) →
       (IsUnique n → (with_stream h m s).stream n ≡ h.stream n) → IsHalf S h g n p a →
       IsHalf S (with_stream h m s) g n p a
   half_stays h m s g n p a stays it = search (arith, text_is)
 
-  -- that of another flow
+  -- the same if the stream that changes is the stream of another flow
   half_with : (h : History) (s : StreamHistory) (id g n : ℕ) (p : List ℕ) (a : Answers) →
       AreNumbered S h → (g ≡ id → ⊥) →
       IsHalf S h g n p a → IsHalf S (with_stream h (h.stream_of id) s) g n p a
   half_with h s id g n p a k apart it = search (arith, half_stays, stream_else, unequal)
 
-  -- that of a flow without a room has no number
+  -- the stream of a flow without a room has no number, so no stream with a number changes
   beyond_is : (h : History) (s : StreamHistory) (id m : ℕ) → h.stream_of id ≡ 0 → IsUnique m →
       (with_stream h (h.stream_of id) s).stream m ≡ h.stream m
   beyond_is h s id m none number = search (arith, stream_else, unequal)

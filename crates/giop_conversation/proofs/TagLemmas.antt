@@ -54,7 +54,7 @@ ends_take first (x ∷ xs) (suc (suc n)) some within =
 
 -- ---- tags taken away
 
--- how many octets of a tag are passed over, where the next octet begins a line or doesn't
+-- how many octets of a tag are passed over: all if the next octet begins a line, else none
 abbrev pub passed : Bool → ℕ → ℕ
 passed first size = if first then size else 0
 

@@ -26,7 +26,7 @@ begun_is_few : (b : Bool) (tag : List ℕ) (n : ℕ) →
 begun_is_few true tag n = search (arith, length-take)
 begun_is_few false tag n = search (arith, take, take_all)
 
--- a text ended is a text with tags
+-- if nothing of the next tag was written, what was written of a text is the text with tags
 pub stopped_ended : (tag text : List ℕ) (due : ℕ) → (is_due text ≡ true → due ≡ length tag) →
     stopped_at tag text due ≡ with_tags tag text
 unfolding stopped_at
@@ -104,7 +104,7 @@ line_step w w' before tag since text octets n stands some line within is = searc
   append_assoc,
 )
 
--- ---- the same of an out, where what was written to it is known
+-- ---- The same of an out, if it is known what was written to it.
 
 pub tag_step_in : (a b : Option (List ℕ)) (before tag : List ℕ) (since : ℕ) (text : List ℕ)
     (due n : ℕ) →
@@ -185,7 +185,7 @@ put_both (Ok n) a b d tag octets since since' since'' due due' due'' first put =
 put_both (Err e) a b d tag octets since since' since'' due due' due'' first put =
     failed_after_tag a b d tag since since' since'' due due' due'' first put
 
--- ---- what is read off the octets below
+-- ---- the text that is read again from the octets below
 
 text_back : (tag text : List ℕ) (due : ℕ) →
     without_tags (length tag) (stopped_at tag text due) ≡ text

@@ -19,7 +19,7 @@ pub clean_failed : (tag text : List ℕ) (due failures : ℕ) →
     is_clean tag due (counted failures) text ≡ true
 clean_failed tag text due failures = search (arith, or_left, not_from_false, counted_is_some)
 
--- what is shown where the octets stand so
+-- what is shown if the octets stand like this
 shown_in : (b : Option (List ℕ)) (before tag : List ℕ) (since : ℕ) (text : List ℕ)
     (due failures : ℕ) →
     StandsIn b before tag since text due → is_clean tag due failures text ≡ true →

@@ -9,7 +9,7 @@ use Rattle.giop_conversation.specs.TaggedState.{Tagging, tagging_log, identity, 
 use Rattle.giop_conversation.proofs.TagLemmas.{ends_append}
 use Rattle.giop_conversation.proofs.TaggedLemmas.{stopped_ended, stopped_more, shown_is, shows, Shows, identity_is}
 
--- text that grew by more, under the same tag
+-- the text grew by `more`, under the same tag
 record HasGrown (t t' : Tagging) (before text more : List ℕ) : Type 0 where
   below : List ℕ
   known : t'.whole ≡ Some below
@@ -47,7 +47,7 @@ ready_grown t t' w more r appends =
     (ready_is_clean t w r) in
     grown t t' r.before r.text more t'.whole refl (rw (r.known, is) at appends)
 
--- below there is more: the text that it grew by, with tags
+-- what was written to the out below is the text by which it grew, with tags
 ready_below : (t t' : Tagging) (w more : List ℕ) (r : IsReady t w)
     (g : HasGrown t t' r.before r.text more) →
     g.below ≡ w ++ stopped_at t.tag more t'.due

@@ -73,7 +73,7 @@ unfolding days_of_years
 years_short zero = omega arith
 years_short (suc n) = grind (arith, nat_tests, years_short n)
 
--- without a walk over the years
+-- the number of days in years, without a sum over each year
 pub years_closed : (n : ℕ) →
     365 * (n + 369) + (n + 369) / 4 - (n + 369) / 100 + (n + 369) / 400 - 134774 ≡ days_of_years n
 years_closed n = search (arith, days_of_years_closed)
@@ -245,13 +245,13 @@ time_put n seconds octets text is early shown =
     rw (shown, time_is n seconds is early)
     (sym (append_assoc (second_text seconds) (last_digits 9 (n % second) ++ codes "Z") text))
 
--- none is so late
+-- a time after the last year of four digits is written as `-`
 pub none_put : (n seconds : ℕ) → seconds ≡ n / second →
     nat_lt (seconds / 86_400) (days_of_years years) ≡ false → time_text (Some n) ≡ codes "-"
 unfolding time_text
 none_put n seconds is late = search (arith)
 
--- no year of four digits is so late
+-- so is a time of 2^64 seconds or more, which is after that year
 pub late_text : (n : ℕ) → 18446744073709551616 ≤ n / second → time_text (Some n) ≡ codes "-"
 unfolding time_text
 late_text n late = search (arith, years_short, nat_lt, le-ltb)

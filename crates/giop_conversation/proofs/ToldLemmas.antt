@@ -57,7 +57,7 @@ pub new_ready : (t : Tagging) (whole : Option (List ℕ)) (below : ℕ) (written
 new_ready t whole below written is known = search (arith, ready_new)
 
 module _ (S : Setup) (written : List ℕ) (events : List Event) where
-  -- an event that leads on, whose lines were written or a front of them
+  -- an event that leads to the next dump, if its lines were written, or a front of them
   told_or_front : {A E : Type 0} (r : Result A E) (d behind : Dump) (e : Event)
       (rooms : List Conversation) (out : Tagging)
       (arrival : Arrival) (first : ℕ) (totals : CaptureTotals) (cut : Bool) (tag lines : List ℕ) →

@@ -42,12 +42,12 @@ no_bit : (b : Bool) (m n : ℕ) → cond b 1 0 + 2 * m ≡ n * 2 → (b ≡ fals
 no_bit true m n is = absurd (omega (arith, is))
 no_bit false m n is = (refl, omega (arith, is))
 
--- an octet that is none, before a line
+-- a line stays a line if an octet that isn't LF comes before it
 longer : (x : ℕ) (ys : List ℕ) → (x == 10) ≡ false → IsLine ys → IsLine (x ∷ ys)
 longer x [] first rest = search (arith)
 longer x (y ∷ ys) first rest = search (arith, slice_index)
 
--- only the last of them is
+-- if only the last octet is LF, the octets are a line
 only_last : (xs : List ℕ) (k : ℕ) → length xs ≡ k + 1 →
     mask_l (map (λ x. x == 10) xs) ≡ 2 ^ k → IsLine xs
 only_last [] k size bits = absurd (omega (arith, size))
@@ -59,7 +59,7 @@ only_last (x ∷ y ∷ ys) (suc k) size bits =
     (rw pow-suc at bits) in
     longer x (y ∷ ys) parts.0 (only_last (y ∷ ys) k (omega (arith, size)) parts.1)
 
--- octets of which none is
+-- octets without LF
 abbrev HasNone : List ℕ → Type 0
 HasNone = Each (λ x. (x == 10) ≡ false)
 
@@ -154,14 +154,14 @@ module _ (octets : List ℕ) (size : length octets ≡ 64) where
       block_before octets 0 clear.0 (block_before octets 16 clear.1.0
       (block_before octets 32 clear.1.1 (subst IsLine whole end)))
 
--- the end of a line is one too
+-- the last octets of a line are a line too
 pub line_behind : (xs : List ℕ) (k : ℕ) → IsLine xs → k < length xs → IsLine (drop k xs)
 line_behind xs k l some = search (arith, length-drop, drop, get_or-drop)
 
 line_is_whole : (line : List ℕ) → IsLine line → line_size line ≡ length line
 line_is_whole line l = search (arith, line_some)
 
--- the tag, and octets of the line after it
+-- the tag was put, and then octets of the line
 past_tag : (a b : Option (List ℕ)) (before tag : List ℕ) (since : ℕ) (text line : List ℕ) (k : ℕ) →
     IsLine line → 0 < length tag → 0 < k → k ≤ length line →
     StandsIn a before tag since text (length tag) → Appends a b (tag ++ take k line) →
@@ -182,7 +182,7 @@ past_tag (Some w) (Some w') before tag since text line k is some first fits stan
     first (rw (line_is_whole line is) fits) fits
     (appends ∙ sym (append_assoc w tag (take k line))))
 
--- all of it was put
+-- the whole line was put with its tag
 whole_stands : (a b : Option (List ℕ)) (before tag : List ℕ) (since : ℕ) (text line : List ℕ) →
     IsLine line → 0 < length tag →
     StandsIn a before tag since text (length tag) → Appends a b (tag ++ line) →
@@ -194,7 +194,7 @@ whole_stands a b before tag since text line is some stands appends =
     (omega arith)
     stands (rw all appends))
 
--- not all of it was put
+-- only a front of the tag and the line was put
 front_stands : (a b : Option (List ℕ)) (before tag : List ℕ) (since : ℕ) (text line : List ℕ)
     (n : ℕ) →
     IsLine line → 0 < length tag → n < length tag + length line →

@@ -1,6 +1,6 @@
--- The text of a capture by its parts, one after another (docs/FORMATS.md, Conversations of a
--- capture; meaning): lines of a stream, each with its tag in front, and the fault of the capture.
--- The lines that a stream has by itself are told from those beside them, which are of five kinds.
+-- The text of a capture as a row of parts (docs/FORMATS.md, Conversations of a capture; meaning). A
+-- part is lines of a stream, each with its tag in front, or the fault of the capture. The lines
+-- that giopdump writes of a stream are kept apart from its other lines, which are of five kinds.
 use Rattle.std.specs.Prelude.{◌≡◌, ℕ, ◌==◌, true, List, [], flat_map, Option, if◌then◌else◌}
 use Rattle.giop_calls.specs.declared.calls.Call.{Call}
 use Rattle.tcp_flow.specs.declared.flow.CloseCause.{CloseCause}
@@ -13,15 +13,15 @@ use Rattle.giop_conversation.specs.Lines.{stream_line, time_line, answers_line, 
 
 -- lines of a stream
 pub data StreamPart : Type 0 where
-  Reads : List ℕ → StreamPart  -- by itself, where octets of it are read
-  Closing : List ℕ → StreamPart  -- by itself, where it closes
-  StreamLine : Flow → Opening → StreamPart  -- where it begins
-  TimeLine : ℕ → Arrival → StreamPart  -- when a message began
-  AnswersLine : ℕ → Call → Option ℕ → StreamPart  -- which call a Reply answers
-  RaisesLine : ℕ → List ℕ → StreamPart  -- which exception a Reply raises
-  ClosedLine : CloseCause → StreamPart  -- why it closes
+  Reads : List ℕ → StreamPart  -- lines that giopdump writes too, when octets are read
+  Closing : List ℕ → StreamPart  -- lines that giopdump writes too, when the stream closes
+  StreamLine : Flow → Opening → StreamPart  -- the line with which the stream begins
+  TimeLine : ℕ → Arrival → StreamPart  -- the line that says when a message began
+  AnswersLine : ℕ → Call → Option ℕ → StreamPart  -- the line that says which call a Reply answers
+  RaisesLine : ℕ → List ℕ → StreamPart  -- the line that says which exception a Reply raises
+  ClosedLine : CloseCause → StreamPart  -- the line that says why the stream closes
 
--- the lines, without the tag
+-- the lines of a part, without the tag
 abbrev pub lines_of : StreamPart → List ℕ
 lines_of (Reads lines) = lines
 lines_of (Closing lines) = lines
@@ -31,7 +31,7 @@ lines_of (AnswersLine message call time) = answers_line message call time
 lines_of (RaisesLine message name) = raises_line message name
 lines_of (ClosedLine cause) = closed_line cause
 
--- those that the stream has by itself, where octets of it are read
+-- the lines of a part that giopdump writes when octets are read
 abbrev pub read_lines : StreamPart → List ℕ
 read_lines (Reads lines) = lines
 read_lines (Closing lines) = []
@@ -41,7 +41,7 @@ read_lines (AnswersLine message call time) = []
 read_lines (RaisesLine message name) = []
 read_lines (ClosedLine cause) = []
 
--- all that it has by itself, with those where it closes
+-- all lines of a part that giopdump writes: when octets are read, and when the stream closes
 abbrev pub own_lines : StreamPart → List ℕ
 own_lines (Reads lines) = lines
 own_lines (Closing lines) = lines
@@ -51,8 +51,8 @@ own_lines (AnswersLine message call time) = []
 own_lines (RaisesLine message name) = []
 own_lines (ClosedLine cause) = []
 
--- lines of the stream of this number, or the fault of the capture, of this word, at the octet of
--- this number
+-- a part of the text: lines of the stream of this number, or the capture's fault, by its word and
+-- the number of its octet
 pub data Part : Type 0 where
   OfStream : ℕ → StreamPart → Part
   FaultLine : List ℕ → ℕ → Part
@@ -65,7 +65,7 @@ part_text (FaultLine word at) = capture_fault_line word at
 abbrev pub text_of : List Part → List ℕ
 text_of parts = flat_map part_text parts
 
--- A part is whole lines.
+-- the part is whole lines
 abbrev pub IsWhole : Part → Type 0
 IsWhole (OfStream number part) = is_due (lines_of part) ≡ true
 IsWhole (FaultLine word at) = Unit {0}
@@ -75,11 +75,10 @@ abbrev pub of_stream : (StreamPart → List ℕ) → ℕ → Part → List ℕ
 of_stream lines number (OfStream n part) = if n == number then lines part else []
 of_stream lines number (FaultLine word at) = []
 
--- the lines that the stream of this number has by itself, without the tag: where octets of it are
--- read,
+-- the lines that giopdump writes of the octets of the stream of this number, without the tag
 abbrev pub read_of : ℕ → List Part → List ℕ
 read_of number parts = flat_map (of_stream read_lines number) parts
 
--- and all
+-- all lines that giopdump writes of the stream of this number, without the tag
 abbrev pub own_of : ℕ → List Part → List ℕ
 own_of number parts = flat_map (of_stream own_lines number) parts

@@ -1,6 +1,6 @@
 -- The text of a capture, by what happens in it (docs/FORMATS.md, Conversations of a capture;
--- meaning). A flow is named by its id: half of it is the place of its connection, and the flow is
--- the connection's one with an even id or the other one.
+-- meaning). A flow is named by its id. Half of the id is the index of its connection. If the id is
+-- even, the flow is the even one of its connection, else the odd one.
 use Rattle.std.specs.Prelude.{◌≡◌, ℕ, ◌+◌, ◌-◌, ◌^◌, ◌/◌, min, Bool, true, false, ◌||◌, List, [], ◌∷◌, ◌++◌, map, Option, Some, None, IfSome, slice_get, set, replicate, if◌then◌else◌}
 use Rattle.giop_print.specs.Output.{counted}
 use Rattle.giop_sig.specs.Table.{Table}
@@ -28,9 +28,9 @@ use Rattle.giop_conversation.specs.Exchanges.{Exchanged, answer_of, notified}
 use Rattle.giop_conversation.specs.Stamped.{begin_lines, exchanged, stamped}
 use Rattle.giop_conversation.specs.Followed.{side_of, other}
 
--- what is set before a capture is read: the types, how many messages of a stream may be open at
--- once, how many calls of a flow may be outstanding, how many connections are known at once, and the
--- number of the first stream
+-- what is set before a capture is read: the types, the greatest number of open messages of a
+-- stream, the greatest number of outstanding calls of a flow, the greatest number of connections
+-- that are known at once, and the number of the first stream
 pub record Setup : Type 0 where
   pub table : Table
   pub messages : ℕ
@@ -54,8 +54,8 @@ pub record Half : Type 0 where
   pub flow : Option Flow  -- who sends to whom
   pub stream : ℕ  -- the number of its last stream; 0 if none has begun
   pub is_live : Bool  -- whether that stream lives
-  pub octets : List ℕ  -- what was delivered of that stream
-  pub answers : Answers  -- which operations the ids of the stream's messages answer
+  pub octets : List ℕ  -- the octets that were delivered of that stream
+  pub answers : Answers  -- the operations that the ids of the stream's messages answer
   pub calls : Entries Call  -- its outstanding calls
 
 pub record Connection : Type 0 where
@@ -70,11 +70,11 @@ abbrev pub with_half : Side → Connection → Half → Connection
 with_half Even c s = record c { even = s }
 with_half Odd c s = record c { odd = s }
 
--- the rules that a stream is read by, where the ids of its messages answer these operations
+-- the rules by which a stream is read, if the ids of its messages answer these operations
 abbrev pub rules_in : Setup → Answers → Rules
 rules_in S a = rules_by S.table a S.messages
 
--- the calls of the connection, as the stream of a flow is read in this packet
+-- the calls of the connection, when the stream of a flow is read in this packet
 abbrev pub calls_in : Setup → Side → Arrival → Connection → Exchanged
 calls_in S side arrival c = record {
   table = S.table;
@@ -87,7 +87,7 @@ calls_in S side arrival c = record {
   raised = None;
 }
 
--- who sends to whom in a flow; it has no calls
+-- after it is known who sends to whom in a flow: the flow has no calls
 abbrev pub opened : Side → Flow → Connection → Connection
 opened side flow c =
     with_half side c (record (half side c) {
@@ -95,12 +95,12 @@ opened side flow c =
       calls = record (half side c).calls { entries = [] };
     })
 
--- a stream of this number begins in a flow
+-- after a stream of this number has begun in a flow
 abbrev pub begun : Side → ℕ → Connection → Connection
 begun side stream c =
     with_half side c (record (half side c) { stream = stream; is_live = true; octets = [] })
 
--- the stream of a flow closes
+-- after the stream of a flow has closed
 abbrev pub ended : Side → Connection → Connection
 ended side c = with_half side c (record (half side c) { is_live = false })
 
@@ -119,7 +119,7 @@ abbrev pub calls_behind : Setup → Answers → Side → List ℕ → Arrival �
 calls_behind S a side octets arrival c =
     exchanged (rules_in S a) (calls_in S side arrival c) (half side c).octets octets
 
--- the connection after them
+-- the connection after octets that are delivered in this packet, by these answers
 abbrev pub delivered : Setup → Answers → Side → List ℕ → Arrival → Connection → Connection
 delivered S a side octets arrival c =
     let behind = calls_behind S a side octets arrival c in
@@ -131,20 +131,21 @@ delivered S a side octets arrival c =
     }))
     (record (half (other side) c) { calls = behind.opposite })
 
--- their lines, without the tag
+-- the lines of octets that are delivered in this packet, by these answers, without the tag
 abbrev pub delivered_lines : Setup → Answers → Side → List ℕ → Arrival → Connection → List ℕ
 delivered_lines S a side octets arrival c =
     stamped (rules_in S a) (calls_in S side arrival c) (half side c).octets octets
 
--- These answers are those of the calls: they are the stream's for what was delivered before, and a
--- Reply whose header ends in the octets has results of the operation of the call that it answers.
+-- These answers are those of the calls. They agree with the stream's answers for what was delivered
+-- before. And if the header of a Reply ends in the octets, the Reply has results of the operation
+-- of the call that it answers.
 pub record IsAnswered (S : Setup) (a : Answers) (side : Side) (octets : List ℕ)
     (arrival : Arrival) (c : Connection) : Type 0 where
   pub before : AnswersAgree S.messages (half side c).octets (half side c).answers a
   pub now : AgreesAtEnds answer_of notified S.table (calls_in S side arrival c) a
       (header_ends_from (rules_in S a) (half side c).octets octets)
 
--- the lines with which the stream of a flow closes: why, and its closing
+-- the lines with which the stream of a flow closes: why it closes, and its closing
 abbrev pub closed_lines : Setup → Side → CloseCause → Connection → List ℕ
 closed_lines S side cause c =
     closed_line cause ++ closing (rules_in S (half side c).answers) (half side c).octets
@@ -154,11 +155,11 @@ closed_lines S side cause c =
 pub record Dump : Type 0 where
   pub connections : List Connection
   pub streams : ℕ  -- how many streams have begun
-  pub messages : ℕ  -- how many messages and faults the streams had that have closed
+  pub messages : ℕ  -- the sum of the messages of the streams that have closed
   pub faults : ℕ
-  pub others : ℕ  -- how many payloads were looked through in which no stream begins
-  pub is_cut : Bool  -- whether a stream was cut by a gap or for room, or the capture has a fault
-  pub arrival : Arrival  -- the packet of what is delivered
+  pub others : ℕ  -- the number of payloads that were looked through and in which no stream begins
+  pub is_cut : Bool  -- whether the capture has a fault, or a gap or lack of room cut a stream
+  pub arrival : Arrival  -- the packet in which the next octets are delivered
   pub text : List ℕ  -- all that was written
 
 abbrev pub new_half : Setup → Half
@@ -174,7 +175,7 @@ new_half S = record {
 abbrev pub new_connection : Setup → Connection
 new_connection S = record { even = new_half S; odd = new_half S }
 
--- before a capture is read, where this was written
+-- the dump before a capture is read, when this text was written before
 abbrev pub start : Setup → List ℕ → Dump
 start S written = record {
   connections = replicate S.connections (new_connection S);
@@ -187,15 +188,15 @@ start S written = record {
   text = written;
 }
 
--- sums stay at their greatest
+-- the sum of two numbers, or the greatest number of 64 bits if the sum is greater
 abbrev pub sum_within : ℕ → ℕ → ℕ
 sum_within a b = min (a + b) (2 ^ 64 - 1)
 
--- the number of a stream that begins where so many have begun before it
+-- the number of the next stream, when this number of streams have begun before it
 abbrev pub number_in : Setup → ℕ → ℕ
 number_in S begun = sum_within S.first begun
 
--- the connection of a flow, where there is one
+-- the connection of a flow, if the flow has one
 abbrev pub connection_of : Dump → ℕ → Option Connection
 connection_of d id = slice_get d.connections (id / 2)
 
@@ -223,7 +224,7 @@ delivered_in S a d id octets (Some c) =
           (delivered_lines S a (side_of id) octets d.arrival c);
     }
 
--- whether a stream that closes is cut
+-- whether a stream that closes for this cause is cut
 abbrev pub cuts : CloseCause → Bool
 cuts Gap = true
 cuts Room = true
@@ -245,7 +246,8 @@ closed_in S d id cause (Some c) =
       text = d.text ++ with_tags (stream_tag s.stream) (closed_lines S (side_of id) cause c);
     }
 
--- after an event, where the ids of the messages of the stream that is read answer these operations
+-- the dump after an event, if the ids of the messages of the stream that is read answer these
+-- operations
 abbrev pub stepped : Setup → Answers → Dump → Event → Dump
 stepped S a d (Opens id flow) = opened_in d id flow (connection_of d id)
 stepped S a d (Begins id start) = begun_in S d id start (connection_of d id)
@@ -256,7 +258,7 @@ stepped S a d (OfCapture (Passes octets)) = record d { others = counted d.others
 stepped S a d (OfCapture (HasFault word at)) =
     record d { is_cut = true; text = d.text ++ capture_fault_line word at }
 
--- These answers are those of the calls, where octets are delivered.
+-- if the event delivers octets, these answers are those of the calls
 abbrev pub Answered : Setup → Answers → Dump → Event → Type 0
 Answered S a d (Delivers id octets) =
     IfSome (connection_of d id) (λ c. IsAnswered S a (side_of id) octets d.arrival c)
@@ -265,13 +267,13 @@ Answered S a d (Begins id start) = Unit {0}
 Answered S a d (Closes id cause) = Unit {0}
 Answered S a d (OfCapture event) = Unit {0}
 
--- An event leads from one dump to the next.
+-- The event leads from one dump to the next, by some answers.
 pub record Step (S : Setup) (d : Dump) (e : Event) (behind : Dump) : Type 0 where
   pub answers : Answers
   pub answered : Answered S answers d e
   pub is : behind ≡ stepped S answers d e
 
--- a dump but for the answers of its streams
+-- a connection, without the answers of its streams
 abbrev pub unanswered : Connection → Connection
 unanswered c = record {
   even = record c.even { answers = λ number id. None };
@@ -281,12 +283,12 @@ unanswered c = record {
 abbrev pub without_answers : Dump → Dump
 without_answers d = record d { connections = map unanswered d.connections }
 
--- Events lead from one dump to another.
+-- The events lead from one dump to another.
 abbrev pub Leads : Setup → Dump → List Event → Dump → Type 0
 Leads S d [] behind = behind ≡ d
 Leads S d (e ∷ es) behind = (between : Dump) × Step S d e between × Leads S between es behind
 
--- what a capture of so many packets and octets has
+-- the sums of a capture that has this number of packets and octets
 abbrev pub totals_of : Dump → ℕ → ℕ → CaptureTotals
 totals_of d packets octets = record {
   streams = d.streams;
@@ -297,6 +299,6 @@ totals_of d packets octets = record {
   others = d.others;
 }
 
--- its text, the last line included
+-- the text of a capture that has this number of packets and octets, with its last line
 abbrev pub finished_text : Dump → ℕ → ℕ → List ℕ
 finished_text d packets octets = d.text ++ capture_total_line (totals_of d packets octets)

@@ -1,4 +1,4 @@
--- One direction of a connection as contracts see it, and which stream it has read (state).
+-- One direction of a connection as contracts see it, and the stream that it has read (state).
 use Rattle.std.specs.Prelude.{◌≡◌, ℕ, Bool, List, Option, Some, None}
 use Rattle.giop_checkpoint.specs.declared.fault.StreamFault.{StreamFault}
 use Rattle.giop_sig.specs.Table.{Table}
@@ -13,7 +13,7 @@ pub record DirectionView : Type 0 where
   pub is_live : Bool  -- whether that stream lives
   pub flow : Option Flow  -- who sends to whom
 
--- the octet of a stream, from 1, at which it has a stream fault, if it has one
+-- the number of the octet at which a stream has a stream fault, from 1, if it has one
 abbrev pub fault_place : Option (ℕ × StreamFault) → Option ℕ
 fault_place None = None
 fault_place (Some found) = Some found.0

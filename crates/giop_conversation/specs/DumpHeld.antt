@@ -1,4 +1,4 @@
--- Which dump the connections of a capture hold: what is written of them, and what they know of
+-- The dump that the connections of a capture hold: what was written of them, and what they know of
 -- their streams and calls (state).
 use Rattle.std.specs.Prelude.{◌≡◌, ℕ, List, [], ◌∷◌, ◌++◌, Bool, ◌||◌, nat_lt, Result, MatchResult}
 use Rattle.tcp_flow.specs.Flow.{Event}
@@ -15,7 +15,7 @@ use Rattle.giop_conversation.specs.Directions.{DirectionView}
 use Rattle.giop_conversation.specs.Followed.{other}
 use Rattle.giop_conversation.specs.Captured.{Setup, Half, Connection, Dump, Leads, start, finished_text, half, IsAnswered, delivered, delivered_lines}
 
--- a direction holds a flow
+-- a direction holds one flow of a connection
 pub record HoldsHalf (S : Setup) (d : DirectionView) (s : Half) : Type 0 where
   pub holds : HoldsBy d.engine s.answers s.octets
   pub table : d.engine.table ≡ S.table
@@ -24,20 +24,21 @@ pub record HoldsHalf (S : Setup) (d : DirectionView) (s : Half) : Type 0 where
   pub live : d.is_live ≡ s.is_live
   pub flow : d.flow ≡ s.flow
 
--- An exchange has the calls of a connection, those of this flow as its own.
+-- The exchange has the calls of a connection. Those of this flow are its own.
 pub record HasCalls (side : Side) (calls : Exchanged) (c : Connection) : Type 0 where
   pub own : calls.own ≡ (half side c).calls
   pub opposite : calls.opposite ≡ (half (other side) c).calls
 
--- a connection holds what is known of it
+-- a conversation holds a connection: both flows, and the calls
 pub record HoldsConnection (S : Setup) (r : Conversation) (c : Connection) : Type 0 where
   pub even : HoldsHalf S r.even c.even
   pub odd : HoldsHalf S r.odd c.odd
   pub calls : HasCalls r.side r.exchange c
 
--- The octets of a flow were read by answers that are those of the calls: it holds the connection
--- after them, and below stand their lines, each with the tag of the stream; or a front of them,
--- where a put failed.
+-- What a call that reads octets of a flow has done. There are answers that are those of the calls.
+-- By these, the conversation holds the connection after the octets, and the text below ends in
+-- their lines, each with the tag of the stream. If a put failed, the text below ends in a front of
+-- those lines.
 pub record ReadsBy {A E : Type 0} (S : Setup) (c : Connection) (side : Side) (octets : List ℕ)
     (arrival : Arrival) (w : List ℕ) (result : Result A E) (r : Conversation) (out : Tagging) :
     Type 0
@@ -51,15 +52,15 @@ pub record ReadsBy {A E : Type 0} (S : Setup) (c : Connection) (side : Side) (oc
         (λ _. WroteTaggedFront out w (stream_tag (half side c).stream)
         (delivered_lines S answers side octets arrival c))
 
--- each does
+-- the conversations hold the connections, each the one at its place in the list
 abbrev pub AreHeld : Setup → List Conversation → List Connection → Type 0
 AreHeld S [] [] = Unit {0}
 AreHeld S [] (c ∷ cs) = ⊥
 AreHeld S (r ∷ rs) [] = ⊥
 AreHeld S (r ∷ rs) (c ∷ cs) = HoldsConnection S r c × AreHeld S rs cs
 
--- Connections, what they wrote through an out with tags, the packet that is read, the number of the
--- first stream, and the sums over the streams are those of a dump.
+-- A dump is held: by the connections, by the text that they wrote through an out with tags, by the
+-- packet that is read, the number of the first stream, and the sums over the streams.
 pub record HoldsDump (S : Setup) (rooms : List Conversation) (out : Tagging) (arrival : Arrival)
     (first : ℕ) (totals : CaptureTotals) (cut : Bool) (d : Dump) : Type 0 where
   pub connections : AreHeld S rooms d.connections
@@ -72,8 +73,8 @@ pub record HoldsDump (S : Setup) (rooms : List Conversation) (out : Tagging) (ar
   pub others_are : totals.others ≡ d.others
   pub cut_is : cut ≡ d.is_cut
 
--- The events lead from the start, where this was written below, to such a dump: all of its text was
--- written, and no more.
+-- The events lead from the start, when this was written below, to a dump that is held. So all of
+-- its text was written, and nothing else.
 pub record HasTold (S : Setup) (written : List ℕ) (events : List Event) (rooms : List Conversation)
     (out : Tagging)
     (arrival : Arrival) (first : ℕ) (totals : CaptureTotals) (cut : Bool) : Type 0 where
@@ -81,7 +82,7 @@ pub record HasTold (S : Setup) (written : List ℕ) (events : List Event) (rooms
   pub leads : Leads S (start S written) events dump
   pub holds : HoldsDump S rooms out arrival first totals cut dump
 
--- A put failed: of the text that the events lead to a front was written, and maybe the beginning of
+-- A put failed: a front of the text that the events lead to was written, and maybe the beginning of
 -- a tag.
 pub record HasToldFront (S : Setup) (written : List ℕ) (events : List Event) (out : Tagging) : Type
     0 where
@@ -93,8 +94,8 @@ pub record HasToldFront (S : Setup) (written : List ℕ) (events : List Event) (
   pub text : dump.text ≡ before ++ with_tags tag lines
   pub front : WroteTaggedFront out before tag lines
 
--- The text of the events was written, and the last line of the capture. Whether anything is to be
--- told of it at the end.
+-- The text of the events was written, and then the last line of the capture. `is_faulted` tells
+-- whether the capture was cut or a fault was counted.
 pub record HasFinished (S : Setup) (written : List ℕ) (events : List Event) (packets octets : ℕ)
     (out : Tagging)
     (is_faulted : Bool) : Type 0 where
@@ -103,7 +104,7 @@ pub record HasFinished (S : Setup) (written : List ℕ) (events : List Event) (p
   pub ready : IsReady out (finished_text dump packets octets)
   pub faulted : is_faulted ≡ (dump.is_cut || nat_lt 0 dump.faults)
 
--- a front of that, where a put failed
+-- A put failed: a front of the text of the events and of the last line was written.
 pub record HasFinishedFront (S : Setup) (written : List ℕ) (events : List Event)
     (packets octets : ℕ)
     (out : Tagging) : Type 0 where

@@ -1,4 +1,5 @@
--- What an exchange answers are operations of its table, and fewer after each header (laws).
+-- What an exchange answers are operations of its table. After each header it answers at most what
+-- it answered before (laws).
 use Rattle.std.proofs.Common.{◌≡◌, ℕ, cond, ltb, ◌<◌, ◌==◌, Bool, true, false, List, [], ◌∷◌, length, Option, Some, None, IfSome, option_and_then, refl, sym, ◌∙◌}
 use Rattle.std.specs.List.{find}
 use Rattle.std.specs.Option.{option_map}
@@ -11,7 +12,7 @@ use Rattle.giop_message.specs.MessageState.{AreKnown}
 use Rattle.giop_message.specs.HeaderEnds.{CallEvent, Requested, Replied, Raised, HasKnownOperation}
 use Rattle.giop_conversation.specs.Exchanges.{Exchanged, answer_of, call_of, notified, operation_numbered}
 
--- after a Reply none of its id is found,
+-- after the entry of an id is taken out, none of that id is found
 none_found : (id : ℕ) (es : List (Entry Call)) → find (λ e. e.key == id) (without id es) ≡ None
 none_found id [] = refl
 none_found id (e ∷ es) = by (e.key == id) refl (none_found id es)
@@ -21,7 +22,7 @@ none_found id (e ∷ es) = by (e.key == id) refl (none_found id es)
     by true is rest = rw is rest
     by false is rest = rw (is, is) rest
 
--- and the others are, as before
+-- the entries of other ids are found as before
 others_found : (id other : ℕ) (es : List (Entry Call)) → (other == id) ≡ false →
     find (λ e. e.key == other) (without id es) ≡ find (λ e. e.key == other) es
 others_found id other [] apart = refl
@@ -37,7 +38,8 @@ others_found id other (e ∷ es) apart =
     by false is true here rest = rw (is, here) refl
     by false is false here rest = rw (is, here) rest
 
--- a call with another in its place
+-- if the call of an id is taken out, what the other ids answer are operations of the table as
+-- before
 fits_still : (C table : Table) (id other : ℕ) (es : List (Entry Call)) →
     IfSome (option_and_then (λ call. option_and_then (operation_numbered table) call.operation)
     (option_map (λ e. e.value) (find (λ e. e.key == other) es)))
@@ -63,7 +65,7 @@ known_still C s (Replied number id) known fits =
     λ other. fits_still C s.table id other s.opposite.entries (known other)
 known_still C s (Raised number name) known fits = known
 
--- an operation of a number is one of the table
+-- an operation that is found by its number is in the table
 numbered_known : (C : Table) (n : ℕ) →
     IfSome (operation_numbered C n) (λ o. o.0 < length C.operations)
 numbered_known C n = by (ltb n (length C.operations)) refl

@@ -1,6 +1,6 @@
--- The calls of a connection, as the correspondent of a stream of it knows them (meaning). Of both
--- directions the calls are kept that have no reply yet: those of the stream that is read, and those
--- of the opposite one, which its Replies answer.
+-- The calls of a connection, as the correspondent of one of its streams knows them (meaning). The
+-- calls that have no reply yet are kept for both directions: those of the stream that is read, and
+-- those of the opposite stream, which Replies of the first one answer.
 use Rattle.std.specs.Prelude.{ℕ, ◌&&◌, ◌||◌, ◌==◌, Bool, is_some, List, [], ◌∷◌, ◌++◌, length, Option, Some, None, nat_le, nat_lt, option_and_then, if◌then◌else◌}
 use Rattle.std.specs.List.{find}
 use Rattle.std.specs.Option.{option_map}
@@ -14,30 +14,30 @@ use Rattle.giop_message.specs.Signatures.{Answer}
 use Rattle.giop_message.specs.HeaderEnds.{CallEvent, Requested, Replied, Raised}
 use Rattle.tcp_waiting.specs.declared.arrival.Arrival.{Arrival}
 
--- a Reply that answers a call: its number in its stream, and the call
+-- a Reply that answers a call: the number of the Reply in its stream, and the call
 pub record Answering : Type 0 where
   pub message : ℕ
   pub call : Call
 
--- a Reply that raises an exception: its number in its stream, and the exception's name
+-- a Reply that raises an exception: the number of the Reply in its stream, and the exception's name
 pub record Raising : Type 0 where
   pub message : ℕ
   pub name : List ℕ
 
 pub record Exchanged : Type 0 where
   pub table : Table  -- the operations by their numbers
-  pub own : Entries Call  -- the calls of the stream that is read
-  pub opposite : Entries Call  -- those that its Replies answer
+  pub own : Entries Call  -- the calls of the direction that is read
+  pub opposite : Entries Call  -- the calls of the opposite direction, which the Replies answer
   pub stream : ℕ  -- the number of the stream that is read
   pub arrival : Arrival  -- the packet that is read
-  pub replied : ℕ  -- the number of the last Reply whose header has ended; 0 where there is none
+  pub replied : ℕ  -- the number of the last Reply whose header has ended; 0 if there is none
   pub answered : Option Answering  -- what that Reply answers
   pub raised : Option Raising  -- the last exception that a Reply raises
 
 abbrev pub with_entries : Entries Call → List (Entry Call) → Entries Call
 with_entries calls es = record calls { entries = es }
 
--- the outstanding call of an id
+-- the outstanding call of an id, if there is one
 abbrev pub call_of : Entries Call → ℕ → Option Call
 call_of calls id = option_map (λ e. e.value) (find (λ e. e.key == id) calls.entries)
 
@@ -45,13 +45,14 @@ call_of calls id = option_map (λ e. e.value) (find (λ e. e.key == id) calls.en
 abbrev pub operation_numbered : Table → ℕ → Option OpId
 operation_numbered C n = if nat_lt n (length C.operations) then Some (op_id n) else None
 
--- a Reply of an id has results of the operation of the call that it answers
+-- the operation that a Reply of this id has results of: the operation of the call that it answers
 abbrev pub answer_of : Exchanged → Answer
 answer_of s id =
     option_and_then (λ call. option_and_then (operation_numbered s.table) call.operation)
     (call_of s.opposite id)
 
--- the name by which a call is kept: one that a call line shows, where a reply is expected
+-- the name by which a call is kept, if it is kept: a reply is expected, and the name has at most
+-- 128 octets, because a line shows no longer name
 abbrev pub kept_name : Option (List ℕ) → Bool → Option (List ℕ)
 kept_name None expects = None
 kept_name (Some name) expects = if expects && nat_le (length name) 128 then Some name else None
@@ -65,23 +66,25 @@ call_named s number name operation = record {
   time = s.arrival.time;
 }
 
--- the calls of the stream after a Request of this number and id: an older one of its id goes
+-- the calls of the stream after a Request of this number and id; an older call of the same id goes
 abbrev pub requested : Exchanged → ℕ → ℕ → Option (List ℕ) → Option OpId → Entries Call
 requested s number id None operation = with_entries s.own (without id s.own.entries)
 requested s number id (Some name) operation =
     with_entries s.own (newest s.own.most (without id s.own.entries
     ++ record { key = id; value = call_named s number name operation } ∷ []))
 
--- an exception is kept by a name of at most 128 octets, as one is whose name is shown
+-- the exception that is kept of a Reply, if its name has at most 128 octets, because a line shows
+-- no longer name
 abbrev pub kept_exception : ℕ → List ℕ → Option Raising
 kept_exception number name =
     if nat_le (length name) 128 then Some (record { message = number; name = name }) else None
 
--- a Reply waits to be told: what it answers, or what it raises
+-- whether lines wait to be written of a Reply: it answers a call, or raises an exception
 abbrev pub is_waiting : Exchanged → Bool
 is_waiting s = is_some s.answered || is_some s.raised
 
--- after the header of a Request, and after that of a Reply, which takes the call that it answers
+-- the calls after an event: the end of a Request's header; the end of a Reply's header, which takes
+-- away the call that it answers; or the name of an exception that a Reply raises
 abbrev pub notified : Exchanged → CallEvent → Exchanged
 notified s (Requested number id name operation expects) =
     record s { own = requested s number id (kept_name name expects) operation }

@@ -1,6 +1,6 @@
--- The streams of a capture by what has happened in its flows (meaning), and which connections have
--- read them (state). A connection has two flows, and its directions are those of the one with an
--- even id and of the other.
+-- The streams of a capture by what has happened in its flows (meaning), and that connections have
+-- read them (state). A connection has two flows, one with an even id and one with an odd id, and a
+-- direction for each.
 use Rattle.std.specs.Prelude.{ℕ, ◌/◌, ◌%◌, ◌==◌, List, [], ◌∷◌, ◌++◌, Option, None, IfSome, slice_get, if◌then◌else◌}
 use Rattle.std.specs.Option.{option_map}
 use Rattle.tcp_flow.specs.Flow.{Event, Begins, Delivers, Reader}
@@ -12,40 +12,40 @@ use Rattle.giop_conversation.specs.declared.conversation.Conversation.{Conversat
 
 -- ---- the streams
 
--- the octets of a flow's last stream after one more event, whichever flow that is of
+-- the octets of a flow's last stream after one more event, of this flow or of another
 unfoldable pub octets_behind : ℕ → List ℕ → Event → List ℕ
 octets_behind flow p (Begins id start) = if id == flow then [] else p
 octets_behind flow p (Delivers id octets) = if id == flow then p ++ octets else p
 octets_behind flow p _ = p
 
--- those after all events, from these on
+-- the octets of a flow's last stream after these events, if they were `p` before
 unfoldable pub octets_from : ℕ → List ℕ → List Event → List ℕ
 octets_from flow p [] = p
 octets_from flow p (e ∷ es) = octets_from flow (octets_behind flow p e) es
 
--- the octets that were delivered of a flow's last stream; none before the first began
+-- the octets that were delivered of a flow's last stream; none if none has begun
 abbrev pub octets_of : ℕ → List Event → List ℕ
 octets_of flow events = octets_from flow [] events
 
--- if octets were delivered in an event, and the stream that they are of has a stream fault after all
--- of these events, the octet of the stream, from 1, at which it has it
+-- if an event delivers octets to a stream that has a stream fault after all of these events: the
+-- number of the octet at which it has it, from 1
 abbrev pub fault_at : List Event → Event → Option ℕ
 fault_at events (Delivers id octets) = fault_place (cut (octets_of id events)).stop
 fault_at events _ = None
 
--- the same of the last event of a list
+-- the same number for the last event of a list
 unfoldable pub last_fault_at : List Event → List Event → Option ℕ
 last_fault_at events [] = None
 last_fault_at events (e ∷ []) = fault_at events e
 last_fault_at events (e ∷ e' ∷ es) = last_fault_at events (e' ∷ es)
 
--- the octet at which the stream that octets were delivered to last has a stream fault, if it has one,
--- by all that has happened
+-- the number of the octet at which the last stream that got octets has a stream fault, if it has
+-- one, by all that has happened
 abbrev pub reader_faulted : List Event → Option ℕ
 reader_faulted events = last_fault_at events events
 
--- how many octets the message that a flow's last stream is in lacks until its end, by all that has
--- happened, if its header is complete, or 0 if the stream is in none
+-- how many octets are missing until the end of the message that a flow's last stream is in, by all
+-- that has happened, if the message's header is complete; 0 if the stream is in none
 abbrev pub reader_lacking : List Event → ℕ → Option ℕ
 reader_lacking events flow = lacking (cut (octets_of flow events))
 
@@ -62,16 +62,16 @@ abbrev pub other : Side → Side
 other Even = Odd
 other Odd = Even
 
--- the direction of a connection
+-- the direction of one flow of a connection
 abbrev pub direction : Side → Conversation → DirectionView
 direction Even c = c.even
 direction Odd c = c.odd
 
--- the direction of a flow, where its connection has a room
+-- the direction of a flow, if its connection has a room
 abbrev pub direction_of : List Conversation → ℕ → Option DirectionView
 direction_of rooms flow = option_map (direction (side_of flow)) (slice_get rooms (flow / 2))
 
--- The direction of each flow has read its last stream.
+-- The direction of each flow that has a room has read the flow's last stream.
 abbrev pub HaveFollowed : List Conversation → List Event → Type 0
 HaveFollowed rooms events =
     (flow : ℕ) → IfSome (direction_of rooms flow) (λ d. HasRead d.engine (octets_of flow events))

@@ -1,4 +1,4 @@
--- The connections of a capture have followed what has happened in its flows (state).
+-- The connections of a capture have followed what has happened in the capture's flows (state).
 use Rattle.std.specs.Prelude.{List}
 use Rattle.tcp_flow.specs.Flow.{Event}
 use Rattle.giop_conversation.specs.declared.conversations.Conversations.{Conversations}

@@ -1,5 +1,5 @@
--- The lines of a capture beside those of its streams (docs/FORMATS.md; meaning). Those of a stream
--- have its tag in front (Tags).
+-- The lines of a capture in addition to those that giopdump writes of its streams (docs/FORMATS.md;
+-- meaning). A line of a stream has the stream's tag in front of it (Tags).
 use Rattle.std.specs.Prelude.{ℕ, nat_lt, Bool, List, [], ◌∷◌, ◌++◌, Option, Some, None, codes, decimal, if◌then◌else◌}
 use Rattle.giop_print.specs.Text.{joined}
 use Rattle.giop_calls.specs.declared.calls.Call.{Call}
@@ -12,40 +12,40 @@ use Rattle.giop_conversation.specs.declared.lines.CaptureTotals.{CaptureTotals}
 use Rattle.giop_conversation.specs.declared.lines.Opening.{Opening}
 use Rattle.giop_conversation.specs.Times.{time_text, span_text}
 
--- which stream of the opposite flow lives where one begins, if any does
+-- the number of the stream of the opposite flow that lives when a stream begins, if one does
 abbrev pub partner_text : Option ℕ → List ℕ
 partner_text None = []
 partner_text (Some stream) = codes " with s" ++ decimal stream
 
--- how many octets are in no stream before one, if any are
+-- the number of octets before a stream that are in no stream, if there are any
 abbrev pub passed_text : ℕ → List ℕ
 passed_text passed = if nat_lt 0 passed then codes " behind " ++ decimal passed else []
 
--- whether its place was looked for
+-- ` found`, if the place of the stream was looked for
 abbrev pub found_text : Bool → List ℕ
 found_text is_found = if is_found then codes " found" else []
 
--- the beginning of a stream
+-- the line with which a stream begins
 unfoldable pub stream_line : Flow → Opening → List ℕ
 stream_line flow opening =
     joined (codes "stream " ∷ endpoint_text flow.from ∷ codes " > " ∷ endpoint_text flow.to
     ∷ codes " at " ∷ time_text opening.time ∷ partner_text opening.partner
     ∷ passed_text opening.start.passed ∷ found_text opening.start.is_found ∷ codes "\n" ∷ [])
 
--- when the header of a message was complete, and in which packet of the capture
+-- the line that says when the header of a message was complete, and in which packet of the capture
 unfoldable pub time_line : ℕ → Arrival → List ℕ
 time_line message arrival =
     joined (codes "m" ∷ decimal message ∷ codes " time " ∷ time_text arrival.time
     ∷ codes " packet " ∷ decimal arrival.packet ∷ codes "\n" ∷ [])
 
--- the call that a Reply answers, and how long after it
+-- the line of the call that a Reply answers, and of how long after the call it came
 unfoldable pub answers_line : ℕ → Call → Option ℕ → List ℕ
 answers_line message call time =
     joined (codes "m" ∷ decimal message ∷ codes " answers s" ∷ decimal call.stream ∷ codes " m"
     ∷ decimal call.message
     ∷ codes " " ∷ call.name.items ∷ codes " after " ∷ span_text call.time time ∷ codes "\n" ∷ [])
 
--- the exception that a Reply raises, by its repository id
+-- the line of the exception that a Reply raises, by its repository id
 unfoldable pub raises_line : ℕ → List ℕ → List ℕ
 raises_line message repository =
     joined (codes "m" ∷ decimal message ∷ codes " raises " ∷ repository ∷ codes "\n" ∷ [])
@@ -59,17 +59,17 @@ cause_word Gap = codes "gap"
 cause_word Room = codes "room"
 cause_word End = codes "end"
 
--- why a stream closes
+-- the line that says why a stream closes
 unfoldable pub closed_line : CloseCause → List ℕ
 closed_line cause = joined (codes "closed " ∷ cause_word cause ∷ codes "\n" ∷ [])
 
--- the fault of the capture itself, and the number of its octet
+-- the line of the fault of the capture itself, with the number of its octet
 unfoldable pub capture_fault_line : List ℕ → ℕ → List ℕ
 capture_fault_line word at =
     joined (codes "capture fault " ∷ word ∷ codes " at " ∷ decimal at ∷ codes "\n" ∷ [])
 
--- the sums over all streams, the packets, the octets of the capture, and how many payloads were
--- looked through in which no stream begins
+-- the last line: the sums over all streams, the packets, the octets of the capture, and the number
+-- of payloads that were looked through and in which no stream begins
 unfoldable pub capture_total_line : CaptureTotals → List ℕ
 capture_total_line t =
     joined (codes "total streams " ∷ decimal t.streams ∷ codes " messages " ∷ decimal t.messages

@@ -1,8 +1,9 @@
--- That all that was put to an out is to be seen (meaning).
+-- All that was put to an out can be seen (meaning).
 use Rattle.std.specs.Prelude.{◌≡◌, ℕ, List, [], Option}
 use Rattle.giop_print.specs.Output.{OutLog}
 
--- There is an out that has what was put, and keeps nothing of it back: that of the last flush.
+-- There is an out, as the last flush left it, that has all that was put and keeps nothing of it
+-- back.
 pub record IsSeen {O : Type 0} (log : O → OutLog) (kept : O → List ℕ) (put : Option (List ℕ)) :
     Type 0 where
   pub out : O

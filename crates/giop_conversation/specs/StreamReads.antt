@@ -12,21 +12,22 @@ use Rattle.giop_conversation.specs.TaggedState.{Tagging, tagging_log, IsReady, W
 use Rattle.giop_conversation.specs.Exchanges.{Exchanged, answer_of, notified, is_waiting}
 
 -- These answers agree with the calls of the connection at each header that ends in these octets
--- after the stream p: each Reply has results of the operation of the call that it answers.
+-- after the stream p. If it is the header of a Reply, the Reply has results of the operation of the
+-- call that it answers.
 abbrev pub AgreeWith : EngineView → Answers → Exchanged → List ℕ → List ℕ → Type 0
 AgreeWith e a s p octets = AgreesOver answer_of notified s e a p octets
 
--- no line of the conversation is due after these octets of the stream p
+-- no line of the conversation is due after these octets, which come after the stream p
 abbrev pub IsUndueAfter : EngineView → Answers → Exchanged → List ℕ → List ℕ → Type 0
 IsUndueAfter e a s p octets =
     is_due_after is_waiting notified true e.table s (rules_with e a) p octets ≡ false
 
--- an engine reads by the same types, and allows as many open messages
+-- an engine reads by the same types as one before, and allows the same number of open messages
 pub record IsSetAlike (e before : EngineView) : Type 0 where
   pub table : e.table ≡ before.table
   pub most : e.most ≡ before.most
 
--- the calls of the connection, as a stream of this number is read in this packet
+-- the calls of the connection, when a stream of this number is read in this packet
 abbrev pub reading_in : EngineView → ℕ → Arrival → Exchanged → Exchanged
 reading_in e stream arrival s =
     record s {
@@ -54,8 +55,8 @@ pub record HasStood (e : EngineView) (a : Answers) (p : List ℕ) (after : Taggi
   pub ready : IsReady after below
   pub told : calls ≡ due
 
--- After what was written to the out below there stand these lines, each with the tag in front; or
--- a front of them, and maybe the beginning of a tag, where a put failed.
+-- The text below goes on with these lines, each with the tag in front. If a put failed, it goes on
+-- with a front of them, and maybe with the beginning of a tag.
 abbrev pub WritesTagged : {A E : Type 0} → Result A E → Tagging → List ℕ → List ℕ → List ℕ → Type 0
 WritesTagged result after w tag lines =
     MatchResult result (λ _. IsReady after (w ++ with_tags tag lines))

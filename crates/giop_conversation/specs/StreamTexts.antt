@@ -1,6 +1,6 @@
--- What has happened in each stream of a capture, by all events, and that its lines in the capture's
--- text are giopdump's but for those of five kinds (docs/FORMATS.md, Conversations of a capture;
--- meaning). A stream is named by its number.
+-- What has happened in each stream of a capture, by all events; and that its lines in the text of
+-- the capture, except those of five kinds, are giopdump's (docs/FORMATS.md, Conversations of a
+-- capture; meaning). A stream is named by its number.
 use Rattle.std.specs.Prelude.{◌≡◌, ℕ, ◌<◌, ◌^◌, ◌-◌, ◌/◌, ◌==◌, Bool, true, false, ◌||◌, nat_lt, List, [], ◌∷◌, ◌++◌, Option, None, if◌then◌else◌}
 use Rattle.std.specs.List.{AllByRecursion as Each}
 use Rattle.giop_print.specs.Output.{counted}
@@ -14,15 +14,15 @@ use Rattle.giop_conversation.specs.CaptureParts.{Part, text_of, IsWhole, read_of
 
 -- what has happened in a stream
 pub record StreamHistory : Type 0 where
-  pub octets : List ℕ  -- what was delivered of it
-  pub answers : Answers  -- by which its last octets were read: which operations the ids of its messages answer
+  pub octets : List ℕ  -- the octets that were delivered of it
+  pub answers : Answers  -- by which its last octets were read: what the ids of its messages answer
   pub is_closed : Bool
-  pub goes_on : Bool  -- whether octets were delivered or it closed once more, after its close
+  pub goes_on : Bool  -- whether octets were delivered after its close, or it closed once more
 
 abbrev pub new_stream : StreamHistory
 new_stream = record { octets = []; answers = λ number id. None; is_closed = false; goes_on = false }
 
--- octets are delivered, which are read by these answers
+-- a stream after octets were delivered, which were read by these answers
 abbrev pub read_on : Answers → List ℕ → StreamHistory → StreamHistory
 read_on a octets s =
     record s { octets = s.octets ++ octets; answers = a; goes_on = s.goes_on || s.is_closed }
@@ -30,16 +30,16 @@ read_on a octets s =
 abbrev pub closed : StreamHistory → StreamHistory
 closed s = record s { is_closed = true; goes_on = s.goes_on || s.is_closed }
 
--- what giopdump writes of a stream: its text, and its closing where it has closed
+-- what giopdump writes of a stream: its text, and then its closing if the stream has closed
 abbrev pub dumped : Rules → StreamHistory → List ℕ
 dumped R s = text R s.octets ++ (if s.is_closed then closing R s.octets else [])
 
 -- what has happened in the streams of a capture
 pub record History : Type 0 where
-  pub begun : ℕ  -- how many have begun
-  pub stream_of : ℕ → ℕ  -- the number of each flow's last stream, by the flow's id; 0 where none has begun
-  pub has_room : ℕ → Bool  -- whether the stream of each number began in a flow whose connection has a room
-  pub stream : ℕ → StreamHistory  -- of the stream of each number
+  pub begun : ℕ  -- how many streams have begun
+  pub stream_of : ℕ → ℕ  -- the number of each flow's last stream, by the flow's id; 0 without one
+  pub has_room : ℕ → Bool  -- whether the stream of each number began in a flow with a room
+  pub stream : ℕ → StreamHistory  -- the history of the stream of each number
 
 abbrev pub no_history : History
 no_history = record {
@@ -49,7 +49,8 @@ no_history = record {
   stream = λ number. new_stream;
 }
 
--- a stream of this number begins in the flow of this id, where its connection has a room or hasn't
+-- after a stream of this number has begun in the flow of this id; the Bool tells whether the flow's
+-- connection has a room
 abbrev pub with_begun : History → ℕ → ℕ → Bool → History
 with_begun h id number true =
     record h {
@@ -62,7 +63,7 @@ with_begun h id number false = record h { begun = counted h.begun }
 abbrev pub with_stream : History → ℕ → StreamHistory → History
 with_stream h number s = record h { stream = λ n. if number == n then s else h.stream n }
 
--- after one more event, where octets are read by these answers
+-- after one more event; if it delivers octets, these are read by the answers
 abbrev pub happened : Setup → Answers → History → Event → History
 happened S a h (Opens id flow) = h
 happened S a h (Begins id start) =
@@ -73,7 +74,7 @@ happened S a h (Closes id cause) =
     with_stream h (h.stream_of id) (closed (h.stream (h.stream_of id)))
 happened S a h (OfCapture event) = h
 
--- after all events, which lead from one dump to another: in each of them octets are read by its
+-- after all events, which lead from one dump to another; the octets of each event are read by its
 -- answers
 abbrev pub history : (S : Setup) → History → (d : Dump) → (events : List Event) → (behind : Dump) →
     Leads S d events behind → History
@@ -81,29 +82,31 @@ history S h d [] behind leads = h
 history S h d (e ∷ es) behind leads =
     history S (happened S leads.1.answers h e) leads.0 es behind leads.2
 
--- The lines that a stream has by itself are giopdump's: those where its octets are read are its
--- text, and all of them with those at its end are what giopdump writes, unless it goes on after
--- its close.
+-- The lines of a stream that giopdump writes too are exactly giopdump's. Those of its octets are
+-- its text. And unless the stream goes on after its close, those of its octets and of its end
+-- together are what giopdump writes of it.
 pub record IsDumped (S : Setup) (s : StreamHistory) (reads own : List ℕ) : Type 0 where
   pub reads_are : reads ≡ text (rules_in S s.answers) s.octets
   pub own_are : s.goes_on ≡ false → own ≡ dumped (rules_in S s.answers) s
 
--- Octets come in each flow, and a stream of it closes, only while one lives there, as in a flow
+-- In each flow, octets come and a stream closes only while a stream lives there, as in a flow
 -- without a gap (tcp_flow, Laws).
 abbrev pub AreGapless : List Event → Type 0
 AreGapless events =
     (flow : ℕ) → (payloads : _) × (due : Option ℕ) × AllFollow payloads flow None events due
 
--- The same, and each stream that began has closed.
+-- In each flow, octets come and a stream closes only while a stream lives there, and each stream
+-- that began has closed.
 abbrev pub AreWhole : List Event → Type 0
 AreWhole events = (flow : ℕ) → (payloads : _) × AllFollow payloads flow None events None
 
--- A number that no two streams have: a number stays at its greatest.
+-- The number is one that no two streams have: it is neither 0 nor the greatest, at which numbers
+-- stay.
 abbrev pub IsUnique : ℕ → Type 0
 IsUnique number = (0 < number) × (number < 2 ^ 64 - 1)
 
--- After what was written before, the text is parts, each of whole lines. Those that a stream has
--- by itself are giopdump's.
+-- The text is what was written before, and then parts, each of whole lines. In them, the lines of
+-- each stream that giopdump writes too are exactly giopdump's.
 pub record ShowsStreams (S : Setup) (written : List ℕ) (h : History) (all : List ℕ) : Type 0 where
   pub parts : List Part
   pub whole : Each IsWhole parts

@@ -1,10 +1,10 @@
 -- What is known of an `Out` that puts a tag in front of each line (state). Contracts see what was
--- written to the out below it, how much of that since the tag was set, and how many octets of the
--- tag are due before the next octet.
+-- written to the out below it, how many of these octets were written since the tag was set, and how
+-- many octets of the tag must be written before the next octet.
 --
--- What is written through it is read off what was written below: first what identifies the octets
--- before the tag was set and the tag, then the text without tags. So what a call of writing did to
--- it tells what it did to the out below.
+-- What was written through it is read from what was written below: first comes what identifies the
+-- octets before the tag was set and the tag, then the text without tags. So what a writing call did
+-- to it tells what the call did to the out below.
 use Rattle.std.specs.Prelude.{◌≡◌, ℕ, ◌-◌, ◌<◌, ◌≤◌, Bool, true, not, ◌&&◌, ◌||◌, ◌==◌, nat_le, List, ◌∷◌, ◌++◌, length, take, drop, Option, Some, None, option_and_then, if◌then◌else◌}
 use Rattle.std.specs.Str.{bytes_eq}
 use Rattle.giop_print.specs.Output.{OutLog}
@@ -12,38 +12,38 @@ use Rattle.giop_conversation.specs.Tags.{without_tags}
 use Rattle.giop_conversation.specs.TaggedText.{is_due, stopped_at, Stands}
 
 pub record Tagging : Type 0 where
-  pub whole : Option (List ℕ)  -- what was written to the out below, where that is known
+  pub whole : Option (List ℕ)  -- what was written to the out below, if that is known
   pub below : ℕ  -- how often the out below has failed
   pub tag : List ℕ
-  pub due : ℕ  -- how many octets of the tag are to be written before the next octet
+  pub due : ℕ  -- how many octets of the tag must be written before the next octet
   pub since : ℕ  -- how many octets were written since the tag was set
-  pub full : Bool  -- whether it has failed without a put
+  pub full : Bool  -- whether a call has failed without a put
   pub puts : ℕ
   pub failures : ℕ
 
--- The whole tag is due, some octets, and it is no longer than a block of 16.
+-- The whole tag is due, it has at least one octet, and it isn't longer than a block of 16.
 pub record IsShortDue (due : ℕ) (tag : List ℕ) : Type 0 where
   pub whole : due ≡ length tag
   pub some : 0 < length tag
   pub short : length tag ≤ 16
 
--- what identifies the octets before the tag was set, and the tag
+-- a list of numbers that identifies the octets before the tag was set, and the tag
 abbrev pub identity : List ℕ → List ℕ → List ℕ
 identity before tag = length before ∷ length tag ∷ (before ++ tag)
 
--- the octets since the tag was set
+-- the octets that were written since the tag was set
 abbrev pub body_of : ℕ → List ℕ → List ℕ
 body_of since w = drop (length w - since) w
 
 abbrev pub text_of : List ℕ → ℕ → List ℕ → List ℕ
 text_of tag since w = without_tags (length tag) (body_of since w)
 
--- no put failed, and the tag of a line that is due is due as a whole
+-- if no put has failed and a tag is due, the whole tag is due
 abbrev pub is_clean : List ℕ → ℕ → ℕ → List ℕ → Bool
 is_clean tag due failures text = (not (failures == 0) || not (is_due text)) || due == length tag
 
--- the octets since the tag was set are a text with tags, and all but `due` octets of the tag that
--- is due
+-- the octets since the tag was set are a text with tags; if a tag is due at their end, all of it
+-- but `due` octets stands there
 unfoldable pub is_tagged : List ℕ → ℕ → ℕ → ℕ → List ℕ → Bool
 is_tagged tag due since failures w =
     (nat_le since (length w) && nat_le due (length tag))
@@ -64,7 +64,7 @@ tagging_log t = record {
   failures = t.failures;
 }
 
--- No put has failed, this was written to the out below, and the next octet begins a line.
+-- No put has failed, exactly this was written to the out below, and the next octet begins a line.
 pub record IsReady (t : Tagging) (w : List ℕ) : Type 0 where
   pub known : t.whole ≡ Some w
   pub before : List ℕ
@@ -74,8 +74,8 @@ pub record IsReady (t : Tagging) (w : List ℕ) : Type 0 where
   pub due : t.due ≡ length t.tag
   pub sound : t.failures ≡ 0
 
--- A put failed: after what was written before to the out below there stands a front of the lines
--- with the tag, and maybe the beginning of a tag.
+-- A put failed: the text below is what was written before, then a front of these lines with the
+-- tag, and maybe the beginning of a tag.
 pub record WroteTaggedFront (t : Tagging) (w tag lines : List ℕ) : Type 0 where
   pub size : ℕ
   pub due : ℕ

@@ -1,18 +1,18 @@
--- Lines with a tag in front of each, as those of a stream in a capture (docs/FORMATS.md; meaning).
--- A line ends in LF.
+-- Lines with a tag in front of each, as the lines of a stream in a capture have it
+-- (docs/FORMATS.md; meaning). A line ends in LF.
 use Rattle.std.specs.Prelude.{ℕ, zero, suc, Bool, true, false, ◌==◌, List, [], ◌∷◌, ◌++◌, if◌then◌else◌, codes, decimal}
 
 -- the tag of a stream, by its number
 abbrev pub stream_tag : ℕ → List ℕ
 stream_tag number = codes "s" ++ (decimal number ++ codes " ")
 
--- what stands in front of an octet: the tag, where it is the first of a line
+-- what stands in front of an octet: the tag if the octet is the first of a line, else nothing
 abbrev pub lead : Bool → List ℕ → List ℕ
 lead true tag = tag
 lead false tag = []
 
--- the text with the tag in front of each line that begins in it, where its first octet is the first
--- of a line or isn't
+-- the text with the tag in front of each line that begins in it; the Bool tells whether its first
+-- octet is the first of a line
 unfoldable pub tagged : Bool → List ℕ → List ℕ → List ℕ
 tagged first tag [] = []
 tagged first tag (x ∷ xs) = lead first tag ++ x ∷ tagged (x == 10) tag xs
@@ -28,6 +28,6 @@ untagged skip size [] = []
 untagged zero size (x ∷ xs) = x ∷ untagged (if x == 10 then size else 0) size xs
 untagged (suc skip) size (x ∷ xs) = untagged skip size xs
 
--- the lines of a text without their tags, each of so many octets
+-- the lines of a text without their tags, each of `size` octets
 abbrev pub without_tags : ℕ → List ℕ → List ℕ
 without_tags size text = untagged size size text

@@ -28,14 +28,14 @@ use tcp_flow::{CloseCause, Start};
 use tcp_segment::Flow;
 use tcp_waiting::Arrival;
 
-/// Which of the two flows of a connection: the one with an even id, or the one with an odd id.
+/// One of the two flows of a connection: the one with the even id, or the one with the odd id.
 #[derive(Clone, Copy, Debug, PartialEq, Eq)]
 pub enum Side {
     Even,
     Odd,
 }
 
-/// Which flow of its connection one is, by its id.
+/// Whether a flow is the even or the odd one of its connection, by its id.
 pub fn side_of(flow: u32) -> Side
     ensures { result ≡ spec_side_of flow }
 {
@@ -55,7 +55,7 @@ fn opposite(side: Side) -> Side
 /// A connection: the directions of its two flows, and the calls of both.
 #[derive(Drop)]
 pub struct Conversation<'a> {
-    // The flow that was read last: the calls of the exchange's own stream are of it.
+    // The flow that was read last. In `exchange`, the calls of the own stream are those of this flow.
     side: Side,
     exchange: Exchange<'a>,
     even: Direction<'a>,
@@ -63,7 +63,7 @@ pub struct Conversation<'a> {
 }
 
 impl<'a> Conversation<'a> {
-    /// A connection without streams and calls. All memory is taken here.
+    /// Makes a connection without streams and calls. All memory is taken here.
     pub fn new(
         alloc: Global,
         catalogue: &'a Catalogue,
@@ -86,12 +86,12 @@ impl<'a> Conversation<'a> {
         })
     }
 
-    /// From now on a flow is read.
+    /// Makes a flow the one that is read. If the other flow was read before, the calls of the exchange change sides.
     fn face(&mut self, side: Side)
         ensures even { self.new.even ≡ self.old.even }
         ensures odd { self.new.odd ≡ self.old.odd }
         ensures value { self.new.side ≡ side }
-        // The calls of a connection stay, those of the flow as the exchange's own.
+        // No call of the connection is lost: after this the exchange has the calls of this flow as its own.
         ensures kept { (c : Connection) → HasCalls self.old.side self.old.exchange c →
             HasCalls side self.new.exchange c }
     {
@@ -101,7 +101,7 @@ impl<'a> Conversation<'a> {
         self.side = side;
     }
 
-    /// Who sends to whom in a flow is known from now on, and it has no calls.
+    /// Notes who sends to whom in a flow, and forgets the calls of that flow.
     pub fn open(&mut self, side: Side, flow: Flow)
         ensures even { self.new.even.engine ≡ self.old.even.engine }
         ensures odd { self.new.odd.engine ≡ self.old.odd.engine }
@@ -141,7 +141,8 @@ impl<'a> Conversation<'a> {
         ensures fails { FailsByPut result out.old out.new }
         ensures held { (S : Setup) (c : Connection) → HoldsConnection S self.old c →
             HoldsConnection S self.new (begun side stream c) }
-        // Below stands its line with the tag of the stream, or a front of it.
+        // After this the text below ends in the stream's first line, with the tag of the stream. After a failure it ends in
+        // a front of that line.
         ensures text { (S : Setup) (c : Connection) (w : List ℕ) → HoldsConnection S self.old c →
             IsReady out.old w → WritesTagged result out.new w (stream_tag stream)
             (begin_lines (half side c).flow (opening side time start c)) }
@@ -157,7 +158,8 @@ impl<'a> Conversation<'a> {
         }
     }
 
-    /// Reads octets of a flow's stream. Returns the octet of the stream, from 1, at which it has a stream fault, if it has one.
+    /// Reads octets of a flow's stream. If the stream has a stream fault, returns the number of the octet at which it has
+    /// it, from 1.
     pub fn read<O: Out>(
         &mut self,
         side: Side,
@@ -171,8 +173,9 @@ impl<'a> Conversation<'a> {
             IfOk result (λ at. at ≡ fault_place (cut (p ++ octets.now)).stop) }
         ensures other { direction (other side) self.new ≡ direction (other side) self.old }
         ensures fails { FailsByPut result out.old out.new }
-        // By answers that are those of the calls, below stand the lines of the octets, each with the tag of the stream, or a
-        // front of them; and it holds the connection after them.
+        // There are answers that are those of the calls. By these, the text below ends in the lines of the octets, each
+        // with the tag of the stream, and the connection is the one after the octets. After a failure the text ends in a
+        // front of those lines.
         ensures text { (S : Setup) (c : Connection) (w : List ℕ) → HoldsConnection S self.old c →
             IsReady out.old w → ReadsBy S c side octets.now arrival w result self.new out.new }
     {
@@ -185,8 +188,8 @@ impl<'a> Conversation<'a> {
         }
     }
 
-    /// How many octets the message that a flow's stream is in lacks until its end, if its header is complete; 0 between two
-    /// messages.
+    /// How many octets are missing until the end of the message that a flow's stream is in, if the message's header is
+    /// complete. It is 0 between two messages.
     pub fn lacking(&self, side: Side) -> Option<u32>
         ensures { (p : List ℕ) → HasRead (direction side self.now).engine p →
             result ≡ lacking (cut p) }
@@ -197,7 +200,7 @@ impl<'a> Conversation<'a> {
         }
     }
 
-    /// The stream of a flow closes. Returns what it had.
+    /// Closes the stream of a flow. Returns the totals of the stream.
     pub fn close<O: Out>(
         &mut self,
         side: Side,
@@ -209,7 +212,8 @@ impl<'a> Conversation<'a> {
         ensures held { (S : Setup) (c : Connection) → HoldsConnection S self.old c →
             HoldsConnection S self.new (ended side c) }
         ensures fails { FailsByPut result out.old out.new }
-        // Below stand why, and then the closing, each line with the tag of the stream; or a front of them.
+        // After this the text below ends in the line that says why the stream closes, and then the closing, each line with
+        // the tag of the stream. After a failure it ends in a front of these lines.
         ensures text { (S : Setup) (c : Connection) (w : List ℕ) → HoldsConnection S self.old c →
             IsReady out.old w → WritesTagged result out.new w (stream_tag (half side c).stream)
             (closed_lines S side cause c) }

@@ -1,4 +1,4 @@
-//! All connections of a capture: their streams as these begin, go on and close, and the lines of these.
+//! All connections of a capture: how their streams begin, go on and close, and the lines that are written of them.
 
 ghost use Rattle.std.specs.Prelude.{◌≡◌, ◌⊎◌, ◌≤◌, ◌<◌, ◌+◌, ◌*◌, ◌/◌, ◌++◌, ◌∷◌, ◌||◌, ℕ, List, [], true, length, nat_lt, IfOk, OnOk, OnErr, Err, Some, MatchResult};
 ghost use Rattle.std.specs.Io.KnownBytes.{Keeps};
@@ -27,14 +27,15 @@ use tcp_flow::{CloseCause, Start};
 use tcp_segment::Flow;
 use tcp_waiting::Arrival;
 
-/// A sum that stays at its greatest.
+/// The sum of two numbers, or the greatest number of 64 bits if the sum is greater.
 fn sum_within(a: u64, b: u64) -> u64
     ensures { result ≡ spec_sum_within a b }
 {
     a.saturating_add(b)
 }
 
-/// Whether a capture is cut once a stream closes: whether it was, or octets of the stream are missing or were no more waited for.
+/// Whether a capture is cut after a stream closes: it was cut before, or the stream closes because octets are missing or
+/// because there was no room to wait for them.
 fn is_cut(before: bool, cause: CloseCause) -> bool
     ensures { result ≡ (before || cuts cause) }
 {
@@ -48,16 +49,16 @@ fn is_cut(before: bool, cause: CloseCause) -> bool
     }
 }
 
-/// Whether anything is to be told of a capture at its end: whether it was cut, or a fault was counted.
+/// Whether a capture ends with something wrong: it was cut, or a fault was counted.
 fn is_faulted(cut: bool, faults: u64) -> bool
     ensures { result ≡ (cut || nat_lt 0 faults) }
 {
     cut || faults > 0
 }
 
-/// All connections of a capture, with an `Out` for their lines. A flow is named by its id: the room of its connection is half
-/// of it, and its last bit tells which of the two flows it is. Flows beyond the rooms are passed over. After a failed put
-/// nothing more is written, and each call that writes fails.
+/// All connections of a capture, with an `Out` for their lines. A flow is named by its id: half of the id is the index of
+/// the connection's room, and its last bit tells which of the two flows it is. A flow whose connection has no room is
+/// ignored. After a failed put nothing more is written, and each call that writes fails.
 #[derive(Drop)]
 pub struct Conversations<'a, O: Out + Drop> {
     rooms: Vec<Conversation<'a>>,
@@ -70,7 +71,7 @@ pub struct Conversations<'a, O: Out + Drop> {
 }
 
 impl<'a, O: Out + Drop> Conversations<'a, O> {
-    /// No stream has begun. All memory is taken here.
+    /// Makes connections in which no stream has begun. All memory is taken here.
     pub fn new(
         alloc: Global,
         catalogue: &'a Catalogue,
@@ -115,7 +116,7 @@ impl<'a, O: Out + Drop> Conversations<'a, O> {
         })
     }
 
-    /// What begins or is delivered next came in this packet.
+    /// Notes the packet: what begins or is delivered next came in it.
     pub fn comes_from(&mut self, arrival: Arrival)
         ensures value { self.new ≡ record self.old { arrival = arrival } }
         ensures told { (S : Setup) (written : List ℕ) (events : List Event) →
@@ -125,7 +126,8 @@ impl<'a, O: Out + Drop> Conversations<'a, O> {
         self.arrival = arrival;
     }
 
-    /// An id stands for a flow from now on, of which nothing came. Calls of it that were kept are forgotten.
+    /// Gives an id to a flow. Nothing of the flow has come yet. Calls that were kept of the flow that had the id before are
+    /// forgotten.
     pub fn opens(&mut self, flow: u32, endpoints: Flow)
         ensures follows { (events : List Event) → Follows self.old events →
             Follows self.new (events ++ Opens flow endpoints ∷ []) }
@@ -140,24 +142,24 @@ impl<'a, O: Out + Drop> Conversations<'a, O> {
         }
     }
 
-    /// The number of the stream that begins next.
+    /// The number that the next stream gets.
     fn next_number(&self) -> u64
         ensures { result ≡ spec_sum_within self.now.first self.now.totals.streams }
     {
         sum_within(self.first, self.totals.streams)
     }
 
-    /// A stream of a flow begins, with the number after that of the one before it.
+    /// Begins a stream of a flow. Its number is one more than the number of the stream that began before it.
     pub fn begins(&mut self, flow: u32, start: Start) -> Result<(), OutFault>
         ensures follows { (events : List Event) → Follows self.old events →
             OnOk result (Follows self.new (events ++ Begins flow start ∷ [])) }
-        // Below stands the text of all events, or a front of it.
+        // After this the text below is the text of all events; after a failure, a front of it.
         ensures told { (S : Setup) (written : List ℕ) (events : List Event) →
             Told S written events self.old →
             MatchResult result (λ _. Told S written (events ++ Begins flow start ∷ []) self.new)
             (λ _. HasToldFront S written (events ++ Begins flow start ∷ []) self.new.out) }
         ensures fails { FailsOnce result self.new.out }
-        // Once a put has failed nothing is written.
+        // If a put has failed before, nothing is written.
         ensures still { 0 < self.old.out.failures → self.new.out ≡ self.old.out }
     {
         if self.out.has_failed() {
@@ -174,19 +176,20 @@ impl<'a, O: Out + Drop> Conversations<'a, O> {
         }
     }
 
-    /// The next octets of a flow's stream. Returns the octet of the stream, from 1, at which it has a stream fault, if it has one.
+    /// Reads the next octets of a flow's stream. If the stream has a stream fault, returns the number of the octet at which
+    /// it has it, from 1.
     pub fn delivers(&mut self, flow: u32, octets: &[u8]) -> Result<Option<u64>, OutFault>
         ensures follows { (events : List Event) → Follows self.old events → IfOk result (λ at.
             Follows self.new (events ++ Delivers flow octets.now ∷ [])
             × (at ≡ reader_faulted (events ++ Delivers flow octets.now ∷ []))) }
-        // Below stands the text of all events, or a front of it.
+        // After this the text below is the text of all events; after a failure, a front of it.
         ensures told { (S : Setup) (written : List ℕ) (events : List Event) →
             Told S written events self.old →
             MatchResult result (λ _. Told S written (events ++ Delivers flow octets.now ∷ [])
             self.new)
             (λ _. HasToldFront S written (events ++ Delivers flow octets.now ∷ []) self.new.out) }
         ensures fails { FailsOnce result self.new.out }
-        // Once a put has failed nothing is written.
+        // If a put has failed before, nothing is written.
         ensures still { 0 < self.old.out.failures → self.new.out ≡ self.old.out }
     {
         if self.out.has_failed() {
@@ -194,19 +197,19 @@ impl<'a, O: Out + Drop> Conversations<'a, O> {
         }
         match self.rooms.get_mut(flow as usize / 2) {
             Some(room) => room.read(side_of(flow), octets, self.arrival, &mut self.out),
-            // Nothing is known of its stream.
+            // The flow has no room, so nothing is known of its stream.
             None => Err(self.out.refuse()),
         }
     }
 
-    /// How many octets the message that a flow's stream is in lacks until its end, if its header is complete; 0 between two
-    /// messages.
+    /// How many octets are missing until the end of the message that a flow's stream is in, if the message's header is
+    /// complete. It is 0 between two messages.
     pub fn lacks(&mut self, flow: u32) -> Result<Option<u32>, OutFault>
         ensures value { (events : List Event) → Follows self.old events →
             IfOk result (λ count. count ≡ reader_lacking events flow) }
         ensures kept { OnOk result (self.new ≡ self.old) }
         ensures fails { FailsOnce result self.new.out }
-        // Once a put has failed nothing is written.
+        // If a put has failed before, nothing is written.
         ensures still { 0 < self.old.out.failures → self.new.out ≡ self.old.out }
     {
         if self.out.has_failed() {
@@ -214,22 +217,22 @@ impl<'a, O: Out + Drop> Conversations<'a, O> {
         }
         match self.rooms.get(flow as usize / 2) {
             Some(room) => Ok(room.lacking(side_of(flow))),
-            // Nothing is known of its stream.
+            // The flow has no room, so nothing is known of its stream.
             None => Err(self.out.refuse()),
         }
     }
 
-    /// The stream of a flow closes.
+    /// Closes the stream of a flow.
     pub fn closes(&mut self, flow: u32, cause: CloseCause) -> Result<(), OutFault>
         ensures follows { (events : List Event) → Follows self.old events →
             OnOk result (Follows self.new (events ++ Closes flow cause ∷ [])) }
-        // Below stands the text of all events, or a front of it.
+        // After this the text below is the text of all events; after a failure, a front of it.
         ensures told { (S : Setup) (written : List ℕ) (events : List Event) →
             Told S written events self.old →
             MatchResult result (λ _. Told S written (events ++ Closes flow cause ∷ []) self.new)
             (λ _. HasToldFront S written (events ++ Closes flow cause ∷ []) self.new.out) }
         ensures fails { FailsOnce result self.new.out }
-        // Once a put has failed nothing is written.
+        // If a put has failed before, nothing is written.
         ensures still { 0 < self.old.out.failures → self.new.out ≡ self.old.out }
     {
         if self.out.has_failed() {
@@ -249,7 +252,7 @@ impl<'a, O: Out + Drop> Conversations<'a, O> {
         }
     }
 
-    /// A payload was looked through, and no stream begins in it.
+    /// Counts a payload that was looked through, and in which no stream begins.
     pub fn passes(&mut self)
         ensures follows { (events : List Event) (octets : List ℕ) → Follows self.old events →
             Follows self.new (events ++ OfCapture (Passes octets) ∷ []) }
@@ -261,11 +264,11 @@ impl<'a, O: Out + Drop> Conversations<'a, O> {
         self.totals.others = sum_within(self.totals.others, 1);
     }
 
-    /// The capture has a fault of its own, at its octet of this number, from 1: it ends there.
+    /// Writes that the capture itself has a fault, at its octet of this number, from 1. The capture ends there.
     pub fn fault(&mut self, word: &str, at: u64) -> Result<(), OutFault>
         ensures follows { (events : List Event) → Follows self.old events →
             OnOk result (Follows self.new events) }
-        // Below stands the text of all events, or a front of it.
+        // After this the text below is the text of all events; after a failure, a front of it.
         ensures told { (S : Setup) (written : List ℕ) (events : List Event) →
             Told S written events self.old →
             MatchResult result (λ _. Told S written
@@ -273,7 +276,7 @@ impl<'a, O: Out + Drop> Conversations<'a, O> {
             (λ _. HasToldFront S written (events ++ OfCapture (HasFault word.now at) ∷ [])
             self.new.out) }
         ensures fails { FailsOnce result self.new.out }
-        // Once a put has failed nothing is written.
+        // If a put has failed before, nothing is written.
         ensures still { 0 < self.old.out.failures → self.new.out ≡ self.old.out }
     {
         if self.out.has_failed() {
@@ -284,15 +287,15 @@ impl<'a, O: Out + Drop> Conversations<'a, O> {
         capture_fault_line(&mut self.out, word, at)
     }
 
-    /// The last line, with how many packets and octets the capture has. Answers whether a fault was counted, a stream was cut
-    /// by a gap or for room, or the capture has a fault.
+    /// Writes the last line, with the number of packets and octets of the capture. Returns whether a fault was counted, or
+    /// a stream was cut by a gap or for lack of room, or the capture has a fault.
     pub fn finish(&mut self, packets: u64, octets: u64) -> Result<bool, OutFault>
         ensures fails { FailsOnce result self.new.out }
-        // Once a put has failed nothing is written.
+        // If a put has failed before, nothing is written.
         ensures still { 0 < self.old.out.failures → self.new.out ≡ self.old.out }
         ensures value { IfOk result (λ is_faulted.
             is_faulted ≡ (self.old.cut || nat_lt 0 self.old.totals.faults)) }
-        // Below stands the text of all events, and then the last line; or a front of them.
+        // After this the text below is the text of all events, and then the last line; after a failure, a front of them.
         ensures told { (S : Setup) (written : List ℕ) (events : List Event) →
             Told S written events self.old →
             MatchResult result
@@ -309,17 +312,18 @@ impl<'a, O: Out + Drop> Conversations<'a, O> {
         Ok(is_faulted(self.cut, self.totals.faults))
     }
 
-    /// Whether a call has failed without a put: octets came in a flow without a room, or more were written than can be counted.
+    /// Whether a call has failed without a put: octets came in a flow without a room, or more octets would have been
+    /// written than can be counted.
     pub fn is_full(&self) -> bool
         ensures { result ≡ self.now.out.full }
     {
         self.out.is_full()
     }
 
-    /// The out below.
+    /// Gives the out below back.
     pub fn into_out(self) -> O
         ensures written { (O.log result).written ≡ self.entry.out.whole }
-        // Where a put or a flush has failed, one of that out has, unless it is full.
+        // If a put or a flush has failed here, one has failed in the out below, unless this is full.
         ensures cause { 0 < self.entry.out.failures →
             (0 < (O.log result).failures) ⊎ (self.entry.out.full ≡ true) }
     {
@@ -328,7 +332,7 @@ impl<'a, O: Out + Drop> Conversations<'a, O> {
 }
 
 impl<'a, O: Flush + Drop> Conversations<'a, O> {
-    /// What was written is to be seen.
+    /// Makes sure that all that was written can be seen.
     pub fn flush(&mut self) -> Result<(), OutFault>
         ensures same { self.new ≡ record self.old {
           out = record self.old.out {

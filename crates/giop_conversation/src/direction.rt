@@ -1,4 +1,4 @@
-//! One direction of a connection: the engine of its streams, and the number of the last one.
+//! One direction of a connection: the engine that reads its streams, and the number of its last stream.
 
 ghost use Rattle.std.specs.Prelude.{◌≡◌, ◌≤◌, ◌<◌, ◌++◌, ℕ, List, [], length, take, Some, None, true, false, IfOk, OnOk, MatchResult, if◌then◌else◌};
 ghost use Rattle.std.specs.Option.{option_map};
@@ -36,7 +36,8 @@ use tcp_flow::CloseCause;
 use tcp_segment::Flow;
 use tcp_waiting::Arrival;
 
-/// One direction of a connection. Its engine has never failed: where a put fails, it forgets its stream.
+/// One direction of a connection. Its engine is never one that has failed: if a put fails, the engine starts anew and
+/// forgets its stream.
 #[derive(Drop)]
 pub struct Direction<'a> {
     catalogue: &'a Catalogue,
@@ -44,7 +45,7 @@ pub struct Direction<'a> {
     stream: u64,
     // Whether that stream lives.
     live: bool,
-    // That of the stream's lines.
+    // The tag of the stream's lines.
     tag: Tag,
     flow: Option<Flow>,
 }
@@ -69,7 +70,7 @@ impl<'a> Model for Direction<'a> {
 }
 
 impl<'a> Direction<'a> {
-    /// A direction of which no stream has begun, with memory for so many open messages.
+    /// Makes a direction in which no stream has begun, with memory for this number of open messages.
     pub fn new(
         alloc: Global,
         catalogue: &'a Catalogue,
@@ -97,21 +98,21 @@ impl<'a> Direction<'a> {
         })
     }
 
-    /// The number of its stream, if that lives.
+    /// The number of its stream, if the stream lives.
     pub fn live_stream(&self) -> Option<u64>
         ensures { result ≡ (if self.now.is_live then Some self.now.stream else None) }
     {
         if self.live { Some(self.stream) } else { None }
     }
 
-    /// From now on it is of this flow.
+    /// Notes the flow that this direction has: who sends to whom.
     pub fn open(&mut self, flow: Flow)
         ensures { self.new ≡ record self.old { flow = Some flow } }
     {
         self.flow = Some(flow);
     }
 
-    /// A stream of this number begins: writes its line.
+    /// Begins a stream of this number, and writes its first line.
     pub fn begin<O: Out>(
         &mut self,
         stream: u64,
@@ -119,14 +120,15 @@ impl<'a> Direction<'a> {
         out: &mut Tagged<O>,
     ) -> Result<(), OutFault>
         ensures read { HasRead self.new.engine [] }
-        // It has read nothing, whatever the ids of its messages answer, and its types and limits stay.
+        // After this the engine has read nothing, by any answers to the ids of its messages. Its types and its limit stay.
         ensures holds { (a : Answers) → HoldsBy self.new.engine a [] }
         ensures same { IsSetAlike self.new.engine self.old.engine }
         ensures stream { self.new.stream ≡ stream }
         ensures live { self.new.is_live ≡ true }
         ensures flow { self.new.flow ≡ self.old.flow }
         ensures fails { FailsByPut result out.old out.new }
-        // Below stands its line with the tag of the stream, or a front of it.
+        // After this the text below ends in the stream's first line, with the tag of the stream. After a failure it ends in
+        // a front of that line.
         ensures text { (w : List ℕ) → IsReady out.old w →
             WritesTagged result out.new w (spec_stream_tag stream)
             (begin_lines self.old.flow opening) }
@@ -139,8 +141,8 @@ impl<'a> Direction<'a> {
         write_begin(self.flow, opening, out)
     }
 
-    /// Reads a piece of its stream up to the first octet after which a line of the conversation is due, and writes the
-    /// lines of the stream that it completes.
+    /// Reads a piece of the stream up to the first octet after which a line of the conversation is due, and writes the
+    /// lines of the stream that these octets complete.
     fn feed<O: Out>(
         &mut self,
         exchange: &mut Exchange<'a>,
@@ -149,7 +151,7 @@ impl<'a> Direction<'a> {
     ) -> Result<Fed, OutFault>
         requires known { AreKnown self.old.engine.table (answer_of exchange.old) }
         ensures known { AreKnown self.new.engine.table (answer_of exchange.new) }
-        // Its stream has grown by the octets that were read.
+        // The stream has grown by the octets that were read.
         ensures read { (p : List ℕ) → HasRead self.old.engine p →
             IfOk result (λ fed. HasRead self.new.engine (p ++ take fed.count piece.now)) }
         ensures begun { (p : List ℕ) → HasRead self.old.engine p →
@@ -157,13 +159,14 @@ impl<'a> Direction<'a> {
         ensures status { (p : List ℕ) → HasRead self.old.engine p →
             IfOk result (λ fed. fed.status
             ≡ status_of (fault_of (cut (p ++ take fed.count piece.now)).stop)) }
-        // By answers that agree with the calls, the calls are those after them,
+        // If answers agree with the calls, the calls are afterwards those after the octets.
         ensures come { (a : Answers) (p : List ℕ) → HoldsBy self.old.engine a p →
             AgreeWith self.old.engine a exchange.old p piece.now →
             IfOk result (λ fed. HoldsBy self.new.engine a (p ++ take fed.count piece.now)
             × (exchange.new ≡ after_ends notified self.old.engine.table exchange.old
             (header_ends_from (rules_with self.old.engine a) p (take fed.count piece.now)))) }
-        // and what they add to the text is written, or a front of it. No line is due after any of them but the last.
+        // What the octets add to the text is written, or after a failure a front of it. A line of the conversation is due
+        // at most after the last of them.
         ensures text { (a : Answers) (p : List ℕ) → HoldsBy self.old.engine a p →
             AgreeWith self.old.engine a exchange.old p piece.now →
             is_waiting exchange.old ≡ false →
@@ -189,8 +192,8 @@ impl<'a> Direction<'a> {
         }
     }
 
-    /// Reads the first of the next octets of its stream, and writes the lines that are due after each. Returns how many,
-    /// and whether the stream runs after them.
+    /// Reads some of the next octets of the stream, the first ones, and writes the lines that are due after each of them.
+    /// Returns how many it has read, and whether the stream is running after them.
     fn read_piece<O: Out>(
         &mut self,
         exchange: &mut Exchange<'a>,
@@ -206,7 +209,8 @@ impl<'a> Direction<'a> {
             IfOk result (λ r. HasRead self.new.engine (p ++ take r.0 octets.now)) }
         ensures status { (p : List ℕ) → HasRead self.old.engine p →
             IfOk result (λ r. r.1 ≡ status_of (fault_of (cut (p ++ take r.0 octets.now)).stop)) }
-        // By answers that agree with the calls, the lines of the octets that it reads are written, or a front of all.
+        // By answers that agree with the calls, the lines of the octets that it has read are written. After a failure a
+        // front of the lines of all octets is written.
         ensures text { (a : Answers) (p : List ℕ) → HoldsBy self.old.engine a p →
             AgreeWith self.old.engine a exchange.old p octets.now →
             exchange.old.table ≡ self.old.engine.table → exchange.old.arrival ≡ arrival →
@@ -229,8 +233,8 @@ impl<'a> Direction<'a> {
         Ok((fed.count, fed.status))
     }
 
-    /// Reads octets of its stream, which came in this packet, and writes the lines that they complete. Returns the octet of the
-    /// stream, from 1, at which it has a stream fault, if it has one: nothing after it is read.
+    /// Reads octets of the stream, which came in this packet, and writes the lines that they complete. If the stream has a
+    /// stream fault, returns the number of the octet at which it has it, from 1; nothing after that octet is read.
     pub fn read<O: Out>(
         &mut self,
         exchange: &mut Exchange<'a>,
@@ -238,13 +242,14 @@ impl<'a> Direction<'a> {
         arrival: Arrival,
         out: &mut Tagged<O>,
     ) -> Result<Option<u64>, OutFault>
-        // Its stream has grown by the octets.
+        // The stream has grown by the octets.
         ensures read { (p : List ℕ) → HasRead self.old.engine p →
             OnOk result (HasRead self.new.engine (p ++ octets.now)) }
         ensures fault { (p : List ℕ) → HasRead self.old.engine p →
             IfOk result (λ at. at ≡ fault_place (cut (p ++ octets.now)).stop) }
-        // By answers that agree with the calls of the connection, below stand the lines of the octets, each with the tag of the
-        // stream, or a front of them; and the calls are those after the octets.
+        // By answers that agree with the calls of the connection, the text below ends in the lines of the octets, each with
+        // the tag of the stream, and the calls are those after the octets. After a failure the text ends in a front of
+        // those lines.
         ensures text { (a : Answers) (p w : List ℕ) → HoldsBy self.old.engine a p →
             IsReady out.old w →
             (let calls = reading_in self.old.engine self.old.stream arrival exchange.old in
@@ -262,7 +267,7 @@ impl<'a> Direction<'a> {
         ensures flow { self.new.flow ≡ self.old.flow }
     {
         answers_are_known();
-        // The engine's own catalogue, so that each operation that is answered is one of its.
+        // The exchange gets the catalogue of the engine, so each operation that is answered is in the engine's catalogue.
         exchange.set_catalogue(self.catalogue);
         exchange.read_in(self.stream, arrival);
         out.set_tag(self.tag.copied());
@@ -276,7 +281,7 @@ impl<'a> Direction<'a> {
         }
     }
 
-    /// The octet of its stream, from 1, at which it has a stream fault, if it has one by its status.
+    /// The number of the octet at which the stream has a stream fault, from 1, if its status says that it has one.
     fn fault_place(&self, status: Status) -> Option<u64>
         ensures { (p : List ℕ) → HasRead self.now.engine p →
             status ≡ status_of (fault_of (cut p).stop) → result ≡ fault_place (cut p).stop }
@@ -287,24 +292,26 @@ impl<'a> Direction<'a> {
         }
     }
 
-    /// How many octets the message that its stream is in lacks until its end, if its header is complete; 0 between two messages.
+    /// How many octets are missing until the end of the message that the stream is in, if the message's header is complete.
+    /// It is 0 between two messages.
     pub fn lacking(&self) -> Option<u32>
         ensures { (p : List ℕ) → HasRead self.now.engine p → result ≡ lacking (cut p) }
     {
         self.engine.lacking()
     }
 
-    /// Its stream lives no more.
+    /// Notes that the stream lives no more.
     pub fn end(&mut self)
         ensures { self.new ≡ record self.old { is_live = false } }
     {
         self.live = false;
     }
 
-    /// Its stream closes: writes why, and its closing, and returns what it had.
+    /// Writes why the stream closes, and its closing. Returns the totals of the stream.
     pub fn close<O: Out>(&self, cause: CloseCause, out: &mut Tagged<O>) -> Result<Totals, OutFault>
         ensures fails { FailsByPut result out.old out.new }
-        // Below stand why, and then the closing, each line with the tag of the stream; or a front of them.
+        // After this the text below ends in the line that says why the stream closes, and then the closing, each line with
+        // the tag of the stream. After a failure it ends in a front of these lines.
         ensures text { (a : Answers) (p w : List ℕ) → HoldsBy self.now.engine a p →
             IsReady out.old w →
             WritesTagged result out.new w (spec_stream_tag self.now.stream)
@@ -321,7 +328,7 @@ impl<'a> Direction<'a> {
     }
 }
 
-/// Writes the line with which a stream begins, where who sends to whom is known.
+/// Writes the line with which a stream begins, if it is known who sends to whom.
 fn write_begin<O: Out>(flow: Option<Flow>, opening: Opening, out: &mut O) -> Result<(), OutFault>
     ensures { Writes result (O.log out.old) (O.log out.new) (begin_lines flow opening) }
 {
@@ -331,7 +338,7 @@ fn write_begin<O: Out>(flow: Option<Flow>, opening: Opening, out: &mut O) -> Res
     }
 }
 
-/// Writes when a message of this number began, where one did.
+/// Writes when the message of this number began, if there is one.
 #[inline]
 fn write_time<O: Out>(
     exchange: &mut Exchange<'_>,
@@ -348,7 +355,7 @@ fn write_time<O: Out>(
     }
 }
 
-/// Writes which call a Reply answers, where it answers one.
+/// Writes which call a Reply answers, if it answers one.
 fn write_answered<O: Out>(
     answered: Option<&Answering>,
     time: Option<u128>,
@@ -364,7 +371,7 @@ fn write_answered<O: Out>(
     }
 }
 
-/// Writes which exception a Reply raises, where it raises one.
+/// Writes which exception a Reply raises, if it raises one.
 fn write_raised<O: Out>(raised: Option<&Raising>, out: &mut O) -> Result<(), OutFault>
     ensures { Writes result (O.log out.old) (O.log out.new) (raises_due
         (option_map (λ r. record { message = r.now.message; name = r.now.name.items })
@@ -376,7 +383,7 @@ fn write_raised<O: Out>(raised: Option<&Raising>, out: &mut O) -> Result<(), Out
     }
 }
 
-/// Writes which call a Reply answers, and then which exception it raises, where it does.
+/// Writes which call a Reply answers, if it answers one, and then which exception it raises, if it raises one.
 fn write_reply<O: Out>(
     exchange: &Exchange<'_>,
     time: Option<u128>,
@@ -391,7 +398,7 @@ fn write_reply<O: Out>(
     }
 }
 
-/// Writes when a message began, where one did, and then which call a Reply answers, and which exception it raises.
+/// Writes when a message began, if one did, then which call a Reply answers, and then which exception a Reply raises.
 fn write_told<O: Out>(
     exchange: &mut Exchange<'_>,
     begun: Option<u64>,
@@ -411,7 +418,8 @@ fn write_told<O: Out>(
     }
 }
 
-/// Writes the lines that are due after octets that were read, and forgets what the last Reply answers and raises.
+/// Writes the lines that are due after the octets that were read. Forgets which call the last Reply answers, and which
+/// exception it raises.
 fn write_due<O: Out>(
     exchange: &mut Exchange,
     begun: Option<u64>,

@@ -1,4 +1,4 @@
-//! The calls of a connection, as the correspondent of the stream that is read.
+//! The calls of a connection, as the engine asks for them that reads a stream of the connection.
 
 ghost use Rattle.std.specs.Prelude.{◌≡◌, ◌≤◌, [], None, length, IfOk, IfSome, MatchOption};
 ghost use Rattle.std.specs.Option.{option_map};
@@ -38,8 +38,8 @@ pub struct Raising {
     pub name: ArrayVec<u8, NAME_ROOM>,
 }
 
-/// The calls of both directions of a connection that have no reply yet. It is the correspondent of a stream of the
-/// connection: Requests in it add calls, and Replies answer those of the opposite direction.
+/// The calls of both directions of a connection that have no reply yet. It is the correspondent of the stream that is read:
+/// Requests in the stream add calls to `own`, and Replies in it answer calls of `opposite`.
 #[derive(Drop)]
 pub struct Exchange<'a> {
     catalogue: &'a Catalogue,
@@ -50,7 +50,7 @@ pub struct Exchange<'a> {
     replied: u64,
     answered: Option<Answering>,
     raised: Option<Raising>,
-    // The second of the last time that was written and had one; at first that of 1970.
+    // The second of the last time that was written; at first the first second of 1970.
     second: KeptSecond,
 }
 
@@ -74,7 +74,7 @@ impl<'a> Model for Exchange<'a> {
 }
 
 impl<'a> Exchange<'a> {
-    /// No calls, and memory for so many of each direction.
+    /// Makes an exchange without calls, with memory for this number of calls in each direction.
     pub fn new(
         alloc: Global,
         catalogue: &'a Catalogue,
@@ -107,21 +107,21 @@ impl<'a> Exchange<'a> {
         })
     }
 
-    /// From now on the operations of these types are answered.
+    /// Sets the catalogue: from now on the operations of these types are answered.
     pub fn set_catalogue(&mut self, catalogue: &'a Catalogue)
         ensures { self.new ≡ record self.old { table = catalogue.now } }
     {
         self.catalogue = catalogue;
     }
 
-    /// From now on a stream of the other direction is read.
+    /// Turns to the other direction: from now on a stream of that is read.
     pub fn turn(&mut self)
         ensures { self.new ≡ record self.old { own = self.old.opposite; opposite = self.old.own } }
     {
         mem::swap(&mut self.own, &mut self.opposite);
     }
 
-    /// The stream that is read, by its number, and the packet.
+    /// Notes the number of the stream that is read, and the packet in which its next octets came.
     pub fn read_in(&mut self, stream: u64, arrival: Arrival)
         ensures { self.new ≡ record self.old {
           stream = stream;
@@ -137,14 +137,15 @@ impl<'a> Exchange<'a> {
         self.forget_reply();
     }
 
-    /// The number of the last Reply whose header has ended, of the octets that were read since `read_in`; 0 where there is none.
+    /// The number of the last Reply whose header has ended in the octets that were read since `read_in`; 0 if there is
+    /// none.
     pub fn replied(&self) -> u64
         ensures { result ≡ self.now.replied }
     {
         self.replied
     }
 
-    /// What the last Reply answers, until that is forgotten.
+    /// The call that the last Reply answers, if it answers one and `forget_reply` wasn't called since.
     pub fn answering(&self) -> Option<&Answering>
         ensures { option_map (λ a. record { message = a.now.message; call = a.now.call }) result
             ≡ self.now.answered }
@@ -152,7 +153,7 @@ impl<'a> Exchange<'a> {
         self.answered.as_ref()
     }
 
-    /// The last exception that a Reply raises, until that is forgotten.
+    /// The last exception that a Reply raises, if there is one and `forget_reply` wasn't called since.
     pub fn raising(&self) -> Option<&Raising>
         ensures { option_map
             (λ r. record { message = r.now.message; name = r.now.name.items }) result
@@ -161,7 +162,7 @@ impl<'a> Exchange<'a> {
         self.raised.as_ref()
     }
 
-    /// Forgets what the last Reply answers and raises.
+    /// Forgets which call the last Reply answers, and which exception it raises.
     pub fn forget_reply(&mut self)
         ensures { self.new ≡ record self.old { answered = None; raised = None } }
     {
@@ -173,7 +174,7 @@ impl<'a> Exchange<'a> {
         }
     }
 
-    /// Writes the line that says when the header of this message was complete, in the stream that is read.
+    /// Writes the line that says when the header of the message of this number was complete, in the stream that is read.
     #[inline]
     pub(crate) fn write_time<O: Out>(
         &mut self,
@@ -195,7 +196,7 @@ impl<'a> Exchange<'a> {
     }
 }
 
-/// The name by which a call is kept: at most 128 octets, where a reply is expected.
+/// The name by which a call is kept, if it is kept: a reply is expected, and the name has at most 128 octets.
 fn kept_name(name: Option<&[u8]>, expects_reply: bool) -> Option<&[u8]>
     ensures value { option_map (λ x. x.now) result
         ≡ kept_name (option_map (λ x. x.now) name.entry) expects_reply }
@@ -213,7 +214,7 @@ fn kept_name(name: Option<&[u8]>, expects_reply: bool) -> Option<&[u8]>
     }
 }
 
-/// What is kept of an exception: a name of at most 128 octets.
+/// What is kept of an exception that a Reply of this number raises, if its name has at most 128 octets.
 fn kept_exception(number: u64, name: &[u8]) -> Option<Raising>
     ensures { option_map (λ r. record { message = r.message; name = r.name.items }) result
         ≡ kept_exception number name.now }
@@ -302,7 +303,7 @@ impl<'a> Correspondent for Exchange<'a> {
         self.raised = kept_exception(number, name);
     }
 
-    /// Whether a Reply waits to be told, what it answers or what it raises.
+    /// Whether a Reply waits for its lines to be written: it answers a call, or raises an exception.
     fn is_due(&self) -> bool {
         self.answered.is_some() || self.raised.is_some()
     }
@@ -314,7 +315,7 @@ impl<'a> Correspondent for Exchange<'a> {
     ghost known = { known_still };
 }
 
-/// Each operation that an exchange answers is one of its catalogue.
+/// Each operation that an exchange answers is an operation of its catalogue.
 pub fn answers_are_known()
     ensures { (s : Exchanged) → AreKnown s.table (answer_of s) }
 {}

@@ -1,4 +1,5 @@
-//! Times spelled in a line. The text of a second is kept, since most times are in the second of the one before.
+//! Times as text in a line. The text of the last second is kept, because most times are in the same second as the one
+//! before.
 
 ghost use Rattle.std.specs.Prelude.{◌≡◌, ◌+◌, ◌/◌, ◌<◌, ◌≤◌, ◌++◌, IsTrue, false, nat_lt, MatchOption};
 ghost use Rattle.giop_print.specs.Line.{line_text, line_room};
@@ -8,8 +9,8 @@ ghost use Rattle.giop_conversation.specs.Times.{years, second_text, time_text};
 use crate::times::{DAY, put_nine, put_second, seconds_of, years_of};
 use giop_print::Line;
 
-/// A second before the year 10000, by its number, in seconds since 1970-01-01 UTC, and its text with the point after it:
-/// `2026-11-23T08:13:25.`.
+/// A second before the year 10000: its number, counted in seconds since 1970-01-01 UTC, and its text with the point after
+/// it, as `2026-11-23T08:13:25.`.
 #[derive(Drop)]
 pub(crate) struct KeptSecond {
     second: u64,
@@ -27,7 +28,7 @@ impl KeptSecond {
         }
     }
 
-    /// A second by its number, in seconds since 1970-01-01 UTC; none from the year 10000 on.
+    /// Makes the second of this number, counted in seconds since 1970-01-01 UTC. From the year 10000 on there is none.
     #[inline(never)]
     fn of(second: u64) -> Option<KeptSecond>
         ensures { MatchOption result (days_of_years years ≤ second / 86_400)
@@ -41,7 +42,8 @@ impl KeptSecond {
         Some(KeptSecond { second, text })
     }
 
-    /// Keeps this second, unless it is from the year 10000 on: then the kept one stays. Returns whether it is kept.
+    /// Keeps this second, and returns true. If it is from the year 10000 on, the kept second stays, and the result is
+    /// false.
     #[inline]
     fn keep(&mut self, second: u64) -> bool
         ensures early { result ≡ nat_lt (second / 86_400) (days_of_years years) }
@@ -57,8 +59,8 @@ impl KeptSecond {
         true
     }
 
-    /// Puts the text of a time, in nanoseconds since 1970-01-01 UTC, before what was spelled of a line:
-    /// `2026-11-23T08:13:25.580228123Z`. It is `-` where there is no time, and from the year 10000 on.
+    /// Puts the text of a time before the text that the line has, as `2026-11-23T08:13:25.580228123Z`. The time is in
+    /// nanoseconds since 1970-01-01 UTC. If there is no time, or it is from the year 10000 on, the text is `-`.
     #[inline]
     #[tactic(auto, unfolding(crate::specs::Times::time_text))]
     pub fn put_time(&mut self, line: &mut Line, time: Option<u128>)
@@ -85,7 +87,7 @@ impl KeptSecond {
     }
 }
 
-/// Puts the text of a time before what was spelled of a line, as `KeptSecond::put_time` does.
+/// Puts the text of a time before the text that the line has, as `KeptSecond::put_time` does.
 pub fn put_time(line: &mut Line, time: Option<u128>)
     requires { 30 ≤ line_room line.old }
     ensures text { line_text line.new ≡ time_text time ++ line_text line.old }

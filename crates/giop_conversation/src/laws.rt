@@ -1,4 +1,4 @@
-//! The laws of lines with tags, and of a capture's text.
+//! What holds of lines with tags, and of the text of a capture.
 
 ghost use Rattle.std.specs.Prelude.{◌≡◌, ◌<◌, ◌/◌, ◌++◌, List, ℕ, [], true, false, length, Some};
 ghost use Rattle.std.specs.List.{AllByRecursion as Each};
@@ -12,9 +12,9 @@ ghost use Rattle.giop_conversation.specs.TaggedState.{Tagging, tagging_log, IsRe
 
 use giop_stream::answers_agree;
 
-/// What writing whole lines to an out with tags does to the out below.
+/// What the out below has after whole lines were written to an out with tags.
 pub fn lines_stand_below()
-    // At first, and whenever a tag is set, the next octet begins a line.
+    // At first, and each time after a tag is set, the next octet begins a line.
     ensures start { (w : List ℕ)
         (below : ℕ) → IsReady (record {
           whole = Some w;
@@ -28,42 +28,45 @@ pub fn lines_stand_below()
         }) w }
     ensures again { (t : Tagging) (w tag : List ℕ) → IsReady t w →
         IsReady (record t { tag = tag; due = length tag; since = 0 }) w }
-    // Where lines are written, they stand below, each with the tag in front;
+    // If lines are written, they stand in the text below, each with the tag in front.
     ensures writes { (t after : Tagging) (w lines : List ℕ) → IsReady t w →
         Wrote (tagging_log t) (tagging_log after) lines → is_due lines ≡ true →
         IsReady after (w ++ with_tags t.tag lines) × (after.tag ≡ t.tag) }
-    // and where a put fails, a front of them does, and maybe the beginning of a tag.
+    // If a put fails, a front of them does, and maybe the beginning of a tag.
     ensures front { (t after : Tagging) (w lines : List ℕ) → IsReady t w →
         WroteFront (tagging_log t) (tagging_log after) lines →
         WroteTaggedFront after w t.tag lines }
 {}
 
-/// Lines with tags are the lines again where the tags are taken away, and those of whole lines stand one after the other.
+/// If the tags are taken away from lines with tags, the lines remain. If a text of whole lines comes before another text,
+/// the lines with tags of both are those of the first text, and then those of the second.
 pub fn lines_with_tags()
     ensures taken { (tag text : List ℕ) → without_tags (length tag) (with_tags tag text) ≡ text }
     ensures more { (tag first more : List ℕ) → is_due first ≡ true →
         with_tags tag (first ++ more) ≡ with_tags tag first ++ with_tags tag more }
 {}
 
-/// The lines of a stream in the text of a capture, without the tag and without the lines `stream`, `time`, `answers`, `raises`
-/// and `closed`, are those that `giopdump` writes of the octets that were delivered of it, and of its end where it closes. That
-/// is said of each stream of a number from 1 to 2^64 - 2, after any events.
+/// In the text of a capture, take the lines of one stream without their tags, and leave out the lines `stream`, `time`,
+/// `answers`, `raises` and `closed`. What remains is what `giopdump` writes of the octets that were delivered of the
+/// stream, and of its end if it has closed. This holds after any events, for each stream whose number is from 1 to 2^64 -
+/// 2.
 pub fn each_stream_is_dumped()
-    // The text is parts: each is such lines of a stream, or its own ones, or the capture's fault.
+    // The text is a row of parts. Each part is lines that giopdump writes of a stream, or a line of the five kinds, or the
+    // fault of the capture.
     ensures shows { (S : Setup) (written : List ℕ) (events : List Event) (d : Dump)
         (leads : Leads S (start S written) events d) →
         ShowsStreams S written (history S no_history (start S written) events d leads) d.text }
-    // Where octets come in a flow, and a stream closes, only while one lives there, none goes on after its close.
+    // If in each flow octets come and streams close only while a stream lives there, no stream goes on after its close.
     ensures ends { (S : Setup) (written : List ℕ) (events : List Event) (d : Dump)
         (leads : Leads S (start S written) events d) → AreGapless events →
         (number : ℕ) → IsUnique number →
         ((history S no_history (start S written) events d leads).stream number).goes_on ≡ false }
-    // Where each has closed in the end, so it has in its history, if its connection has a room.
+    // If each stream has closed in the end, each stream whose connection has a room is closed in its history.
     ensures closes { (S : Setup) (written : List ℕ) (events : List Event) (d : Dump)
         (leads : Leads S (start S written) events d) → AreWhole events → (number : ℕ) →
         (history S no_history (start S written) events d leads).has_room number ≡ true →
         ((history S no_history (start S written) events d leads).stream number).is_closed ≡ true }
-    // Where each event in a flow is in one of a connection with a room, each stream that began has one.
+    // If each event of a flow is of a connection with a room, each stream that began has a room.
     ensures rooms { (S : Setup) (written : List ℕ) (events : List Event) (d : Dump)
         (leads : Leads S (start S written) events d) →
         Each (λ e. (id : ℕ) → flow_of e ≡ Some id → id / 2 < S.connections) events → (k : ℕ) →
@@ -73,8 +76,9 @@ pub fn each_stream_is_dumped()
     answers_agree();
 }
 
-/// Events lead to one text. `Leads` says which operation the ids of a message answer only at the end of its header, and the rest
-/// makes no difference: two dumps to which the same events lead are one but for the answers of their streams.
+/// The same events lead to one text. `Leads` fixes the operations that the ids of a message answer only at the end of the
+/// message's header. All else makes no difference: two dumps to which the same events lead differ at most in the answers of
+/// their streams.
 pub fn events_lead_to_one_text()
     ensures text { (S : Setup) (d : Dump) (events : List Event) (a b : Dump) →
         Leads S d events a → Leads S d events b →

@@ -1,5 +1,6 @@
-//! All connections of a capture (`Conversations`): an engine for each direction and the calls of both, which Replies answer; the
-//! lines beside those of the streams, the times in them, and the tag of its stream in front of each line.
+//! All connections of a capture (`Conversations`): an engine for each direction, and the calls of both, which Replies
+//! answer. It writes the lines of the streams and the other lines, with the times in these, and puts the tag of its stream
+//! in front of each line.
 #![tactic(auto)]
 
 mod conversation;

@@ -1,16 +1,16 @@
-//! How much is kept of the connections of a capture, and the number of its first stream.
+//! The limits of what is kept of the connections of a capture, and the number of its first stream.
 
 use giop_stream::NewFault;
 use std::alloc::AllocError;
 
-/// How much is kept of each connection, and of how many; and where the numbers of streams begin.
+/// How many connections are kept, how much is kept of each, and the number at which streams begin.
 #[derive(Clone, Copy, Debug)]
 pub struct Limits {
-    /// How many connections are known at once.
+    /// The greatest number of connections that are known at once.
     pub connections: u32,
-    /// How many messages of a stream may be open at once, 1 at least.
+    /// The greatest number of messages of a stream that may be open at once; at least 1.
     pub messages: u32,
-    /// How many calls of a direction may be outstanding.
+    /// The greatest number of calls of one direction that may be outstanding.
     pub calls: u32,
     /// The number of the capture's first stream.
     pub first_stream: u64,

@@ -1,5 +1,6 @@
-//! The lines of a capture beside those of its streams, written to any `Out` (docs/FORMATS.md). A function returns Ok where its
-//! whole line was written; else a put failed, and a front of the line was written. Times are nanoseconds since 1970-01-01 UTC.
+//! The lines of a capture in addition to those that giopdump writes of its streams, written to any `Out` (docs/FORMATS.md).
+//! A function returns Ok if its whole line was written. Else a put has failed, and a front of the line was written. Times
+//! are nanoseconds since 1970-01-01 UTC.
 
 ghost use Rattle.std.specs.Prelude.{◌≡◌, ◌≤◌, ◌+◌, ◌++◌};
 ghost use Rattle.giop_print.specs.Output.{Writes};
@@ -15,8 +16,8 @@ use tcp_flow::{CloseCause, Start};
 use tcp_segment::{Flow, endpoint_text};
 use tcp_waiting::Arrival;
 
-/// What a whole capture has: its streams, their messages and faults, its packets, its octets up to its fault, and how many
-/// payloads were looked through in which no stream begins.
+/// The sums of a whole capture: its streams, their messages and faults, its packets, its octets up to its fault, and the
+/// number of payloads that were looked through and in which no stream begins.
 #[derive(Clone, Copy, Debug, PartialEq, Eq)]
 pub struct CaptureTotals {
     pub streams: u64,
@@ -27,8 +28,8 @@ pub struct CaptureTotals {
     pub others: u64,
 }
 
-/// What the line of a stream says beside who sends to whom: when it begins, which stream of the opposite flow lives then, by its
-/// number, and what is before its first octet in its own flow.
+/// What the line of a stream says in addition to who sends to whom: the time at which the stream begins, the number of the
+/// stream of the opposite flow that lives then, and what comes before the stream in its own flow.
 #[derive(Clone, Copy, Debug, PartialEq, Eq)]
 pub struct Opening {
     pub time: Option<u128>,
@@ -36,7 +37,7 @@ pub struct Opening {
     pub start: Start,
 }
 
-/// The line of a stream that begins: who sends to whom, and what else is known of its beginning.
+/// Writes the line with which a stream begins: who sends to whom, and what else is known of the beginning.
 #[tactic(auto, unfolding(crate::specs::Lines::stream_line))]
 pub fn stream_line<O: Out>(out: &mut O, flow: Flow, opening: Opening) -> Result<(), OutFault>
     ensures { Writes result (O.log out.old) (O.log out.new) (stream_line flow opening) }
@@ -55,7 +56,7 @@ pub fn stream_line<O: Out>(out: &mut O, flow: Flow, opening: Opening) -> Result<
     out.put_line(&mut line)
 }
 
-/// Puts whether the place of a stream was looked for before what was spelled of a line.
+/// Puts ` found` before the text that the line has, if the place of the stream was looked for.
 fn put_found(line: &mut Line, is_found: bool)
     requires room { 6 ≤ line_room line.old }
     ensures text { line_text line.new ≡ found_text is_found ++ line_text line.old }
@@ -66,7 +67,8 @@ fn put_found(line: &mut Line, is_found: bool)
     }
 }
 
-/// Puts how many octets are in no stream before one, if any are, before what was spelled of a line.
+/// Puts `passed` before the text that the line has, if it isn't 0. It is the number of octets before a stream that are in
+/// no stream.
 fn put_passed(line: &mut Line, passed: u32)
     requires room { 28 ≤ line_room line.old }
     ensures text { line_text line.new ≡ passed_text passed ++ line_text line.old }
@@ -78,7 +80,7 @@ fn put_passed(line: &mut Line, passed: u32)
     }
 }
 
-/// Puts the number of the stream of the opposite flow, if one lives, before what was spelled of a line.
+/// Puts the number of the stream of the opposite flow before the text that the line has, if one lives.
 fn put_partner(line: &mut Line, partner: Option<u64>)
     requires room { 27 ≤ line_room line.old }
     ensures text { line_text line.new ≡ partner_text partner ++ line_text line.old }
@@ -93,15 +95,15 @@ fn put_partner(line: &mut Line, partner: Option<u64>)
     }
 }
 
-/// The line of when the header of a message was complete, and in which packet of the capture.
+/// Writes the line that says when the header of a message was complete, and in which packet of the capture.
 pub fn time_line<O: Out>(out: &mut O, message: u64, arrival: Arrival) -> Result<(), OutFault>
     ensures { Writes result (O.log out.old) (O.log out.new) (time_line message arrival) }
 {
     time_line_by(&mut KeptSecond::new(), out, message, arrival)
 }
 
-/// The same, its text taken from the kept second where the time is in that. Else the second of the time is kept from now on,
-/// unless there is no time or it is from the year 10000 on.
+/// Writes the same line as `time_line`. If the time is in the kept second, the text of that is used. Else the second of the
+/// time is kept, unless there is no time, or it is from the year 10000 on.
 #[tactic(auto, unfolding(crate::specs::Lines::time_line))]
 #[inline(never)]
 pub(crate) fn time_line_by<O: Out>(
@@ -121,7 +123,7 @@ pub(crate) fn time_line_by<O: Out>(
     numbered_line(out, message, &mut line)
 }
 
-/// The line of the call that a Reply answers, and how long after it the Reply's header was complete.
+/// Writes the line of the call that a Reply answers, and of how long after the call the Reply's header was complete.
 #[tactic(auto, unfolding(crate::specs::Lines::answers_line))]
 pub fn answers_line<O: Out>(
     out: &mut O,
@@ -144,7 +146,7 @@ pub fn answers_line<O: Out>(
     numbered_line(out, message, &mut line)
 }
 
-/// The line of the exception that a Reply raises, by its repository id.
+/// Writes the line of the exception that a Reply raises, by its repository id.
 #[tactic(auto, unfolding(crate::specs::Lines::raises_line))]
 pub fn raises_line<O: Out>(out: &mut O, message: u64, repository: &[u8]) -> Result<(), OutFault>
     ensures { Writes result (O.log out.old) (O.log out.new) (raises_line message repository.now) }
@@ -159,10 +161,10 @@ pub fn raises_line<O: Out>(out: &mut O, message: u64, repository: &[u8]) -> Resu
     numbered_line(out, message, &mut line)
 }
 
-/// How long a repository id may be that is spelled with its line. Most are shorter.
+/// The greatest length of a repository id that is put together with its line. Most are shorter.
 const SHORT: usize = 128;
 
-/// The same of any repository id, in parts.
+/// Writes the same line as `raises_line`, for a repository id of any length, in parts.
 #[tactic(auto, unfolding(crate::specs::Lines::raises_line))]
 #[inline(never)]
 fn long_raises_line<O: Out>(out: &mut O, message: u64, repository: &[u8]) -> Result<(), OutFault>
@@ -181,7 +183,7 @@ fn long_raises_line<O: Out>(out: &mut O, message: u64, repository: &[u8]) -> Res
     )
 }
 
-/// The word of why a stream closes.
+/// The word that says why a stream closes.
 fn cause_word(cause: CloseCause) -> &'static [u8]
     ensures { result.now ≡ cause_word cause }
 {
@@ -196,7 +198,7 @@ fn cause_word(cause: CloseCause) -> &'static [u8]
     }
 }
 
-/// The line of why a stream closes.
+/// Writes the line that says why a stream closes.
 #[tactic(auto, unfolding(crate::specs::Lines::closed_line))]
 pub fn closed_line<O: Out>(out: &mut O, cause: CloseCause) -> Result<(), OutFault>
     ensures { Writes result (O.log out.old) (O.log out.new) (closed_line cause) }
@@ -208,7 +210,7 @@ pub fn closed_line<O: Out>(out: &mut O, cause: CloseCause) -> Result<(), OutFaul
     out.put_line(&mut line)
 }
 
-/// The line of a capture's own fault, and the number of its octet, from 1.
+/// Writes the line of the fault of the capture itself, with the number of its octet, from 1.
 #[tactic(auto, unfolding(crate::specs::Lines::capture_fault_line))]
 pub fn capture_fault_line<O: Out>(out: &mut O, word: &str, at: u64) -> Result<(), OutFault>
     ensures { Writes result (O.log out.old) (O.log out.new) (capture_fault_line word.now at) }
@@ -226,7 +228,7 @@ pub fn capture_fault_line<O: Out>(out: &mut O, word: &str, at: u64) -> Result<()
     )
 }
 
-/// The last line of a capture.
+/// Writes the last line of a capture.
 #[tactic(auto, unfolding(crate::specs::Lines::capture_total_line))]
 pub fn capture_total_line<O: Out>(out: &mut O, totals: CaptureTotals) -> Result<(), OutFault>
     ensures { Writes result (O.log out.old) (O.log out.new)

@@ -1,4 +1,4 @@
-//! The tags of streams: what stands in front of each line of a stream.
+//! The tags of streams: the text that stands in front of each line of a stream.
 
 ghost use Rattle.std.specs.Prelude.{◌≡◌, ◌≤◌, ◌-◌, [], length, drop};
 ghost use Rattle.giop_conversation.specs.Tags.{stream_tag};
@@ -6,13 +6,13 @@ ghost use Rattle.giop_conversation.specs.Tags.{stream_tag};
 use itoa::write_digits;
 use std::marker::Model;
 
-/// Room for the tag of any stream.
+/// How many octets the array of a tag has: enough for the tag of any stream.
 const ROOM: usize = 32;
 
-/// How many octets the block at the end of a tag's room has. Most tags are shorter.
+/// How many octets the block at the end of that array has. Most tags are shorter.
 pub(crate) const BLOCK: usize = 16;
 
-/// What stands in front of a line: the last octets of an array, the others are unused.
+/// The text that stands in front of a line. It is the end of an array, from `at` on; the octets before it are unused.
 #[derive(Drop)]
 pub struct Tag {
     octets: [u8; ROOM],
@@ -45,7 +45,7 @@ impl Tag {
         ROOM - self.at
     }
 
-    /// Another of the same octets.
+    /// A copy of the tag.
     #[inline]
     pub(crate) fn copied(&self) -> Tag
         ensures { result ≡ self.now }
@@ -56,7 +56,7 @@ impl Tag {
         }
     }
 
-    /// The block at the end of the room, at whose end the tag stands where it isn't longer.
+    /// The last octets of the array. If the tag isn't longer than them, they end in the tag.
     #[inline]
     pub(crate) fn block(&self) -> &[u8]
         ensures size { length result.now ≡ 16 }
@@ -66,7 +66,7 @@ impl Tag {
     }
 }
 
-/// No tag: a line stands as it is.
+/// The empty tag: lines stand as they are.
 pub fn no_tag() -> Tag
     ensures { result ≡ [] }
 {

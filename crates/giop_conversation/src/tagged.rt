@@ -16,19 +16,20 @@ use memchr::memchr;
 use std::marker::Model;
 use std::simd::prelude::*;
 
-/// An `Out` with a tag in front of each line, in whatever pieces the lines come. It fails only if the out below does, or if it
-/// is full: more than 2^64 - 1 octets would be written since the tag was set, or its owner has no room for what is to be read.
+/// An `Out` that puts a tag in front of each line, in whatever pieces the lines come. It fails only if the out below fails,
+/// or if it is full: more than 2^64 - 1 octets would have been written since the tag was set, or its owner has no room for
+/// what it should read.
 #[derive(Drop)]
 pub struct Tagged<O: Out> {
     out: O,
     tag: Tag,
-    // How many octets of the tag are to be written before the next octet.
+    // How many octets of the tag must be written before the next octet.
     due: usize,
-    // Whether that is the whole tag, and no longer than a block.
+    // Whether `due` is the whole tag, and the tag isn't longer than a block.
     is_short_due: bool,
     // How many octets were written since the tag was set.
     since: u64,
-    // Whether it has failed without a put.
+    // Whether a call has failed without a put.
     is_full: bool,
     puts: u64,
     failures: u64,
@@ -59,7 +60,7 @@ impl<O: Out> Model for Tagged<O> {
 }
 
 impl<O: Out> Tagged<O> {
-    /// An `Out` over another, with no tag.
+    /// Makes an `Out` over another, with the empty tag.
     pub fn new(out: O) -> Tagged<O>
         ensures { result ≡ record {
           whole = (O.log out).written;
@@ -84,7 +85,7 @@ impl<O: Out> Tagged<O> {
         }
     }
 
-    /// From now on the tag of each line is this one; a line begins here.
+    /// Sets the tag of the lines that come next. A line begins here.
     pub fn set_tag(&mut self, tag: Tag)
         ensures { self.new ≡ record self.old { tag = tag; due = length tag; since = 0 } }
     {
@@ -101,14 +102,14 @@ impl<O: Out> Tagged<O> {
         self.failures > 0
     }
 
-    /// Whether it has failed without a put.
+    /// Whether a call has failed without a put.
     pub fn is_full(&self) -> bool
         ensures { result ≡ self.now.full }
     {
         self.is_full
     }
 
-    /// Fails without a put: there is no room.
+    /// Fails without a put, because there is no room.
     pub fn refuse(&mut self) -> OutFault
         ensures { self.new ≡ record self.old { full = true; failures = counted self.old.failures } }
     {
@@ -117,10 +118,10 @@ impl<O: Out> Tagged<O> {
         OutFault
     }
 
-    /// The out below.
+    /// Gives the out below back.
     pub fn into_out(self) -> O
         ensures written { (O.log result).written ≡ self.whole }
-        // Where it has failed that out has, unless it is full.
+        // If this has failed, the out below has failed, unless this is full.
         ensures cause { 0 < self.failures →
             (0 < (O.log result).failures) ⊎ (self.full ≡ true) }
     {
@@ -129,7 +130,7 @@ impl<O: Out> Tagged<O> {
 }
 
 impl<O: Flush> Tagged<O> {
-    /// What was written is to be seen.
+    /// Makes sure that all that was written can be seen.
     pub fn flush(&mut self) -> Result<(), OutFault>
         ensures same { self.new ≡ record self.old {
           whole = self.new.whole;
@@ -189,7 +190,7 @@ impl<O: Out> Out for Tagged<O> {
         }
     }
 
-    // The same as that of an out, by a put whose failure has a cause.
+    // Puts all octets, as `put_all` of any out does, and says more: a failure has a cause.
     fn put_all(&mut self, octets: &[u8]) -> Result<(), OutFault>
         ensures does { Writes result (tagging_log self.old) (tagging_log self.new) octets.now }
         ensures cause { FailsBelow result self.old self.new octets.now }
@@ -231,8 +232,8 @@ fn is_short_due(due: usize, tag: &Tag) -> bool
     matches!(due, 1..=BLOCK) && due == tag.len()
 }
 
-/// Whether a short tag is due as a whole, a line has room for it, and the octets that were written
-/// can be counted on. The line is one line, with its end.
+/// Whether a line and its tag can be put in one step: the whole tag is due and short, the line has room for it, the octets
+/// since the tag was set can still be counted, and the text is one line with its end.
 #[inline]
 fn fits_before(is_short_due: bool, since: u64, line: &Line) -> bool
     ensures short { IsTrue result → is_short_due ≡ true }
@@ -243,11 +244,11 @@ fn fits_before(is_short_due: bool, since: u64, line: &Line) -> bool
     is_short_due && since < MOST && is_line(line)
 }
 
-/// How many octets are written since the tag was set until a line and its tag are put one after the other.
+/// If this many octets were written since the tag was set, a line and its tag are no longer put in one step.
 const MOST: u64 = 1 << 63;
 
-/// Whether what is spelled is one line with its end, with room for a block before it. All of a
-/// short one is looked at in one step.
+/// Whether the text is one line with its end, and there is room for a block before it. A short line is looked at in one
+/// step.
 #[inline]
 fn is_line(line: &Line) -> bool
     ensures line { IsTrue result → IsLine (line_text line.now) }
@@ -259,7 +260,7 @@ fn is_line(line: &Line) -> bool
     }
 }
 
-/// Whether the last of 64 octets is the end of a line, and no other is.
+/// Whether the last of 64 octets is the end of a line, and no other of them is.
 #[inline]
 fn only_last_is_end(octets: &[u8]) -> bool
     requires { length octets.now ≡ 64 }
@@ -284,7 +285,8 @@ fn is_long_line(octets: &[u8]) -> bool
     }
 }
 
-/// Puts a text to an out until that has all of it or a put fails, and returns how many octets it took. Mostly that is one put.
+/// Puts a text to an out until the out has taken all of it or a put fails. Returns how many octets the out took. One put is
+/// mostly enough.
 #[inline]
 fn put_most<O: Out>(out: &mut O, text: &[u8]) -> usize
     ensures within { result ≤ length text.now }
@@ -306,7 +308,7 @@ fn put_most<O: Out>(out: &mut O, text: &[u8]) -> usize
     }
 }
 
-/// The same by as many puts as it takes.
+/// Puts octets as `put_most` does, by as many puts as it takes.
 #[cold]
 #[inline(never)]
 fn put_more<O: Out>(out: &mut O, octets: &[u8]) -> usize
@@ -328,7 +330,7 @@ fn put_more<O: Out>(out: &mut O, octets: &[u8]) -> usize
     at
 }
 
-/// One more, in a count that stays at its greatest.
+/// One more than a count, or the greatest number of 64 bits if the count is that.
 #[tactic(auto, unfolding(giop_print::specs::Output::counted))]
 fn one_more(count: u64) -> u64
     ensures { result ≡ counted count }
@@ -336,7 +338,7 @@ fn one_more(count: u64) -> u64
     count.saturating_add(1)
 }
 
-/// Whether so many octets more can be counted, and those of a tag that are due.
+/// Whether these octets, and the octets of a tag that are due, can be counted in addition to those since the tag was set.
 fn can_count(since: u64, due: usize, octets: usize) -> bool
     ensures { IsTrue result ↔ since + (due + octets) < 2 ^ 64 }
 {
@@ -346,7 +348,7 @@ fn can_count(since: u64, due: usize, octets: usize) -> bool
     }
 }
 
-/// Puts octets to an out, and counts those that it takes.
+/// Puts octets to an out, and adds the number of those that it takes to the count.
 fn put_counted<O: Out>(out: &mut O, since: &mut u64, octets: &[u8]) -> Result<usize, OutFault>
     requires room { since.old + length octets.now < 2 ^ 64 }
     ensures does { MatchResult result
@@ -364,7 +366,7 @@ fn put_counted<O: Out>(out: &mut O, since: &mut u64, octets: &[u8]) -> Result<us
     }
 }
 
-/// Puts what is due of a tag.
+/// Puts the octets of a tag that are due.
 fn put_tag<O: Out>(
     out: &mut O,
     tag: &[u8],
@@ -390,7 +392,7 @@ fn put_tag<O: Out>(
     Ok(())
 }
 
-/// How many octets the first line has, its end among them, where it ends here.
+/// How many octets the first line has, with its end if it ends here.
 fn line_size(octets: &[u8]) -> usize
     ensures value { result ≡ line_size octets.now }
     ensures within { result ≤ length octets.now }
@@ -409,7 +411,8 @@ fn due_behind(tag: &[u8], octet: u8) -> usize
     if octet == b'\n' { tag.len() } else { 0 }
 }
 
-/// Puts octets of one line, at least one, where nothing is due of the tag. Where it ends, the tag of the next one is due.
+/// Puts octets of one line, at least one, when nothing of the tag is due. If the line ends in them, the tag of the next
+/// line is due.
 fn put_line<O: Out>(
     out: &mut O,
     tag: &[u8],
@@ -437,7 +440,7 @@ fn put_line<O: Out>(
     }
 }
 
-/// Puts what is due of the tag, and then octets of one line.
+/// Puts the octets of the tag that are due, and then octets of one line.
 fn put_tagged<O: Out>(
     out: &mut O,
     tag: &[u8],

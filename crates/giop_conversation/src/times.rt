@@ -1,4 +1,4 @@
-//! The parts of a time, and spans of time, spelled in a line.
+//! The parts of a time, and spans of time, as text in a line.
 
 ghost use Rattle.std.specs.Prelude.{◌≡◌, ◌+◌, ◌-◌, ◌/◌, ◌%◌, ◌<◌, ◌≤◌, ◌++◌, length, codes, MatchOption};
 ghost use Rattle.giop_print.specs.Line.{line_text, line_room};
@@ -9,11 +9,11 @@ ghost use Rattle.giop_conversation.specs.Times.{years, years_of, months_of, mont
 use giop_print::Line;
 use itoa::Buffer;
 
-/// Nanoseconds of a second.
+/// The number of nanoseconds in a second.
 const SECOND: u64 = 1_000_000_000;
-/// Seconds of a day.
+/// The number of seconds in a day.
 pub(crate) const DAY: u64 = 86_400;
-/// The years from 1970 to 9999.
+/// The number of years from 1970 to 9999.
 const YEARS: u16 = 8030;
 
 /// The two decimal digits of each number below 100, one after another.
@@ -22,14 +22,14 @@ static PAIRS: [u8; 200] = *b"00010203040506070809101112131415161718192021222324\
        50515253545556575859606162636465666768697071727374\
        75767778798081828384858687888990919293949596979899";
 
-/// Whether a year of the Gregorian calendar has a 29 February.
+/// Whether a year of the Gregorian calendar is a leap year: its February has 29 days.
 fn is_leap_year(year: u16) -> bool
     ensures { result ≡ calendar.is_leap_year year }
 {
     year % 4 == 0 && (year % 100 != 0 || year % 400 == 0)
 }
 
-/// The days of a year.
+/// The number of days in a year.
 fn days_in_year(year: u16) -> u16
     ensures value { result ≡ calendar.days_in_year year }
     ensures most { result ≤ 366 }
@@ -37,7 +37,7 @@ fn days_in_year(year: u16) -> u16
     if is_leap_year(year) { 366 } else { 365 }
 }
 
-/// The days of the first so many years from 1970 on.
+/// The number of days in the first years from 1970 on, by the number of those years.
 fn days_of_years(passed: u16) -> u32
     requires { passed ≤ years }
     ensures { result ≡ calendar.days_of_years passed }
@@ -46,7 +46,8 @@ fn days_of_years(passed: u16) -> u32
     365 * since_1601 + since_1601 / 4 - since_1601 / 100 + since_1601 / 400 - 134_774
 }
 
-/// The whole years from 1970 on that so many days make, and the days that are left; none from the year 10000 on.
+/// The number of whole years from 1970 on that these days make, and the days that are left. From the year 10000 on there
+/// are none.
 pub(crate) fn years_of(days: u64) -> Option<(u16, u16)>
     ensures { MatchOption result (calendar.days_of_years years ≤ days)
         (λ found. (days < calendar.days_of_years years) × (found.0 ≡ years_of days)
@@ -57,7 +58,7 @@ pub(crate) fn years_of(days: u64) -> Option<(u16, u16)>
     let Ok(whole) = u32::try_from(days) else {
         return None;
     };
-    // No year is longer than 366 days.
+    // No year is longer than 366 days, so at least this number of years has passed.
     let first = (whole / 366).min(u32::from(YEARS)) as u16;
     let mut left = whole - days_of_years(first);
     for passed in first..YEARS {
@@ -70,7 +71,7 @@ pub(crate) fn years_of(days: u64) -> Option<(u16, u16)>
     None
 }
 
-/// The day, from 0, that a day of a year has in one whose February has 30 days.
+/// The number, from 0, that a day of a year would have in a year whose February has 30 days.
 fn even_day(year: u16, days: u16) -> u16
     requires { days < calendar.days_in_year year }
     ensures early { days < calendar.days_in_year year - 306 → result ≡ days }
@@ -86,8 +87,8 @@ fn even_day(year: u16, days: u16) -> u16
     }
 }
 
-/// The whole months of a year that its first days make, and the days that are left. Where February
-/// has 30 days, (367 m + 5) / 12 days stand before the month m, from 0.
+/// The number of whole months of a year that its first days make, and the days that are left. In a year whose February has
+/// 30 days, (367 m + 5) / 12 days come before month m, counted from 0.
 fn months_of(year: u16, days: u16) -> (u8, u8)
     requires within { days < calendar.days_in_year year }
     ensures value { result.0 ≡ months_of year days }
@@ -100,7 +101,7 @@ fn months_of(year: u16, days: u16) -> (u8, u8)
     (months as u8, (even - (367 * months + 5) / 12) as u8)
 }
 
-/// Puts the two decimal digits of a number before what was spelled of a line.
+/// Puts the two decimal digits of a number before the text that the line has.
 #[inline]
 fn put_two(line: &mut Line, n: u32)
     requires room { 2 ≤ line_room line.old }
@@ -113,8 +114,8 @@ fn put_two(line: &mut Line, n: u32)
     line.put(PAIRS[pair]);
 }
 
-/// Puts a day, by the whole years from 1970 on and the days of the year before it, before what was
-/// spelled of a line.
+/// Puts a day before the text that the line has. The day is given by the whole years from 1970 on, and the days of its year
+/// before it.
 #[tactic(auto, unfolding(crate::specs::Times::day_text))]
 fn put_day(line: &mut Line, passed: u16, days: u16)
     requires room { 10 ≤ line_room line.old }
@@ -133,8 +134,7 @@ fn put_day(line: &mut Line, passed: u16, days: u16)
     put_two(line, u32::from(year / 100));
 }
 
-/// Puts the hour, the minute and the second, by the seconds of the day, before what was spelled of
-/// a line.
+/// Puts the hour, the minute and the second before the text that the line has, by the seconds of the day.
 #[tactic(auto, unfolding(crate::specs::Times::clock_text))]
 fn put_clock(line: &mut Line, seconds: u32)
     requires room { 8 ≤ line_room line.old }
@@ -149,7 +149,7 @@ fn put_clock(line: &mut Line, seconds: u32)
     put_two(line, seconds / 3600);
 }
 
-/// Puts the last nine decimal digits of a number before what was spelled of a line.
+/// Puts the last nine decimal digits of a number before the text that the line has.
 #[inline]
 #[tactic(auto, unfolding(crate::specs::Times::last_digits))]
 pub(crate) fn put_nine(line: &mut Line, n: u32)
@@ -165,8 +165,8 @@ pub(crate) fn put_nine(line: &mut Line, n: u32)
     line.put(b'0' + (high / 10_000 % 10) as u8);
 }
 
-/// Puts a second, by the whole years from 1970 on, the days of the year before it and the seconds of
-/// the day, before what was spelled of a line.
+/// Puts a second before the text that the line has. It is given by the whole years from 1970 on, the days of its year
+/// before it, and the seconds of the day.
 pub(crate) fn put_second(line: &mut Line, passed: u16, days: u16, seconds: u32)
     requires room { 20 ≤ line_room line.old }
     requires year { passed < years }
@@ -182,8 +182,8 @@ pub(crate) fn put_second(line: &mut Line, passed: u16, days: u16, seconds: u32)
     put_day(line, passed, days);
 }
 
-/// The whole seconds of a number of nanoseconds, and the nanoseconds after them. Those that fit 64 bits, as most do,
-/// are divided so, which a processor does much quicker.
+/// The whole seconds in a number of nanoseconds, and the nanoseconds that are left. Most numbers fit 64 bits, and these are
+/// divided in 64 bits, which is much quicker.
 #[inline]
 pub(crate) fn seconds_of(nanoseconds: u128) -> (u128, u32)
     ensures value { result.0 ≡ nanoseconds / second }
@@ -198,7 +198,7 @@ pub(crate) fn seconds_of(nanoseconds: u128) -> (u128, u32)
     }
 }
 
-/// Puts nanoseconds in seconds before what was spelled of a line.
+/// Puts a number of nanoseconds, as seconds, before the text that the line has.
 #[tactic(auto, unfolding(crate::specs::Times::seconds_text))]
 fn put_seconds(line: &mut Line, nanoseconds: u128)
     requires { 40 ≤ line_room line.old }
@@ -214,8 +214,8 @@ fn put_seconds(line: &mut Line, nanoseconds: u128)
     }
 }
 
-/// Puts the text of the span from one time to another, both in nanoseconds, in seconds, before what was spelled of a line:
-/// `0.000228123`. Where it goes back `-` stands in front, and where a time is missing alone.
+/// Puts the span from one time to another, in seconds, before the text that the line has: `0.000228123`. Both times are in
+/// nanoseconds. If the span goes back, `-` stands in front of it. If a time is missing, the text is `-` alone.
 #[tactic(auto, unfolding(crate::specs::Times::span_text))]
 pub fn put_span(line: &mut Line, from: Option<u128>, to: Option<u128>)
     requires { 41 ≤ line_room line.old }

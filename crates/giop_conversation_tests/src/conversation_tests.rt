@@ -1,4 +1,4 @@
-//! All connections of a capture, told what happens in their flows.
+//! All connections of a capture, and what happens in their flows.
 
 use giop_conversation::{Conversations, Limits, events_lead_to_one_text};
 use giop_print::{OutFault, Sheet};
@@ -8,10 +8,10 @@ use tcp_flow::{CloseCause, Start};
 use tcp_segment::{Address, Endpoint, Flow};
 use tcp_waiting::Arrival;
 
-/// A second in nanoseconds.
+/// The number of nanoseconds in a second.
 const SECOND: u128 = 1_000_000_000;
 
-/// A client asks a server.
+/// The flow from a client to a server.
 const ASKING: Flow = Flow {
     from: Endpoint {
         address: Address::V4([10, 0, 0, 1]),
@@ -23,13 +23,13 @@ const ASKING: Flow = Flow {
     },
 };
 
-/// A Request of 1.0 with the id 7, of the operation `one`.
+/// A Request of GIOP 1.0 with the id 7, for the operation `one`.
 const REQUEST: [u8; 44] = [
     0x47, 0x49, 0x4f, 0x50, 1, 0, 0, 0, 0, 0, 0, 32, 0, 0, 0, 0, 0, 0, 0, 7, 1, 0, 0, 0, 0, 0, 0,
     2, 0x6b, 0x31, 0, 0, 0, 0, 0, 4, 0x6f, 0x6e, 0x65, 0, 0, 0, 0, 0,
 ];
 
-/// Its Reply, which ends with its header.
+/// The Reply to it. It ends with its header.
 const REPLY: [u8; 24] = [
     0x47, 0x49, 0x4f, 0x50, 1, 0, 0, 1, 0, 0, 0, 12, 0, 0, 0, 0, 0, 0, 0, 7, 0, 0, 0, 0,
 ];
@@ -69,21 +69,21 @@ s2 total messages 1 faults 0 octets 24
 total streams 2 messages 2 faults 0 packets 2 octets 204 other 1
 ";
 
-/// The first octet of a flow.
+/// The start of a stream at the first octet of a flow.
 const FIRST: Start = Start {
     number: 1,
     passed: 0,
     is_found: false,
 };
 
-/// One after nine octets that are in no stream.
+/// The start of a stream after nine octets that are in no stream.
 const FOUND: Start = Start {
     number: 10,
     passed: 9,
     is_found: true,
 };
 
-/// A call and its reply, the second in pieces of a size.
+/// Tells conversations of a call and its reply. The reply comes in pieces of this size.
 fn tell(conversations: &mut Conversations<Sheet>, size: usize) -> Result<bool, OutFault> {
     conversations.opens(0, ASKING);
     conversations.opens(1, ASKING.opposite());

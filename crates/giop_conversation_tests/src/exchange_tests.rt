@@ -8,7 +8,7 @@ use tcp_waiting::Arrival;
 
 const PING: &[u8] = b"ping";
 
-/// The first packet, at a time in nanoseconds since 1970-01-01 UTC.
+/// The first packet, at this time, in nanoseconds since 1970-01-01 UTC.
 fn at(time: u128) -> Arrival {
     Arrival {
         time: Some(time),

@@ -1,4 +1,4 @@
-//! The lines of a capture beside those of its streams.
+//! Tests of the lines of a capture in addition to those that giopdump writes of its streams.
 
 use arrayvec::ArrayVec;
 use giop_calls::Call;
@@ -40,7 +40,7 @@ fn call() -> Call {
     }
 }
 
-/// The beginning of a stream.
+/// What a stream's line says about its beginning.
 fn opening(time: Option<u128>, partner: Option<u64>, passed: u32, is_found: bool) -> Opening {
     Opening {
         time,
@@ -53,7 +53,7 @@ fn opening(time: Option<u128>, partner: Option<u64>, passed: u32, is_found: bool
     }
 }
 
-/// A line of each kind.
+/// Writes one line of each kind.
 fn lines(sheet: &mut Sheet) -> Result<(), OutFault> {
     stream_line(sheet, FLOW, opening(Some(TIME), None, 0, false))?;
     stream_line(sheet, FLOW.opposite(), opening(None, Some(3), 12, true))?;
@@ -108,7 +108,7 @@ fn each_line_of_a_capture(rt: HostRuntime) -> Result<(), Fail> {
     Ok(())
 }
 
-/// Why a stream closes, and the line of it.
+/// Why a stream closes, and the line that says so.
 const CAUSES: [(CloseCause, &str); 7] = [
     (CloseCause::Fin, "closed fin\n"),
     (CloseCause::Reset, "closed reset\n"),

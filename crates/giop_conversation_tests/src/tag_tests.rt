@@ -1,4 +1,4 @@
-//! Lines with tags, in pieces of each size, and where the out below is full.
+//! Lines with tags, put in pieces of each size, and when the out below is full.
 
 use giop_conversation::{Tagged, no_tag, stream_tag};
 use giop_print::{Line, Out, OutFault, Sheet, put_all};
@@ -6,10 +6,10 @@ use std::test::Fail;
 
 const LINES: &[u8] = b"m1 end\n\nm2 end\nm3 ";
 
-/// The lines with the tag of stream 12, and after them a line without one.
+/// The lines with the tag of stream 12, and after them a line without a tag.
 const TAGGED: &[u8] = b"s12 m1 end\ns12 \ns12 m2 end\ns12 m3 total\n";
 
-/// Puts octets in pieces of a size.
+/// Puts octets in pieces of this size.
 fn put_pieces<O: Out>(out: &mut O, octets: &[u8], size: usize) -> Result<(), OutFault> {
     for piece in octets.chunks(size.max(1)) {
         put_all(out, piece)?;
@@ -60,7 +60,8 @@ fn put_spelled<O: Out>(out: &mut O, text: &[u8]) -> Result<(), OutFault> {
     out.put_line(&mut line)
 }
 
-/// What is put as one line, and what stands below: one line, two, a line without its end, none, and only an end.
+/// What is put as one line, and what the out below then has: for one line, for two, for a line without its end, for no
+/// octet, and for an end alone.
 const SPELLED: [(&[u8], &[u8]); 5] = [
     (b"m1 end\n", b"s12 m1 end\n"),
     (b"m1 end\nm2 end\n", b"s12 m1 end\ns12 m2 end\n"),

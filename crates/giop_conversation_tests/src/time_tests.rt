@@ -3,7 +3,7 @@
 use giop_conversation::{put_span, put_time};
 use giop_print::Line;
 
-/// Times in nanoseconds since 1970-01-01 UTC, with their texts by another reading of the calendar.
+/// Times in nanoseconds since 1970-01-01 UTC. Their texts come from another implementation of the calendar.
 const TIMES: [(Option<u128>, &str); 8] = [
     (None, "-"),
     (Some(0), "1970-01-01T00:00:00.000000000Z"),
@@ -39,7 +39,7 @@ fn a_time_is_a_date_of_the_calendar(rt: HostRuntime) {
     }
 }
 
-/// From one time to another, and the span between them.
+/// Two times, and the span from the first to the second.
 const SPANS: [(Option<u128>, Option<u128>, &str); 6] = [
     (Some(1_000_000_000), Some(1_000_228_123), "0.000228123"),
     (Some(7), Some(7), "0.000000000"),

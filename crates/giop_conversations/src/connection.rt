@@ -1,4 +1,4 @@
-//! A connection whose two directions are read, each typed by the calls of the other.
+//! A connection whose two directions are read. The calls of each direction give the types for the other.
 
 ghost use Rattle.std.specs.Prelude.{IfOk, ◌≡◌};
 ghost use Rattle.giop_stream.specs.EngineHolds.{AreOf};
@@ -15,9 +15,9 @@ use std::marker::Model;
 /// One of the two directions.
 #[derive(Clone, Copy)]
 pub enum Direction {
-    /// The one that the octets of a line with `>` come in.
+    /// The direction of the octets in a line with `>`.
     Forth,
-    /// The one that the octets of a line with `<` come in.
+    /// The direction of the octets in a line with `<`.
     Back,
 }
 
@@ -27,7 +27,7 @@ pub struct Connection<'a> {
     catalogue: &'a Catalogue,
     forth: Engine<'a>,
     back: Engine<'a>,
-    // That of the first direction, but while the second one is fed.
+    // The correspondent of the first direction, except while the second direction is fed.
     side: Side<'a>,
 }
 
@@ -43,7 +43,7 @@ impl<'a> Model for Connection<'a> {
 }
 
 impl<'a> Connection<'a> {
-    /// A connection of which nothing was read, for so many outstanding calls in each direction.
+    /// Makes a connection from which nothing was read yet, for this number of outstanding calls in each direction.
     pub fn new(
         alloc: Global,
         catalogue: &'a Catalogue,
@@ -107,7 +107,7 @@ impl<'a> Connection<'a> {
     }
 }
 
-/// An engine that has read nothing, for 16 open messages.
+/// Makes an engine that has read nothing, for 16 open messages.
 fn engine<'a>(
     alloc: Global,
     catalogue: &'a Catalogue,

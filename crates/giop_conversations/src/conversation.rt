@@ -1,10 +1,10 @@
-//! Parses the text of a conversation.
+//! The text of a conversation, parsed.
 
 use super::connection::Direction;
 use std::alloc::{AllocError, Global};
 
-/// A conversation: its name, how many calls of each direction may be outstanding, the pieces that come once for each of
-/// some numbers, the pieces after them, and the closing lines without the last line feed.
+/// A conversation: its name, how many calls of each direction may be outstanding, the pieces that come once for each of a
+/// range of numbers, the pieces after them, and the closing lines without the last line feed.
 #[derive(Clone, Copy)]
 pub struct Conversation<'a> {
     pub name: &'a str,
@@ -34,7 +34,8 @@ impl<'a> Conversation<'a> {
     }
 }
 
-/// The pieces that come once for each number, and those after them; all are after them where there is no number.
+/// The pieces that come once for each number, and the pieces after them. If there is no range of numbers, all pieces are of
+/// the second kind.
 fn split<'a>(pieces: &'a str, numbers: &str) -> Option<(&'a str, &'a str)> {
     if numbers.is_empty() {
         return Some(("", pieces));
@@ -42,7 +43,7 @@ fn split<'a>(pieces: &'a str, numbers: &str) -> Option<(&'a str, &'a str)> {
     pieces.split_once("\nthen\npiece ")
 }
 
-/// How many calls may be outstanding by this line; 128 where there is none.
+/// How many calls may be outstanding, by this line; 128 if there is none.
 fn calls_of(line: &str) -> Option<u32> {
     if line.is_empty() {
         return Some(128);
@@ -50,7 +51,7 @@ fn calls_of(line: &str) -> Option<u32> {
     line.trim().strip_prefix("calls ")?.parse().ok()
 }
 
-/// The first and the last number; none where the text is empty.
+/// The first and the last number of the range. If the text is empty, the range is empty.
 fn numbers_of(text: &str) -> Option<(u32, u32)> {
     if text.is_empty() {
         return Some((1, 0));
@@ -79,12 +80,12 @@ impl<'a> Piece<'a> {
         })
     }
 
-    /// Its octets. `None` for digits that aren't hexadecimal, and without memory.
+    /// The octets of the piece. `None` if the digits aren't hexadecimal, or if there isn't enough memory.
     pub fn octets(&self, alloc: Global) -> Option<Vec<u8>> {
         hex::decode(alloc, self.digits).ok()
     }
 
-    /// Its digits and its lines, where `#` stands for this number.
+    /// The digits and the lines of the piece, with this number in place of each `#`.
     pub fn numbered(&self, alloc: Global, number: u32) -> Result<(String, String), AllocError> {
         let in_octets = format!(in alloc; "{number:08x}")?;
         let in_lines = format!(in alloc; "{number}")?;

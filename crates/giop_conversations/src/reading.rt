@@ -1,4 +1,5 @@
-//! Reads a conversation, with its pieces as they are and cut into smaller ones, and compares what is written of each.
+//! How a conversation is read, with its pieces as they are and cut into smaller ones, and how the lines of each piece are
+//! compared.
 
 ghost use Rattle.giop_stream.specs.EngineHolds.{AreOf};
 
@@ -10,10 +11,10 @@ use giop_stream::Stop;
 use giop_testing::first_line;
 use std::io;
 
-/// How many octets of a piece are fed at a time, at most.
+/// The greatest numbers of octets of a piece that are fed at a time.
 const SIZES: [usize; 3] = [usize::MAX, 7, 1];
 
-/// Reads a conversation with each of the sizes, up to the first with which it differs, which is printed.
+/// Reads a conversation with each of the sizes, up to the first size with which it differs. The difference is printed.
 pub fn is_read_each_way(
     rt: &HostRuntime,
     catalogue: &Catalogue,
@@ -31,7 +32,7 @@ pub fn is_read_each_way(
     Ok(true)
 }
 
-/// Reads a conversation, with so many octets at a time.
+/// Reads a conversation, with at most `size` octets at a time.
 fn is_read(
     rt: &HostRuntime,
     connection: Connection,
@@ -62,7 +63,7 @@ fn is_repeated_read(
     Ok(true)
 }
 
-/// Reads them for one number.
+/// Reads the pieces that come once for each number, for this number.
 fn is_numbered_read(
     rt: &HostRuntime,
     connection: &mut Connection,
@@ -87,7 +88,7 @@ fn is_numbered_read(
     Ok(true)
 }
 
-/// Reads the pieces after those.
+/// Reads the pieces after those that come once for each number.
 fn is_rest_read(
     rt: &HostRuntime,
     connection: &mut Connection,
@@ -124,7 +125,7 @@ fn is_piece_read(
     is_as_told(rt, name, piece.digits, piece.lines, sheet.held())
 }
 
-/// Feeds the octets of a piece, so many at a time.
+/// Feeds the octets of a piece, at most `size` at a time.
 fn fed(
     connection: &mut Connection,
     piece: &Piece,
@@ -138,7 +139,7 @@ fn fed(
     Ok(())
 }
 
-/// Ends both directions.
+/// Ends both directions, and compares the closing lines.
 fn is_closed(
     rt: &HostRuntime,
     connection: Connection,
@@ -158,7 +159,7 @@ fn is_closed(
     )
 }
 
-/// Whether these lines are the ones that are wanted; prints them where they aren't.
+/// Whether these lines are the ones that are wanted. If they aren't, prints the difference.
 fn is_as_told(
     rt: &HostRuntime,
     name: &str,

@@ -11,8 +11,8 @@ use giop_message::Correspondent;
 use giop_sig::{Catalogue, OpId};
 use std::mem::swap;
 
-/// The correspondent of one direction's stream, by the calls of both: its Requests are added to its own, and its Replies
-/// take those of the other. It is never due.
+/// The correspondent of one direction's stream, by the calls of both directions. Requests of the stream are added to its
+/// own calls, and Replies take calls of the other direction. No line is ever due.
 #[derive(Drop)]
 pub struct Side<'a> {
     pub catalogue: &'a Catalogue,
@@ -81,7 +81,8 @@ impl Correspondent for Side<'_> {
     ghost known = { λ C s event k h. stays_known C s event k };
 }
 
-/// A Request takes an older call of its id away, and makes one, if its call line can be shown and it expects a reply.
+/// Takes a Request. An older call of its id goes. A call is made of it if its call line can be shown and it expects a
+/// reply.
 fn request(
     calls: &mut Calls,
     number: u64,
@@ -118,7 +119,7 @@ fn number_of(operation: Option<OpId>) -> Option<u32>
     Some(operation?.0)
 }
 
-/// The octets of a name. A longer one than a call has room for can't be shown, and isn't kept.
+/// The octets of a name. If it is longer than a call has room for, it can't be shown and isn't kept.
 fn kept(name: &[u8]) -> ArrayVec<u8, 128>
     ensures { result.items ≡ kept_name name.now }
 {

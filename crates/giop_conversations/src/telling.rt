@@ -1,4 +1,4 @@
-//! Reads the sets of conversations, reads each, and prints whether it differs.
+//! How the sets of conversations are read, each conversation is tried, and it is printed whether it differs.
 
 ghost use Rattle.giop_stream.specs.EngineHolds.{AreOf};
 
@@ -8,7 +8,7 @@ use giop_sig::{Catalogue, Requests};
 use giop_testing::Tally;
 use std::io;
 
-/// Prints for each conversation whether it is as expected, and at the end how many there were.
+/// Prints for each conversation whether it is as expected, and at the end how many conversations there were.
 pub fn tell(rt: &HostRuntime, text: &str, tally: &mut Tally) -> io::Result<()> {
     for set in text.strip_suffix('\n').unwrap_or("").split("\n=\n") {
         tell_set(rt, set, tally)?;
@@ -57,7 +57,7 @@ fn tell_conversations(
     Ok(())
 }
 
-/// Prints a conversation that is as expected; one that differs was printed already.
+/// Prints a conversation that is as expected. One that differs was printed already.
 fn told(rt: &HostRuntime, name: &str, is_as_told: bool) -> io::Result<()> {
     if is_as_told {
         println!(rt; "ok {name}")?;

@@ -1,5 +1,5 @@
--- The entries of a table, made of its ids, slab numbers and values: their number, the entry at a
--- place, and what they become when one is added, removed or changed.
+-- The entries of a table, made of its ids, slab numbers and values: how many there are, the entry
+-- at an index, and what they are after one is added, removed or changed.
 use Rattle.std.proofs.Common.{◌≡◌, ◌≢◌, ◌<◌, ◌==◌, ◌+◌, ◌≤◌, ℕ, zero, suc, false, eqb, cond, List, [], ◌∷◌, ◌++◌, length, get_or, Option, Some, None, IsSome, slice_get, refl, sym, ap, ◌∙◌, arith, length-append, inl, inr, map, set, is_some, count_by}
 use Rattle.std.specs.List.{AllByRecursion as Each, IsDistinct, remove, position_from}
 use Rattle.std.proofs.lemmas.List.Sums.{sum_by-cons}
@@ -13,11 +13,11 @@ use Rattle.giop_entry_table.specs.declared.entry_table.Entry.{Entry}
 use Rattle.giop_entry_table.specs.EntryTable.{revalued}
 use Rattle.giop_entry_table.specs.EntryTableView.{entries_of, IsTied}
 
--- each of some numbers has a value
+-- the slab has a value under each of these numbers
 abbrev pub AllHeld : {V : Type 0} → Slab V → List ℕ → Type 0
 AllHeld values numbers = Each (λ number. IsSome (get values number)) numbers
 
--- two slabs have the same under each of some numbers
+-- two slabs have the same under each of these numbers
 abbrev pub SameAt : {V : Type 0} → Slab V → Slab V → List ℕ → Type 0
 SameAt old new numbers = Each (λ number. get new number ≡ get old number) numbers
 
@@ -131,7 +131,7 @@ module _ {V : Type 0} where
       let first = there (get values n) held.0 in
       rw first.1 (ap (λ ks. k ∷ ks) (keys-of values ks ns (omega (arith, same)) held.1))
 
-  -- the entries of tied ids, numbers and values, and how these stay tied
+  -- if ids, numbers and values are tied, there are as many entries as numbers
   pub length-held : (keys numbers : List ℕ) (values : Slab V) → IsTied keys numbers values →
       length (entries_of values keys numbers) ≡ length numbers
   length-held keys numbers values tied = length-entries values keys numbers tied.as_many tied.held
@@ -278,7 +278,7 @@ module _ {V : Type 0} where
   none-at keys numbers values place tied past =
       slice_get_past _ place (rw (length-held keys numbers values tied) past)
 
-  -- the number at a place has a value
+  -- the slab has a value under the number at an index
   pub held-number : (keys numbers : List ℕ) (values : Slab V) (place number : ℕ) →
       IsTied keys numbers values → place < length numbers →
       number ≡ get_or numbers place 0 → IsSome (get values number)
@@ -305,12 +305,12 @@ module _ {V : Type 0} where
       sum_by-cons one slot (set rest number (Some v))
       ∙ ap (λ n. one slot + n) (count-kept rest number v held) ∙ sym (sum_by-cons one slot rest)
 
-  -- a write of one value leaves as many values
+  -- after one value is written, there are as many values as before
   pub length-with_value : (values : Slab V) (number : ℕ) (v : V) → IsSome (get values number) →
       slab_len (with_value values number v) ≡ slab_len values
   length-with_value values number v held = count-kept values.slots number v held
 
-  -- a change under a number is one under what it equals
+  -- a change under a number is a change under a number that is equal to it
   pub Updates-under : (old new : Slab V) (number other : ℕ) (slot : Option V) → number ≡ other →
       Updates old new number slot → Updates old new other slot
   Updates-under old new number other slot same updates = rw (← same) updates

@@ -1,5 +1,5 @@
--- The ids of a table by their remainders: the look for one begins after places that don't have it,
--- and what is kept of them where one is added or removed.
+-- The ids of a table by their remainders. The search for an id skips only ids that differ from it.
+-- What is kept of the remainders stays right when an id is added or removed.
 use Rattle.std.proofs.Common.{◌≡◌, ◌≢◌, ◌==◌, ◌<◌, ◌≤◌, ◌+◌, ◌-◌, ◌%◌, ◌^◌, ℕ, zero, suc, Bool, false, cond, min, List, [], ◌∷◌, ◌++◌, length, get_or, set, drop, sym, ap, ◌∙◌, inl, inr, arith, zero-add, length-append}
 use Rattle.std.proofs.Math.Seq.{get_or-append_seam}
 use Rattle.std.specs.List.{count_by, remove, position_from}
@@ -10,7 +10,7 @@ use Rattle.std.proofs.lemmas.Bool.{ne_eqb}
 use Rattle.std.proofs.lemmas.Bool.Decides.{eqb_tells, leb_tells}
 use Rattle.giop_entry_table.specs.Ids.{IsBefore, AreIndexed}
 
--- a search goes on after elements that don't pass
+-- a search goes on after elements that don't pass the test
 position-apart : (test : ℕ → Bool) (xs : List ℕ) (n from : ℕ) → n ≤ length xs →
     ((i : ℕ) → i < n → test (get_or xs i 0) ≡ false) →
     position_from test from xs ≡ position_from test (from + n) (drop n xs)
@@ -23,14 +23,14 @@ position-apart test (x ∷ xs) (suc n) from few none =
     let place : from + 1 + n ≡ from + suc n = omega arith in
     rw (here, ← place) rest
 
--- from its beginning on
+-- the same for a search from the beginning
 pub position-behind : (test : ℕ → Bool) (xs : List ℕ) (n : ℕ) → n ≤ length xs →
     ((i : ℕ) → i < n → test (get_or xs i 0) ≡ false) →
     position_from test 0 xs ≡ position_from test n (drop n xs)
 position-behind test xs n few none = position-apart test xs n 0 few none
     ∙ ap (λ k. position_from test k (drop n xs)) (zero-add n)
 
--- one that has the remainder is counted, and no other
+-- an id that has the remainder is counted, and no other one is
 abbrev one_if : Bool → ℕ
 one_if test = cond test 1 0
 
@@ -49,7 +49,7 @@ added p xs x = grind (arith, sum_by-append, sum_by-cons)
 
 module _ (divisor : ℕ) (keys counts firsts : List ℕ) (removals : ℕ)
     (h : AreIndexed divisor keys counts firsts removals) where
-  -- the id at a place is counted
+  -- the id at this index is counted
   pub some_counted : (place r : ℕ) → place < length keys → r ≡ get_or keys place 0 % divisor →
       r < divisor → 1 ≤ get_or counts r 0
   some_counted place r there is within =

@@ -1,4 +1,4 @@
--- Lists without the element at a place, facts of each element, and numbers that differ.
+-- Lists without the element at an index, facts about each element, and numbers that differ.
 use Rattle.std.proofs.Common.{◌≡◌, ◌≢◌, ◌<◌, ℕ, zero, suc, false, eqb, List, [], ◌∷◌, ◌++◌, length, get_or, refl, sym, ◌∙◌, arith}
 use Rattle.std.specs.List.{AllByRecursion as Each, IsDistinct, remove}
 use Rattle.std.proofs.lemmas.List.{get_or_default}
@@ -43,7 +43,7 @@ distinct-remove (n ∷ ns) zero distinct = distinct.1
 distinct-remove (n ∷ ns) (suc place) distinct =
     (each-remove (λ m. eqb n m ≡ false) ns place distinct.0, distinct-remove ns place distinct.1)
 
--- those that are left differ from the one that is taken
+-- the numbers that are left differ from the one that is taken
 pub others-remove : (numbers : List ℕ) (place : ℕ) → IsDistinct eqb numbers →
     place < length numbers →
     Each (λ m. m ≢ get_or numbers place 0) (remove numbers place)
@@ -66,7 +66,7 @@ distinct-push (n ∷ ns) number distinct apart = (
   distinct-push ns number distinct.1 apart.1,
 )
 
--- an element within a list is the same for any default
+-- an element within a list is the same by any default
 pub read-at : (xs : List ℕ) (place x : ℕ) → place < length xs → x ≡ get_or xs place x →
     x ≡ get_or xs place 0
 read-at xs place x within found = found ∙ get_or_default xs place x 0 within

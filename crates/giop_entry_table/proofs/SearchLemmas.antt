@@ -1,4 +1,4 @@
--- A search for the first element that passes a test: it goes on after elements that do not.
+-- A search for the first element that passes a test goes on after elements that don't.
 use Rattle.std.proofs.Common.{◌≡◌, ◌+◌, ℕ, Bool, true, false, cond, List, [], ◌∷◌, ◌++◌, length, Option, Some, None, refl, ap, ◌∙◌, arith, add-zero, suc, ◌≤◌, drop, length-take, length-drop, slice_range}
 use Rattle.std.proofs.lemmas.List.{take_all}
 use Rattle.std.proofs.lemmas.List.Folds.{drop_split}
@@ -19,7 +19,7 @@ module _ {X : Type 0} (test : X → Bool) where
           let same : from + 1 + length xs ≡ from + suc (length xs) = omega arith in
           rw (e, ← same) (past (rw e at none))
 
-  -- a block of which no element passes the test is passed over
+  -- a block in which no element passes the test is skipped
   pub position-block : (xs : List X) (at size : ℕ) → at + size ≤ length xs →
       list_any test (slice_range xs at (at + size)) ≡ false →
       position_from test at (drop at xs) ≡ position_from test (at + size) (drop (at + size) xs)
@@ -43,6 +43,6 @@ module _ {X : Type 0} (test : X → Bool) where
       shift false None = refl
       shift false (Some k) = ap Some (omega arith)
 
--- the part of a list from a place to its end
+-- the part of a list from an index to its end
 pub rest-is : {X : Type 0} (xs : List X) (at : ℕ) → slice_range xs at (length xs) ≡ drop at xs
 rest-is xs at = take_all _ (drop at xs) (omega (arith, length-drop at xs))

@@ -1,10 +1,10 @@
--- What a table is to its callers: entries, each an id and a value, in the order of being added, and
--- how many there may be (meaning).
+-- What a table is to its callers: entries, each an id and a value, in the order in which they were
+-- added, and the greatest number of entries (meaning).
 use Rattle.std.specs.Prelude.{ℕ, zero, suc, List, [], ◌∷◌, refl}
 use Rattle.std.specs.Coded.{Coded, code_by, coded×, coded_ℕ, coded_list}
 use Rattle.giop_entry_table.specs.declared.entry_table.Entry.{Entry}
 
--- the entries in the order of being added, and how many there may be
+-- the entries in the order in which they were added, and the greatest number of them
 pub record Entries (V : Type 0) : Type 0 where
   pub most : ℕ
   pub entries : List (Entry V)
@@ -22,12 +22,12 @@ entries_code {V} code =
     (λ r. (r.most, r.entries)) (λ p. record { most = p.0; entries = p.1 }) (λ _. refl)
 
 module _ {V : Type 0} where
-  -- the entries, where the one at a place has this value
+  -- the entries after the one at this index got this value
   abbrev pub revalued : List (Entry V) → ℕ → V → List (Entry V)
   revalued [] place value = []
   revalued (e ∷ es) zero value = record e { value = value } ∷ es
   revalued (e ∷ es) (suc place) value = e ∷ revalued es place value
 
-  -- the table, where the entry at a place has this value
+  -- the table after the entry at this index got this value
   abbrev pub with_value : Entries V → ℕ → V → Entries V
   with_value r place value = record r { entries = revalued r.entries place value }

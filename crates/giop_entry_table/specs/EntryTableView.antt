@@ -1,12 +1,12 @@
--- How a table keeps its entries: the ids and the slab numbers in order, and each value in the slab
--- under its number (state).
+-- How a table keeps its entries: it has the ids and the slab numbers in order, and the slab has
+-- each value under its number (state).
 use Rattle.std.specs.Prelude.{◌≡◌, ℕ, ◌≤◌, eqb, List, [], ◌∷◌, length, Option, Some, None, IsSome}
 use Rattle.std.specs.List.{AllByRecursion as Each, IsDistinct}
 use Rattle.slab.specs.Slab.{Slab, get, slab_len}
 use Rattle.giop_entry_table.specs.declared.entry_table.Entry.{Entry}
 
 module _ {V : Type 0} where
-  -- an entry before others, if its value is there
+  -- an entry and then others, if the entry's value is there; else only the others
   abbrev pub entry_before : ℕ → Option V → List (Entry V) → List (Entry V)
   entry_before key None rest = rest
   entry_before key (Some value) rest = record { key = key; value = value } ∷ rest
@@ -26,7 +26,7 @@ module _ {V : Type 0} where
     pub held : Each (λ number. IsSome (get values number)) numbers
     pub counted : slab_len values ≡ length numbers
 
-  -- there is room for so many entries with no more memory
+  -- there is room for this number of entries without more memory
   pub record HasRoom (most keys numbers : ℕ) (values : Slab V) : Type 0 where
     pub keys_fit : most ≤ keys
     pub numbers_fit : most ≤ numbers

@@ -1,4 +1,4 @@
-//! Values under ids, in the order of being added.
+//! Values under ids, in the order in which they were added.
 
 ghost use Rattle.std.specs.Prelude.{◌≡◌, ◌+◌, ◌<◌, ◌≤◌, ◌==◌, ◌↔◌, [], ◌∷◌, ◌++◌, length, nat_le, slice_get, option_copied, IsSome, IfSome, OnSome, IfNone, IfOk};
 ghost use Rattle.std.specs.List.{remove, position_from};
@@ -17,14 +17,14 @@ pub struct Entry<V> {
     pub value: V,
 }
 
-/// Values under ids, in the order of being added. All of its memory is allocated when it is made.
+/// Values under ids, in the order in which they were added. All of its memory is allocated when it is made.
 #[derive(Drop)]
 pub struct EntryTable<V> {
-    // How many entries there may be.
+    // The greatest number of entries.
     most: usize,
     // The id of each entry.
     ids: Ids,
-    // The number of each entry's value in `values`.
+    // The number under which `values` has the value of each entry.
     numbers: Vec<usize>,
     values: Slab<V>,
 }
@@ -52,7 +52,7 @@ impl<V> Model for EntryTable<V> {
 impl<V> EntryTable<V> {
     ghost use Rattle.giop_entry_table.specs.MutBorrow.{lends_value, lends_get};
 
-    /// A table without entries, with memory for so many.
+    /// Makes a table without entries, with memory for this number of them.
     pub fn new(alloc: Global, most: usize) -> Result<EntryTable<V>, AllocError>
         ensures most { IfOk result (λ r. r.most ≡ most) }
         ensures entries { IfOk result (λ r. r.entries ≡ []) }
@@ -65,7 +65,7 @@ impl<V> EntryTable<V> {
         })
     }
 
-    /// How many entries there may be.
+    /// The greatest number of entries.
     pub fn most(&self) -> usize
         ensures { result ≡ self.now.most }
     {
@@ -80,14 +80,14 @@ impl<V> EntryTable<V> {
         self.numbers.len()
     }
 
-    /// Whether there are as many entries as there may be.
+    /// Whether the table has as many entries as it may have.
     pub fn is_full(&self) -> bool
         ensures { result ≡ nat_le self.now.most (length self.now.entries) }
     {
         self.len() >= self.most
     }
 
-    /// The place of the first entry with this id.
+    /// The index of the first entry with this id.
     pub fn find(&self, key: u32) -> Option<usize>
         ensures value { result ≡ position_from (λ e. e.key == key) 0 self.now.entries }
         ensures within { IfSome result (λ place. place < length self.now.entries) }
@@ -95,7 +95,7 @@ impl<V> EntryTable<V> {
         self.ids.find(key)
     }
 
-    /// The id of the entry at this place.
+    /// The id of the entry at this index.
     pub fn key(&self, place: usize) -> Option<u32>
         ensures { result ≡ option_map (λ e. e.key) (slice_get self.now.entries place) }
     {
@@ -105,7 +105,7 @@ impl<V> EntryTable<V> {
         }
     }
 
-    /// The value of the entry at this place.
+    /// The value of the entry at this index.
     pub fn get(&self, place: usize) -> Option<&V>
         ensures { option_copied result
             ≡ option_map (λ e. e.value) (slice_get self.now.entries place) }
@@ -116,7 +116,7 @@ impl<V> EntryTable<V> {
         }
     }
 
-    /// The value of the entry at this place, for writing.
+    /// The value of the entry at this index, for writing.
     pub fn get_mut(&mut self, place: usize) -> Option<&mut V>
         ensures* writes_back { sem 𝓛 (lends_get V.row self.entry place result) }
         ensures value { option_copied_mut result
@@ -139,7 +139,7 @@ impl<V> EntryTable<V> {
         &mut self.values[number]
     }
 
-    /// Adds a value under this id, after the others. There must be room.
+    /// Adds a value under this id, after the other entries. There must be room for it.
     pub fn add(&mut self, key: u32, value: V)
         requires { length self.old.entries < self.old.most }
         ensures entries { self.new.entries
@@ -151,7 +151,7 @@ impl<V> EntryTable<V> {
         self.ids.push_reserved(key);
     }
 
-    /// Removes the entry at this place and returns it; those after it move up.
+    /// Removes the entry at this index and returns it. The entries after it move up.
     pub fn take(&mut self, place: usize) -> Option<Entry<V>>
         ensures value { result ≡ slice_get self.old.entries place }
         ensures variant { IsSome result ↔ (place < length self.old.entries) }
@@ -170,7 +170,7 @@ impl<V> EntryTable<V> {
         }
     }
 
-    /// Removes the entry at this place, which there must be, and returns its value; those after it move up.
+    /// Removes the entry at this index and returns its value. There must be such an entry. The entries after it move up.
     #[inline]
     pub fn remove(&mut self, place: usize) -> V
         requires { place < length self.old.entries }

@@ -1,4 +1,4 @@
-//! Ids in the order of being added. One is found by a look from a place on that is kept for its remainder.
+//! Ids in the order in which they were added. The search for an id begins at an index that is kept for the id's remainder.
 
 ghost use Rattle.std.specs.Prelude.{◌≡◌, ◌+◌, ◌%◌, ◌<◌, ◌≤◌, ◌==◌, [], ◌∷◌, ◌++◌, ℕ, get_or, length, vec_capacity, IfSome, IfOk};
 ghost use Rattle.std.specs.List.{remove, position_from};
@@ -7,16 +7,16 @@ ghost use Rattle.giop_entry_table.specs.Ids.{AreIndexed, IsBefore};
 use crate::search::place_of;
 use std::alloc::{AllocError, Global};
 
-/// So few ids are looked through one after the other: all have one remainder.
+/// If there are at most this number of ids, they are looked through one after another: all have one remainder.
 const FEW: usize = 128;
 
-/// Ids in the order of being added. All of its memory is allocated when it is made.
+/// Ids in the order in which they were added. All of its memory is allocated when it is made.
 #[derive(Drop)]
 pub(crate) struct Ids {
     pub(crate) keys: Vec<u32>,
-    // Of each remainder, how many ids have it.
+    // How many ids have each remainder.
     counts: Vec<usize>,
-    // Of each remainder a number. Less the removals, it is at most the place of each id that has the remainder.
+    // A number for each remainder. Minus the removals, it is at most the index of each id that has the remainder.
     firsts: Vec<usize>,
     // How many ids were removed.
     removals: usize,
@@ -25,7 +25,8 @@ pub(crate) struct Ids {
         firsts.items removals },
 }
 
-/// The divisor whose remainders tell ids apart. It is odd, so that ids that rise by a power of two have different remainders.
+/// The divisor whose remainders tell ids apart. It is odd, so that ids that differ by a power of two have different
+/// remainders.
 fn divisor(most: usize) -> usize
     ensures { 0 < result }
 {
@@ -36,7 +37,7 @@ fn divisor(most: usize) -> usize
 }
 
 impl Ids {
-    /// No ids, with memory for so many.
+    /// Makes a list without ids, with memory for this number of them.
     pub(crate) fn with_capacity(alloc: Global, most: usize) -> Result<Ids, AllocError>
         ensures items { IfOk result (λ r. r.keys.items ≡ []) }
         ensures capacity { IfOk result (λ r. most ≤ vec_capacity r.keys) }
@@ -58,8 +59,8 @@ impl Ids {
         key as usize % self.counts.len()
     }
 
-    /// A number that, less the removals, is at most the place of each id that has this remainder, and at most how many
-    /// ids there are.
+    /// A number for this remainder. Minus the removals, it is at most the index of each id that has the remainder, and at
+    /// most the number of ids.
     fn first(&self, remainder: usize) -> usize
         requires { remainder < length self.now.counts.items }
         ensures before { IsBefore self.now.keys.items (length self.now.counts.items)
@@ -73,7 +74,7 @@ impl Ids {
         }
     }
 
-    /// The first place of an id.
+    /// The first index of an id.
     pub(crate) fn find(&self, key: u32) -> Option<usize>
         ensures value { result ≡ position_from (λ k. k == key) 0 self.now.keys.items }
         ensures within { IfSome result (λ place. place < length self.now.keys.items) }
@@ -83,7 +84,7 @@ impl Ids {
         place_of(self.keys.as_slice(), from, key)
     }
 
-    /// Adds an id after the others. There must be room.
+    /// Adds an id after the other ids. There must be room for it.
     pub(crate) fn push_reserved(&mut self, key: u32)
         requires { length self.old.keys.items < vec_capacity self.old.keys }
         ensures items { self.new.keys.items ≡ self.old.keys.items ++ key ∷ [] }
@@ -95,7 +96,7 @@ impl Ids {
         self.keys.push_reserved(key);
     }
 
-    /// Removes the id at this place, which there must be; those after it move up.
+    /// Removes the id at this index. There must be such an id. The ids after it move up.
     pub(crate) fn remove(&mut self, place: usize)
         requires { place < length self.old.keys.items }
         ensures items { self.new.keys.items ≡ remove self.old.keys.items place }

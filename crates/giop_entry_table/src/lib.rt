@@ -1,4 +1,4 @@
-//! A table of values under ids, in the order of being added. All of its memory is allocated when it is made.
+//! A table of values under ids, in the order in which they were added. All of its memory is allocated when it is made.
 #![tactic(auto)]
 
 mod entry_table;

@@ -1,12 +1,12 @@
-//! Searches the first place of an id among many, from a place on, block by block.
+//! Searches for the first index of an id among many, from an index on, block by block.
 
 ghost use Rattle.std.specs.Prelude.{◌≡◌, ◌<◌, ◌≤◌, ◌==◌, drop, length, IfSome};
 ghost use Rattle.std.specs.List.{list_any, position_from};
 
-/// How many ids are compared between two tests of whether the id was found.
+/// How many ids are compared before it is tested whether the id was found.
 const BLOCK: usize = 64;
 
-/// Whether an id is among these. All are compared without an early exit, so that several can be compared at once.
+/// Whether an id is among these. All of them are compared without an early exit, so that several can be compared at once.
 fn is_among(keys: &[u32], key: u32) -> bool
     ensures { result ≡ list_any (λ k. k == key) keys.now }
 {
@@ -17,7 +17,7 @@ fn is_among(keys: &[u32], key: u32) -> bool
     found
 }
 
-/// How many ids are before the first block from a place on that has the id, or before the last ones that fill no block.
+/// The index of the first block, from an index on, that has the id, or of the last ids, which fill no block.
 fn passed_over(keys: &[u32], from: usize, key: u32) -> usize
     requires { from ≤ length keys.now }
     ensures within { result ≤ length keys.now }
@@ -31,7 +31,7 @@ fn passed_over(keys: &[u32], from: usize, key: u32) -> usize
     at
 }
 
-/// The first place of an id, found by comparing one after the other.
+/// The first index of an id, found by comparing one id after another.
 fn first_of(keys: &[u32], key: u32) -> Option<usize>
     ensures value { result ≡ position_from (λ k. k == key) 0 keys.now }
     ensures within { IfSome result (λ k. k < length keys.now) }
@@ -39,7 +39,7 @@ fn first_of(keys: &[u32], key: u32) -> Option<usize>
     keys.iter().position(|k| *k == key)
 }
 
-/// The first place of an id, from this place on.
+/// The first index of an id, from this index on.
 pub(crate) fn place_of(keys: &[u32], from: usize, key: u32) -> Option<usize>
     requires { from ≤ length keys.now }
     ensures value { result ≡ position_from (λ k. k == key) from (drop from keys.now) }

@@ -7,7 +7,7 @@ use giop_json_values::{Characters, Options};
 use giop_run::marked;
 use std::alloc::{AllocError, Global};
 
-/// How many KiB of text are held where no argument gives it.
+/// How many KiB of text are held if no argument says it.
 const DEFAULT_HOLD: u32 = 65_536;
 
 const TEXTS: &[&str] = &["escapes", "latin1", "utf8"];
@@ -40,9 +40,9 @@ The manual page has every member.";
 pub(crate) struct Arguments<'a> {
     /// How messages are written.
     pub(crate) settings: Settings,
-    /// Whether each call is an object, in the place of each message.
+    /// Whether there is an object for each call, instead of one for each message.
     pub(crate) are_calls: bool,
-    /// The file with the lines; None for standard input. No name has a special meaning.
+    /// The file with the lines. If there is none, they come from standard input. No name has a special meaning.
     pub(crate) file: Option<&'a str>,
 }
 
@@ -88,10 +88,10 @@ fn command<'a>(alloc: Global) -> Result<Command<'a>, AllocError> {
 }
 
 impl<'a> Arguments<'a> {
-    /// Reads the words, the first of which is the program's name. An `Err` has the text to print and the status, also for
-    /// `--help` and `--version`, which have status 0.
+    /// Reads the words of the command line. The first word is the program's name. An `Err` has the text to print and the
+    /// status. It is also the answer to `--help` and `--version`, with status 0.
     pub(crate) fn read(alloc: Global, words: &'a [String]) -> Result<Arguments<'a>, Error> {
-        // What is wrong with the words is said of marked ones.
+        // If something is wrong with the words, the error's text is made of the marked words.
         command(alloc)?.try_get_matches_from(marked(alloc, words)?.as_slice())?;
         let matches = command(alloc)?.try_get_matches_from(words)?;
         Ok(Arguments {
@@ -113,7 +113,7 @@ fn settings_of(matches: &ArgMatches<'_>) -> Settings {
     }
 }
 
-/// How texts are written by the word for it, of which `clap` has checked that it is one of `TEXTS`.
+/// How texts are written, by the word for it. `clap` has checked that it is one of `TEXTS`.
 fn characters_of(word: Option<&str>) -> Characters {
     match word {
         Some("latin1") => Characters::Latin1,

@@ -1,4 +1,4 @@
-//! The program: its words, its steps, and its status.
+//! The program: the words of its command line, its steps, and its status.
 
 ghost use Rattle.std.specs.Prelude.{◌≤◌};
 
@@ -7,7 +7,7 @@ use giop_json_messages::{Calls, Messages};
 use giop_run::{failed, refused, words};
 use giop_views::viewed;
 
-/// The program's name, which stands in front of what it says on standard error.
+/// The program's name, with which each message on standard error begins.
 const PROGRAM: &str = "giop-json";
 
 /// Runs the program, and returns its status.
@@ -24,7 +24,7 @@ pub(crate) fn program(rt: &HostRuntime) -> u8
     }
 }
 
-/// The steps after the words; returns the program's status.
+/// Takes the steps after the words of the command line. Returns the program's status.
 fn view(rt: &HostRuntime, asked: Arguments<'_>) -> u8
     ensures { result ≤ 5 }
 {

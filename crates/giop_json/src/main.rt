@@ -1,4 +1,5 @@
-//! Writes the lines of a dump as JSON, an object in a line for each message: lines in, objects on standard output.
+//! Writes the lines of a dump as JSON, with an object in a line for each message. It reads lines, and writes objects to
+//! standard output.
 #![tactic(auto)]
 
 mod arguments;

@@ -1,4 +1,4 @@
--- Members of an object that are put together (RFC 8259, Objects; meaning).
+-- Members of an object that are put one after another (RFC 8259, Objects; meaning).
 use Rattle.std.specs.Prelude.{ℕ, Bool, false, ◌==◌, List, [], ◌∷◌}
 
 -- whether a member comes first, and not the end of the object

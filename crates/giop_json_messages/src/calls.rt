@@ -1,4 +1,4 @@
-//! An object for each call, once its Request and the Reply that answers it are over.
+//! An object for each call, after its Request and the Reply that answers it are over.
 
 ghost use Rattle.std.specs.Prelude.{◌≡◌, Some, IfSome};
 
@@ -14,7 +14,7 @@ use giop_view_parts::{
 use std::alloc::{AllocError, Global};
 use std::collections::BTreeMap;
 
-/// Under the key of the call that it answers.
+/// A Reply waits under the key of the call that it answers.
 #[derive(Drop)]
 struct CallKey;
 
@@ -28,18 +28,18 @@ pub struct Calls {
     alloc: Global,
     settings: Settings,
     room: Room,
-    // For the members after those of the bodies.
+    // The room for the members after those of the bodies.
     back: Room,
-    // The Requests that wait for their replies; by their connections and by when they began too.
+    // The Requests that wait for their replies. They can also be found by their connections and by when they began.
     waiting: Pool<Half, OwnKey>,
     by_connection: BTreeMap<(u64, u64), Key>,
-    // The Replies that were over before their calls, by these.
+    // The Replies that were over before their calls, under the keys of the calls.
     early: Pool<Half, CallKey>,
     cut: u64,
 }
 
 impl Calls {
-    /// No call came.
+    /// Makes one to which no call has come.
     pub fn new(alloc: Global, settings: Settings) -> Calls {
         Calls {
             alloc,
@@ -53,7 +53,7 @@ impl Calls {
         }
     }
 
-    /// Writes a call: a Request and the Reply that answers it, each if it is known.
+    /// Writes a call: a Request and the Reply that answers it. One of the two may be unknown.
     fn put_call<O: Out>(
         &mut self,
         out: &mut O,
@@ -186,7 +186,7 @@ impl Calls {
         Ok(())
     }
 
-    /// Drops the most text that is held. Answers whether there was any.
+    /// Drops the longest text that is held. Returns whether there was any.
     fn drop_text(&mut self, open: &mut Open<Half>) -> Result<bool, AllocError> {
         let (of_open, of_waiting, of_early) = (open.most(), self.waiting.most(), self.early.most());
         let most = greater(greater(of_open, of_waiting), of_early);
@@ -209,7 +209,7 @@ impl Calls {
         Ok(true)
     }
 
-    /// Writes the oldest call that waits, which has no room. Answers whether there was one.
+    /// Writes the oldest call that waits, because there is no room for it. Returns whether there was one.
     fn put_oldest<O: Out>(
         &mut self,
         out: &mut O,
@@ -335,7 +335,7 @@ impl Maker for Calls {
     }
 }
 
-/// Drops the text of the message under a key.
+/// Drops the text of the message under this key.
 fn drop_text_of<P: Place>(pool: &mut Pool<Half, P>, key: Key) -> Result<(), AllocError> {
     let Some(mut message) = pool.remove(key) else {
         return Ok(());
@@ -344,7 +344,7 @@ fn drop_text_of<P: Place>(pool: &mut Pool<Half, P>, key: Key) -> Result<(), Allo
     pool.insert(key, message)
 }
 
-/// A message, if it is known.
+/// The message, if it is known.
 fn half_of(message: &Option<Box<Message<Half>>>) -> Option<&Message<Half>> {
     match message {
         None => None,

@@ -6,24 +6,24 @@ use giop_view_parts::{Message, Of, Own, Stream, replace};
 use std::alloc::{AllocError, Global};
 use std::mem;
 
-/// How many octets of an object key are written.
+/// The greatest length of an object key that is written, in octets.
 const OBJECT_MAX: usize = 128;
 
-/// The body and the rest of a message, and whose it is.
+/// The body and the rest of a message, and which stream and connection it is of.
 #[derive(Drop)]
 pub struct Half {
     alloc: Global,
     values: Values,
-    /// The value of the body, once the message is over; empty where there is none.
+    /// The value of the body, after the message is over. It is empty if there is none.
     pub(crate) body: Vec<u8>,
     /// What the message has after its body, in hexadecimal digits.
     pub(crate) rest: Vec<u8>,
     // The offset at which the rest goes on.
     rest_end: u64,
-    // The object key in hexadecimal digits, no more of it than tells that it is too long.
+    // The object key in hexadecimal digits. If the key is too long, only enough digits are kept to tell this.
     object: Vec<u8>,
     lacks: bool,
-    /// Whether its text had no room.
+    /// Whether its text was dropped because there was no room.
     pub(crate) is_dropped: bool,
     pub(crate) source: Vec<u8>,
     pub(crate) target: Vec<u8>,
@@ -108,7 +108,7 @@ impl Half {
         self.rest.extend_from_slice(octets)
     }
 
-    /// Takes the end of the message, which is of a stream: its body is whole as far as it came.
+    /// Takes the end of the message, with its stream. The body is as complete as its lines came.
     pub(crate) fn end(&mut self, stream: Option<&Stream>) -> Result<(), AllocError> {
         if let Some(stream) = stream {
             replace(&mut self.source, &stream.source)?;
@@ -123,7 +123,7 @@ impl Half {
         Ok(())
     }
 
-    /// Keeps no room but that of what it holds: the message waits. Another one may have it.
+    /// Keeps only the room of what the message holds, because it waits. `other` may have the rest of the room.
     pub(crate) fn wait(&mut self, other: Option<&mut Message<Half>>) {
         let room = mem::replace(&mut self.values, Values::new(self.alloc));
         if let Some(message) = other {
@@ -144,7 +144,7 @@ impl Half {
         self.is_dropped || self.lacks
     }
 
-    /// The object key in hexadecimal digits; empty where none came or it is too long.
+    /// The object key in hexadecimal digits. It is empty if no key came, or if the key is too long.
     pub(crate) fn object(&self) -> &[u8] {
         if self.object.len() > 2 * OBJECT_MAX {
             return b"";
@@ -153,7 +153,7 @@ impl Half {
     }
 }
 
-/// The value of the last of some members: lines told twice have more than one.
+/// The value of the last one of these members. There are several if lines came twice.
 fn last_value(members: &[u8]) -> &[u8] {
     let mut depth: u64 = 0;
     let mut is_text = false;

@@ -1,4 +1,4 @@
-//! Makes an object of each message, stream and capture of a dump once it is over, or of each call (docs/FORMATS.md, JSON).
+//! Makes an object of each message, stream and capture of a dump after it is over, or of each call (docs/FORMATS.md, JSON).
 #![tactic(auto)]
 
 mod calls;

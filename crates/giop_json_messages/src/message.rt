@@ -7,13 +7,13 @@ use giop_lines::{Said, Value};
 use giop_view_parts::{Facts, Header, Key, Message, Own, replace};
 use std::alloc::{AllocError, Global};
 
-/// The values of a message, and what a part of it begins with.
+/// The values of a message, and where the part that is held begins.
 #[derive(Drop)]
 pub struct Parts {
     pub(crate) values: Values,
-    /// How many parts it has, with the one that is held.
+    /// How many parts the message has, with the one that is held.
     pub(crate) parts: u64,
-    // The path of the first value of a part, and the offset where that is in the middle of a content.
+    // The path of the first value of the part that is held, and the offset, if that value is the middle of a content.
     at: Vec<u8>,
     offset: u64,
     // Lines of later versions, each with its LF.
@@ -53,7 +53,7 @@ impl Parts {
         path: &[u8],
         value: Value<'_>,
     ) -> Result<(), AllocError> {
-        // A part begins with a value that it has.
+        // A part begins with the first value that isn't left out.
         if self.parts == 1 || !self.at.is_empty() || self.values.leaves_out(options, path, value) {
             return self.values.take(options, path, value);
         }
@@ -97,13 +97,13 @@ impl Parts {
         Ok(())
     }
 
-    /// Says where a part begins.
+    /// Notes where a part begins.
     fn begin_part(&mut self, path: &[u8], offset: u64) -> Result<(), AllocError> {
         self.offset = offset;
         replace(&mut self.at, path)
     }
 
-    /// Goes on with nothing held.
+    /// Begins the next part: nothing is held.
     pub(crate) fn next_part(&mut self) {
         self.parts = self.parts.saturating_add(1);
         self.at.clear();
@@ -134,7 +134,7 @@ pub(crate) fn put_front(
     put_facts(text, &message.facts)
 }
 
-/// Writes the members of what its lines say before its values.
+/// Writes the members for what the lines of a message say in addition to its values.
 fn put_facts(text: &mut Text, facts: &Facts) -> Result<(), AllocError> {
     if let Some(header) = facts.header {
         put_header(text, header, &facts.word)?;
@@ -174,7 +174,7 @@ fn put_header(text: &mut Text, header: Header, kind: &[u8]) -> Result<(), AllocE
     text.flag("more", header.more)
 }
 
-/// The version of a message.
+/// The version of a message's header.
 pub(crate) fn version(header: Header) -> &'static str {
     match header.minor {
         0 => "1.0",
@@ -183,7 +183,7 @@ pub(crate) fn version(header: Header) -> &'static str {
     }
 }
 
-/// Writes what comes after the values; of a part that others follow the lines of later versions alone. Gives the text.
+/// Writes what comes after the values. If other parts follow, that is only the lines of later versions. Returns the text.
 pub(crate) fn put_values(
     alloc: Global,
     message: &mut Message<Parts>,
@@ -210,7 +210,7 @@ pub(crate) fn put_values(
     Ok(own.values.take_text(alloc))
 }
 
-/// Adds a line of a later version to others, without its LF.
+/// Appends a line of a later version, without its LF.
 pub(crate) fn put_later_line(lines: &mut Vec<u8>, key: Key, text: &[u8]) -> Result<(), AllocError> {
     for (letter, number) in [(b's', key.stream), (b'm', key.number)] {
         if number > 0 {

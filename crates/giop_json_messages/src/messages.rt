@@ -1,4 +1,4 @@
-//! An object for each message, stream and capture, once it is over.
+//! An object for each message, stream and capture, after it is over.
 
 ghost use Rattle.std.specs.Prelude.{◌≡◌, ◌++◌, [], codes, if◌then◌else◌, OnOk};
 ghost use Rattle.giop_json_messages.specs.Members.{begins_member};
@@ -24,7 +24,7 @@ pub struct Messages {
 }
 
 impl Messages {
-    /// Nothing was written.
+    /// Makes one that has written nothing.
     pub fn new(alloc: Global, settings: Settings) -> Messages {
         Messages {
             alloc,
@@ -89,7 +89,7 @@ impl Messages {
         self.room.put(out, text)
     }
 
-    /// Writes what is held of a message, which goes on with nothing held.
+    /// Writes what is held of a message as a part of it. After that nothing of the message is held.
     fn put_part<O: Out>(
         &mut self,
         out: &mut O,
@@ -187,7 +187,7 @@ impl Maker for Messages {
         self.settings.is_full(open)
     }
 
-    /// Writes what is held of the messages with the most text, while all hold more than they may.
+    /// While more is held than may be, writes what is held of the message with the most text.
     fn make_room<O: Out>(
         &mut self,
         out: &mut O,
@@ -226,7 +226,7 @@ fn separate(front: &mut Vec<u8>, others: &[u8]) -> Result<(), AllocError>
     Ok(())
 }
 
-/// Writes the number of a stream and its ends.
+/// Writes the number of a stream, its connection and its endpoints.
 fn put_ends(text: &mut Text, stream: &Stream) -> Result<(), AllocError> {
     text.ordinal("stream", stream.number)?;
     let Some(connection) = stream.connection else {

@@ -1,4 +1,4 @@
-//! Objects on an out, each in a line of ASCII.
+//! Objects that are written to an out, each in a line of ASCII.
 
 ghost use Rattle.std.specs.Prelude.{◌<◌, ◌*◌, ◌↔◌, IsTrue};
 
@@ -11,12 +11,12 @@ use std::mem;
 /// The greatest number of KiB of text that may be held.
 pub const HOLD_MAX: u32 = 16_777_216;
 
-/// What a user chooses.
+/// What a user may choose.
 #[derive(Clone, Copy, Debug, Drop)]
 pub struct Settings {
     /// How values are written.
     pub options: Options,
-    /// How many KiB of text may be held, 1 to 16,777,216.
+    /// The greatest number of KiB of text that may be held, 1 to 16,777,216.
     pub hold: u32,
 }
 
@@ -30,7 +30,7 @@ impl Settings {
     }
 }
 
-/// Room for objects, which is kept for the next one.
+/// The room of an object, which is kept for the next one.
 #[derive(Drop)]
 pub(crate) struct Room {
     alloc: Global,
@@ -45,7 +45,7 @@ impl Room {
         }
     }
 
-    /// A text with nothing written.
+    /// Makes a text with nothing written.
     pub(crate) fn text(&mut self) -> Text {
         Text::new(mem::replace(&mut self.octets, Vec::new(self.alloc)))
     }
@@ -65,7 +65,7 @@ impl Room {
     }
 }
 
-/// Writes the list of lines of later versions, if there are any, each of which ends with its LF.
+/// Writes the list of the lines of later versions, if there are any. Each line ends with its LF.
 pub(crate) fn put_later(text: &mut Text, lines: &[u8]) -> Result<(), AllocError> {
     if lines.is_empty() {
         return Ok(());
@@ -80,7 +80,7 @@ pub(crate) fn put_later(text: &mut Text, lines: &[u8]) -> Result<(), AllocError>
     text.close(true)
 }
 
-/// Writes a text of JSON, each character outside ASCII, which stands in its strings alone, as its escape.
+/// Writes a text of JSON. Each character outside ASCII is written as its escape; such characters stand only in its strings.
 pub(crate) fn put_ascii<O: Out>(out: &mut O, text: &[u8]) -> Result<(), ViewFault> {
     if text.is_ascii() {
         out.put_all(text)?;
@@ -100,7 +100,7 @@ pub(crate) fn put_ascii<O: Out>(out: &mut O, text: &[u8]) -> Result<(), ViewFaul
     Ok(())
 }
 
-/// The escape of JSON for a unit of UTF-16.
+/// The escape of a UTF-16 unit in JSON.
 fn escape(unit: u16) -> [u8; 6] {
     let [high, low] = unit.to_be_bytes();
     let digits = b"0123456789abcdef";

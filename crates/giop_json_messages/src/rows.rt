@@ -6,7 +6,7 @@ use giop_json_values::{Characters, Text, put_shown, shown_text};
 use giop_view_parts::{Endpoint, Message, Status, object_text};
 use std::alloc::{AllocError, Global};
 
-/// What came of a call.
+/// What became of a call.
 #[derive(Clone, Copy, Debug, Drop, PartialEq, Eq)]
 pub(crate) enum Outcome {
     Unknown,
@@ -21,7 +21,7 @@ pub(crate) enum Outcome {
 }
 
 impl Outcome {
-    /// Its word; empty where it can't be told.
+    /// The word for it. It is empty if it can't be told.
     fn word(self) -> &'static str {
         match self {
             Outcome::Unknown => "",
@@ -37,7 +37,7 @@ impl Outcome {
     }
 }
 
-/// A Request and the Reply that answers it, each if it is known.
+/// A Request and the Reply that answers it. One of the two may be unknown.
 #[derive(Clone, Copy)]
 pub(crate) struct Call<'a> {
     pub(crate) request: Option<&'a Message<Half>>,
@@ -45,7 +45,7 @@ pub(crate) struct Call<'a> {
 }
 
 impl<'a> Call<'a> {
-    /// What came of it.
+    /// What became of the call.
     fn outcome(self) -> Outcome {
         if let Some(request) = self.request {
             if request.facts.is_oneway && self.reply.is_none() {
@@ -69,18 +69,18 @@ impl<'a> Call<'a> {
         }
     }
 
-    /// Whether lines or room were missing.
+    /// Whether lines are missing, or there was no room.
     fn is_cut(self) -> bool {
         is_cut(self.request) || is_cut(self.reply)
     }
 
-    /// Whether a text had no room.
+    /// Whether a text was dropped because there was no room.
     pub(crate) fn is_dropped(self) -> bool {
         self.request.is_some_and(|message| message.own.is_dropped)
             || self.reply.is_some_and(|message| message.own.is_dropped)
     }
 
-    /// The client's endpoint and the server's.
+    /// The endpoints of the client and of the server.
     fn ends(self) -> (&'a [u8], &'a [u8]) {
         match (self.request, self.reply) {
             (Some(request), _) => (&request.own.source, &request.own.target),
@@ -125,7 +125,7 @@ impl<'a> Call<'a> {
         text.known_or_null("exception", reply.map_or(b"", |m| &m.facts.raises))
     }
 
-    /// The bodies by the names of their members; empty where there is none.
+    /// The bodies, with the names of their members. A body that there isn't is empty.
     pub(crate) fn bodies(self) -> [(&'static str, &'a [u8]); 4] {
         let arguments = self.request.map_or(b"".as_slice(), |m| &m.own.body);
         let answer = self.reply.map_or(b"".as_slice(), |m| &m.own.body);
@@ -185,12 +185,12 @@ impl<'a> Call<'a> {
     }
 }
 
-/// Whether lines or room were missing.
+/// Whether lines of a message are missing, or there was no room.
 fn is_cut(message: Option<&Message<Half>>) -> bool {
     message.is_some_and(|m| m.own.is_cut() || m.facts.header.is_none() || !m.has_ended)
 }
 
-/// The word of a message's fault, or that it ended in the middle.
+/// The word of a message's fault, or that the message is unfinished.
 fn fault_of(message: &Message<Half>) -> &[u8] {
     if message.facts.fault.is_none() && message.facts.is_unfinished {
         return b"unfinished";
@@ -220,7 +220,7 @@ fn put_object(
     put_shown(alloc, text, &object, characters)
 }
 
-/// Writes which message it is, its packet and its octets.
+/// Writes which message it is, its packet, and its octets.
 fn put_message(
     text: &mut Text,
     names: [&str; 4],
@@ -241,7 +241,7 @@ fn put_message(
     Ok(())
 }
 
-/// A number from 1; None for 0, which says that nothing is known.
+/// A number from 1. None stands for 0, which means that the number isn't known.
 fn ordinal(number: u64) -> Option<u64> {
     if number == 0 { None } else { Some(number) }
 }

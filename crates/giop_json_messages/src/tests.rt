@@ -1,4 +1,4 @@
-//! A dump as JSON, by hand.
+//! A test with a dump as JSON, written by hand.
 
 use crate::{Calls, Messages, Settings};
 use giop_json_values::{Characters, Options};

@@ -13,7 +13,7 @@ noted old path word of_type rest first begins ends same = record {
   other = λ none. absurd (none of_type (record { rest = rest; begins = begins; ends = ends }));
 }
 
--- what holds of the octets with those that a call appends, once it did
+-- if a call appended octets and succeeded, what holds of all octets together holds
 pub appended : {T E : Type 0} (r : Result T E) (P : List ℕ → Type 0) (new whole first : List ℕ)
     → new ≡ (if is_ok r then whole else first) → P whole → OnOk r (P new)
 appended (Ok _) P new whole first e p = subst P (sym e) p

@@ -1,9 +1,9 @@
--- What is left out, by what follows the path of a TypeCode's parameters in that of a value.
+-- What is left out, by what follows in a value's path after the path of a TypeCode's parameters.
 use Rattle.std.proofs.Common.{◌≡◌, ◌≢◌, ℕ, Bool, false, List, [], ◌++◌, IsTrue, sym, ◌∙◌, ap}
 use Rattle.std.proofs.lemmas.List.{append_cancel_left}
 use Rattle.giop_json_values.specs.TypeCodes.{IsLeftOut, is_unwanted}
 
--- nothing is where the path doesn't begin with the other one
+-- if the value's path doesn't begin with the path of the parameters, the value isn't left out
 pub away : (has_types head : Bool) (parameters path : List ℕ)
     → ((rest : List ℕ) → path ≢ parameters ++ rest)
     → (IsTrue false → IsLeftOut has_types parameters path head)

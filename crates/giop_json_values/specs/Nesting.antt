@@ -9,7 +9,8 @@ is_list shapes.List = true
 is_list shapes.Object = false
 is_list shapes.Encapsulation = false
 
--- the end of each of them, the innermost first; they stand outermost first
+-- the ends of open objects and lists, the innermost first; in the list of these the outermost is
+-- first
 abbrev pub closers : List Shape → List Token
 closers [] = []
 closers (s ∷ ss) = closers ss ++ ((if is_list s then end_array else end_object) ∷ [])

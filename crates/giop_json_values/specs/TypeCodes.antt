@@ -1,6 +1,7 @@
--- Which lines of TypeCodes have no place in an object where not all that they have is asked for (docs/FORMATS.md, JSON;
--- meaning). It is told by the lines alone: a kind is an enum's value at PATH.kind whose word begins with `tk_`, and of all that
--- stands below PATH.parameters then, up to the next kind that is told, only the id and the name are.
+-- The lines of TypeCodes that have no place in an object if the user doesn't ask for all of them
+-- (docs/FORMATS.md, JSON; meaning). The lines alone decide it. The value of an enum at PATH.kind
+-- whose word begins with `tk_` is the kind of a TypeCode. From then on, until the next such kind,
+-- only the id and the name are written of all below PATH.parameters.
 use Rattle.std.specs.Prelude.{◌≡◌, ◌≢◌, ℕ, Bool, true, false, not, ◌&&◌, List, [], ◌∷◌, ◌++◌, codes}
 use Rattle.std.specs.Borrow.{Bor}
 use Rattle.std.specs.Str.{bytes_eq}
@@ -8,30 +9,32 @@ use Rattle.giop_lines.specs.declared.line.Value.{Value}
 use Rattle.giop_lines.specs.declared.line.Value.TheVariants.{Enum, Encapsulation, Order}
 use Rattle.giop_lines.specs.Paths.{is_border}
 
--- the word at a path is the kind of the TypeCode at another path
+-- the word at this path is the kind of the TypeCode at the path `of_type`
 pub record IsKind (path word of_type : List ℕ) : Type 0 where
   pub rest : List ℕ
   pub begins : word ≡ codes "tk_" ++ rest
   pub ends : path ≡ of_type ++ codes ".kind"
 
--- the path of the parameters of the last TypeCode, after the name of an enum's value at a path
+-- the path of the last TypeCode's parameters, after the name of an enum's value at a path
 pub record IsNoted (old path word new : List ℕ) : Type 0 where
   pub kind : (of_type : List ℕ) → IsKind path word of_type → new ≡ of_type ++ codes ".parameters"
   pub other : ((of_type : List ℕ) → IsKind path word of_type → ⊥) → new ≡ old
 
--- a line is one of those that an encapsulation begins with
+-- whether an encapsulation begins with this line
 abbrev pub is_head : Value → Bool
 is_head (Encapsulation size) = true
 is_head (Order order) = true
 is_head _ = false
 
--- of what follows the path of the parameters, all is left out but the id and the name, and the head of the encapsulation
+-- whether a value is left out, by what follows after the path of the parameters: all but the id,
+-- the name and the head of the encapsulation
 abbrev pub is_unwanted : List ℕ → Bool → Bool
 is_unwanted [] head = not head
 is_unwanted (b ∷ bs) head = is_border (b ∷ bs) && (not (bytes_eq (b ∷ bs) (codes ".id"))
     && not (bytes_eq (b ∷ bs) (codes ".name")))
 
--- a value at a path is left out, after a TypeCode whose parameters have a path; the empty path is that of none
+-- a value at this path is left out, if the parameters of the last TypeCode have this path; an empty
+-- path stands for no TypeCode
 pub record IsLeftOut (has_types : Bool) (parameters path : List ℕ) (head : Bool) : Type 0 where
   pub below : List ℕ
   pub short : has_types ≡ false
@@ -39,12 +42,13 @@ pub record IsLeftOut (has_types : Bool) (parameters path : List ℕ) (head : Boo
   pub along : path ≡ parameters ++ below
   pub unwanted : is_unwanted below head ≡ true
 
--- the path of the parameters of the last TypeCode, after a line that is told
+-- the path of the last TypeCode's parameters, after a line that is written
 pub record IsTold (old path : List ℕ) (value : Value) (new : List ℕ) : Type 0 where
   pub name : (word : Bor (List ℕ)) → value ≡ Enum word → IsNoted old path word.now new
   pub other : ((word : Bor (List ℕ)) → value ≢ Enum word) → new ≡ old
 
--- the same after any line: of one that is left out nothing is noted
+-- the path of the last TypeCode's parameters after any line: a line that is left out changes
+-- nothing
 pub record IsAfter (has_types : Bool) (old path : List ℕ) (value : Value) (new : List ℕ) : Type 0
   where
     pub left_out : IsLeftOut has_types old path (is_head value) → new ≡ old

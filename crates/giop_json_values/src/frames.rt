@@ -1,4 +1,4 @@
-//! The objects and lists that are open, by the paths that they stand at.
+//! The open objects and lists, by their paths.
 
 ghost use Rattle.std.specs.Prelude.{◌≡◌, ◌++◌, [], if◌then◌else◌, map, take, drop, OnOk};
 ghost use Rattle.giop_json_values.specs.Nesting.{is_list, closers};
@@ -7,13 +7,14 @@ use crate::text::{Text, shown_text};
 use giop_lines::number;
 use std::alloc::{AllocError, Global};
 
-/// How many parts a path has at most, with its root.
+/// The greatest number of parts in a path, with its root.
 const PARTS_MAX: usize = 25;
 
-/// How many objects and lists may be open before a path whose own are opened too: in all at most 127 then.
+/// The greatest number of open objects and lists before a path is entered. With those that the path itself opens there are
+/// at most 127.
 const OPEN_MAX: usize = 96;
 
-/// Where a value stands in the innermost open object or list.
+/// The place of a value in the innermost open object or list.
 #[derive(Clone, Copy)]
 pub(crate) enum Key<'a> {
     Name(&'a str),
@@ -21,7 +22,7 @@ pub(crate) enum Key<'a> {
 }
 
 impl<'a> Key<'a> {
-    /// A part of a path: a root, or with the dot or the brackets before and around it.
+    /// The key for a part of a path. The part is a root, or it has a dot before it or brackets around it.
     fn of(part: &'a [u8]) -> Key<'a> {
         match part {
             [b'[', digits @ .., b']'] => Key::Index(number(digits).unwrap_or(0)),
@@ -30,11 +31,11 @@ impl<'a> Key<'a> {
         }
     }
 
-    /// The value that an encapsulation holds.
+    /// The key for the value of an encapsulation.
     pub(crate) const VALUE: Key<'static> = Key::Name("@value");
 }
 
-/// What is open: a list, an object, or an encapsulation, whose value may be no object.
+/// What is open: a list, an object, or an encapsulation, whose value may be something other than an object.
 #[derive(Clone, Copy, PartialEq, Eq)]
 pub(crate) enum Shape {
     List,
@@ -45,12 +46,12 @@ pub(crate) enum Shape {
 /// An open object or list.
 #[derive(Clone, Copy, Drop)]
 struct Frame {
-    // Where its path ends in that of the innermost one.
+    // The length of its path, in octets. The path is the front of the innermost one's path.
     end: usize,
     shape: Shape,
-    // Whether it is the value of the encapsulation around it, so that it has the same path.
+    // Whether it is the value of the encapsulation around it. It has the same path then.
     is_value: bool,
-    // Whether the rest of an encapsulation was written, after which nothing of it comes.
+    // Whether the rest of the encapsulation was written. Nothing of it comes after its rest.
     has_rest: bool,
     // The index of the next element of a list.
     next: u64,
@@ -67,7 +68,7 @@ impl Frame {
         self.shape == Shape::Encapsulation && !self.has_rest
     }
 
-    /// Whether a path that goes along the frame's own may go on within it.
+    /// Whether a path may go on within this frame, if it begins with the frame's path.
     fn fits(&self, path: &[u8]) -> bool {
         match path.get(self.end) {
             None => true,
@@ -78,7 +79,7 @@ impl Frame {
     }
 }
 
-/// The open objects and lists below that of the message, outermost first.
+/// The open objects and lists within the object of the message, the outermost first.
 #[derive(Drop)]
 pub(crate) struct Frames {
     // The path of the innermost one.
@@ -86,7 +87,7 @@ pub(crate) struct Frames {
     open: Vec<Frame>,
     // Whether elements are missing.
     lacks: bool,
-    // Whether all of them were closed at the end of a part: those on the way to the next value are opened again.
+    // Whether all of them were closed at the end of a part. Those on the way to the next value are opened again then.
     is_closed: bool,
 }
 
@@ -100,7 +101,7 @@ impl Frames {
         }
     }
 
-    /// Nothing is open, and nothing is missing.
+    /// Forgets all: nothing is open, and nothing is missing.
     pub(crate) fn clear(&mut self) {
         self.path.clear();
         self.open.clear();
@@ -108,7 +109,7 @@ impl Frames {
         self.is_closed = false;
     }
 
-    /// Closes all at the end of a part.
+    /// Closes all of them at the end of a part.
     pub(crate) fn close(&mut self, text: &mut Text) -> Result<(), AllocError>
         ensures { OnOk result (text.new.tokens ≡ text.old.tokens ++ (if self.old.is_closed then []
             else closers (map (λ f. f.shape) self.old.open.items))) }
@@ -120,7 +121,7 @@ impl Frames {
         Ok(())
     }
 
-    /// Opens again, after the end of a part, what is on the way to a path.
+    /// After the end of a part, opens those again that are on the way to a path.
     #[inline]
     pub(crate) fn resume(&mut self, text: &mut Text, path: &[u8]) -> Result<(), AllocError> {
         if self.is_closed {
@@ -164,7 +165,7 @@ impl Frames {
         self.lacks = lacks;
     }
 
-    /// How many of the open ones a path goes along, and how many octets of it.
+    /// How many of the open ones are on the way to a path, and how many octets of the path they have.
     fn reached(&self, path: &[u8]) -> (usize, usize) {
         let common = common_front(&self.path, path);
         let mut at = 0;
@@ -177,7 +178,7 @@ impl Frames {
         (self.open.len(), at)
     }
 
-    /// Closes all but the outermost so many.
+    /// Closes all but the outermost `count` of them.
     pub(crate) fn close_to(&mut self, text: &mut Text, count: usize) -> Result<(), AllocError>
         ensures closed { OnOk result (text.new.tokens ≡ text.old.tokens
             ++ closers (map (λ f. f.shape) (drop count self.old.open.items))) }
@@ -192,7 +193,7 @@ impl Frames {
         Ok(())
     }
 
-    /// What comes before a value: its name, unless it is an element.
+    /// Writes what comes before a value: its name. An element has none.
     #[inline]
     pub(crate) fn key(&mut self, text: &mut Text, key: Key<'_>) -> Result<(), AllocError> {
         if let Some(frame) = self.open.last_mut()
@@ -210,7 +211,7 @@ impl Frames {
         }
     }
 
-    /// Opens what stands at a path, which goes on from that of the innermost one.
+    /// Opens an object or list at a path. The path begins with the path of the innermost open one.
     pub(crate) fn open(
         &mut self,
         text: &mut Text,
@@ -234,7 +235,7 @@ impl Frames {
         Ok(())
     }
 
-    /// Closes what is over and opens what is new before the value of a path.
+    /// Before a value at a path comes: closes what the path isn't in, and opens what is new on the way.
     #[inline]
     pub(crate) fn place<'p>(
         &mut self,
@@ -258,7 +259,8 @@ impl Frames {
         self.open_way(text, path, at)
     }
 
-    /// The place of a value at the path of an open one: within an encapsulation, or after what was told of it.
+    /// The key of a value that has the same path as an open object: it is the value of an encapsulation, or comes after
+    /// what was written of the path before.
     fn place_again<'p>(
         &mut self,
         text: &mut Text,
@@ -280,7 +282,8 @@ impl Frames {
         Ok(last_key(path))
     }
 
-    /// How many are open around the value whose innermost part is the frame of this number, from 1.
+    /// How many objects and lists are open around the value that the frame of this number, from 1, is the innermost part
+    /// of.
     fn around(&self, count: usize) -> usize {
         let mut outer = count;
         for _ in 0..count {
@@ -295,7 +298,7 @@ impl Frames {
         outer
     }
 
-    /// Opens what stands on the way from an octet of a path to its last part.
+    /// Opens the objects and lists on the way from an octet of a path to the path's last part.
     fn open_way<'p>(
         &mut self,
         text: &mut Text,
@@ -317,8 +320,8 @@ impl Frames {
         Ok(last_key(path))
     }
 
-    /// Opens the encapsulation whose rest comes: that in which the rest goes on in a part, else the innermost open one at its
-    /// path, or one that is missing.
+    /// Opens the encapsulation whose rest comes. If the rest goes on in a new part, it is the one where it began; else it
+    /// is the innermost open one at the path, or one that is missing.
     pub(crate) fn place_rest(
         &mut self,
         text: &mut Text,
@@ -346,7 +349,8 @@ impl Frames {
         self.key(text, Key::Name("@rest"))
     }
 
-    /// The number, from 1, of the innermost encapsulation without a rest of those that share the path of this frame; else 0.
+    /// Among the encapsulations that share the path of this frame and have no rest yet, the number of the innermost one,
+    /// from 1; 0 if there is none.
     fn encapsulation(&self, count: usize) -> usize {
         let mut found = count;
         for _ in 0..count {
@@ -367,7 +371,7 @@ impl Frames {
         0
     }
 
-    /// Opens the body of a message around a value that is no struct.
+    /// Opens the body of a message around a value that isn't a struct.
     pub(crate) fn open_body(&mut self, text: &mut Text) -> Result<(), AllocError> {
         self.resume(text, b"body")?;
         let is_open = self.path.starts_with(b"body") && !self.open.is_empty();
@@ -379,7 +383,7 @@ impl Frames {
     }
 }
 
-/// Closes some, the last first.
+/// Closes these frames, the last one first.
 fn close_all(text: &mut Text, frames: &[Frame]) -> Result<(), AllocError>
     ensures { OnOk result (text.new.tokens ≡ text.old.tokens
         ++ closers (map (λ f. f.shape) frames.now)) }
@@ -390,7 +394,7 @@ fn close_all(text: &mut Text, frames: &[Frame]) -> Result<(), AllocError>
     Ok(())
 }
 
-/// How many of the first octets two paths share.
+/// How many octets two paths have in common at their front.
 fn common_front(left: &[u8], right: &[u8]) -> usize {
     if right.starts_with(left) {
         return left.len();
@@ -403,7 +407,7 @@ fn common_front(left: &[u8], right: &[u8]) -> usize {
     left.len().min(right.len())
 }
 
-/// Where the part of a path ends that begins at an octet.
+/// The index at which a part of a path ends, if the part begins at this index.
 fn part_end(path: &[u8], start: usize) -> usize {
     let first = start.saturating_add(1);
     let behind = path.get(first..).unwrap_or_default();

@@ -1,10 +1,10 @@
-//! Members of an object, whole.
+//! Whole members of an object.
 
 use crate::text::Text;
 use std::alloc::AllocError;
 
 impl Text {
-    /// A member that is text, if it is known: not empty.
+    /// Writes a member that is text, if the text is known: it isn't empty.
     pub fn known(&mut self, name: &str, octets: &[u8]) -> Result<(), AllocError> {
         if octets.is_empty() {
             return Ok(());
@@ -13,7 +13,7 @@ impl Text {
         self.octets(octets)
     }
 
-    /// A member that is text; null where it isn't known.
+    /// Writes a member that is text, or null if the text isn't known.
     pub fn known_or_null(&mut self, name: &str, octets: &[u8]) -> Result<(), AllocError> {
         self.key(name)?;
         if octets.is_empty() {
@@ -22,13 +22,13 @@ impl Text {
         self.octets(octets)
     }
 
-    /// A member that is a number.
+    /// Writes a member that is a number.
     pub fn total(&mut self, name: &str, number: u64) -> Result<(), AllocError> {
         self.key(name)?;
         self.unsigned(number)
     }
 
-    /// A member that is a number from 1, if it is known: not 0.
+    /// Writes a member that is a number from 1, if the number is known: it isn't 0.
     pub fn ordinal(&mut self, name: &str, number: u64) -> Result<(), AllocError> {
         if number == 0 {
             return Ok(());
@@ -36,7 +36,7 @@ impl Text {
         self.total(name, number)
     }
 
-    /// A member that is a number; null where there is none.
+    /// Writes a member that is a number, or null if there is none.
     pub fn total_or_null(&mut self, name: &str, number: Option<u64>) -> Result<(), AllocError> {
         self.key(name)?;
         match number {
@@ -45,7 +45,7 @@ impl Text {
         }
     }
 
-    /// A member that is true, if it is.
+    /// Writes a member that is true, if it is true.
     pub fn flag(&mut self, name: &str, is_true: bool) -> Result<(), AllocError> {
         if !is_true {
             return Ok(());

@@ -4,10 +4,10 @@ ghost use Rattle.std.specs.Prelude.{◌≡◌};
 
 use giop_lines::{Content, Piece};
 
-/// What a piece is of.
+/// What a piece belongs to.
 #[derive(Clone, Copy, Debug, PartialEq, Eq)]
 pub(crate) enum Form {
-    /// A string: its octets as text.
+    /// A string. Its octets are text.
     Text,
     /// Octets, a wide string or a wide char, in hexadecimal.
     Hex,
@@ -29,7 +29,7 @@ pub(crate) struct Part<'a> {
 }
 
 impl<'a> Part<'a> {
-    /// The piece of a value.
+    /// Makes the piece that a value is.
     pub(crate) fn of(path: &'a [u8], piece: Piece<'a>) -> Part<'a>
         ensures { result.path.now ≡ path.now }
     {
@@ -48,7 +48,7 @@ impl<'a> Part<'a> {
         }
     }
 
-    /// A piece of a message's rest.
+    /// Makes a piece of what a message has after its body.
     pub(crate) fn of_rest(offset: u64, octets: &'a [u8]) -> Part<'a> {
         Part {
             path: b"rest",
@@ -60,11 +60,11 @@ impl<'a> Part<'a> {
         }
     }
 
-    /// Where the next piece of the content begins.
+    /// The offset at which the next piece of the content begins.
     pub(crate) fn end(&self) -> u64 {
         let mut count: u64 = 0;
         if self.form == Form::Text {
-            // An escape has four letters.
+            // An escape has four letters, but is one octet.
             count = self.octets.len() as u64;
             for letter in self.octets {
                 if *letter == b'\\' {

@@ -1,5 +1,5 @@
-//! The octets of a text as JSON has them: plain ones of ASCII as they are, others as `\xHH` or as the characters that they are
-//! by the user's choice.
+//! The octets of a text as JSON has them. Printable ASCII stays as it is; other octets are `\xHH`, or the characters that
+//! they are, as the user chose.
 
 use crate::options::Characters;
 use crate::text::{Text, shown_size, shown_text};
@@ -8,7 +8,7 @@ use giop_lines::first_octet;
 use std::alloc::{AllocError, Global};
 use unicode::properties::GeneralCategory;
 
-/// The most octets of a character of UTF-8.
+/// The greatest number of octets of a character in UTF-8.
 const CHARACTER_MAX: usize = 4;
 
 /// A text that comes in pieces.
@@ -16,7 +16,7 @@ const CHARACTER_MAX: usize = 4;
 pub(crate) struct Letters {
     text: String,
     size: u64,
-    // The first octets of a character of UTF-8.
+    // The first octets of a character in UTF-8 that isn't whole yet.
     begun: ArrayVec<u8, 4>,
 }
 
@@ -29,12 +29,12 @@ impl Letters {
         }
     }
 
-    /// The text so far.
+    /// The text until now.
     pub(crate) fn text(&self) -> &str {
         &self.text
     }
 
-    /// How many octets it has between the quotes of JSON in ASCII.
+    /// How many octets the text has between the quotes of JSON in ASCII.
     pub(crate) fn size(&self) -> u64 {
         self.size
     }
@@ -45,13 +45,13 @@ impl Letters {
         self.begun.clear();
     }
 
-    /// Adds what stands for itself.
+    /// Adds text that stands for itself.
     pub(crate) fn add_plain(&mut self, text: &str) -> Result<(), AllocError> {
         self.size = self.size.saturating_add(shown_size(text.as_bytes()) as u64);
         self.text.push_str(text)
     }
 
-    /// Adds a piece of the text of a line.
+    /// Adds a piece of a text as its line has it.
     pub(crate) fn add(&mut self, piece: &[u8], characters: Characters) -> Result<(), AllocError> {
         if characters == Characters::Escapes {
             return self.add_plain(shown_text(piece));
@@ -81,7 +81,7 @@ impl Letters {
         }
     }
 
-    /// Adds the characters that have begun as far as they are whole.
+    /// Adds those of the characters that have begun that are whole.
     fn add_begun(&mut self) -> Result<(), AllocError> {
         for _ in 0..CHARACTER_MAX {
             let mut octets = [0; CHARACTER_MAX];
@@ -102,7 +102,7 @@ impl Letters {
         Ok(())
     }
 
-    /// Adds the first octet that has begun, which no character begins with.
+    /// Adds the first of the octets that have begun, because no character begins with it.
     fn add_first(&mut self, octet: u8) -> Result<(), AllocError> {
         if !self.begun.is_empty() {
             self.begun.remove(0);
@@ -110,7 +110,7 @@ impl Letters {
         self.add_escaped(octet)
     }
 
-    /// Adds a character, or its octets where it isn't one that is shown.
+    /// Adds a character, or its octets if it isn't one that is shown.
     fn add_character(&mut self, character: char, octets: &[u8]) -> Result<(), AllocError> {
         if is_shown(character) {
             let mut room = [0; CHARACTER_MAX];
@@ -122,7 +122,7 @@ impl Letters {
         Ok(())
     }
 
-    /// Adds an octet as a line has it.
+    /// Adds an octet in the way that a line has it.
     fn add_escaped(&mut self, octet: u8) -> Result<(), AllocError> {
         if is_plain(octet) {
             let room = [octet];
@@ -138,7 +138,7 @@ impl Letters {
         self.add_plain(shown_text(&escape))
     }
 
-    /// No more comes: what has begun of a character is none.
+    /// Ends the text. If a character has begun, it isn't complete, so its octets are shown one by one.
     pub(crate) fn end(&mut self) -> Result<(), AllocError> {
         for _ in 0..CHARACTER_MAX {
             let Some(octet) = self.begun.as_slice().first().copied() else {
@@ -150,7 +150,7 @@ impl Letters {
     }
 }
 
-/// Writes the text of a line as text.
+/// Writes the text of a line as a text of JSON.
 pub fn put_shown(
     alloc: Global,
     text: &mut Text,
@@ -168,7 +168,8 @@ fn is_plain(octet: u8) -> bool {
     octet >= 0x20 && octet <= 0x7e && octet != b'"' && octet != b'\\'
 }
 
-/// Whether a character outside ASCII is shown: it is no control, format, private or unknown one, and separates no lines.
+/// Whether a character outside ASCII is shown: it isn't a control, format, private or unassigned one, and doesn't separate
+/// lines.
 fn is_shown(character: char) -> bool {
     if character < '\u{a0}' {
         return character.is_ascii() && is_plain(character as u8);

@@ -1,4 +1,4 @@
-//! Values as JSON, by hand.
+//! Tests with values as JSON, written by hand.
 
 use crate::{Characters, Options, Values};
 use giop_lines::{Said, Value, read};
@@ -25,7 +25,7 @@ fn values_stand_at_their_paths(rt: HostRuntime) -> Result<(), AllocError> {
     Ok(())
 }
 
-// An any of a struct of one short, whose id is in two lines.
+// An any with a struct of one short. The id of its type is in two lines.
 const ANY: &str = "\
 m1 body.v.type.kind enum tk_struct
 m1 body.v.type.parameters encapsulation 68

@@ -1,4 +1,4 @@
-//! JSON as it grows, a token at a time, and how many octets it has.
+//! JSON that is written token by token, and how many octets it has.
 
 ghost use Rattle.std.specs.Prelude.{◌≡◌, ◌++◌, [], decimal, if◌then◌else◌};
 ghost use Rattle.std.specs.Fmt.{signed_decimal};
@@ -12,7 +12,7 @@ use ryu::Float;
 use std::alloc::{AllocError, Global};
 use std::marker::Model;
 
-/// JSON that is written a token at a time. The caller nests the tokens.
+/// JSON that is written token by token. The caller nests the tokens.
 #[derive(Drop)]
 pub struct Text {
     writer: Writer,
@@ -33,7 +33,7 @@ impl Model for Text {
 }
 
 impl Text {
-    /// Nothing, written into room that was used before.
+    /// Makes a text with nothing written, in a room that may have been used before.
     pub fn new(room: Vec<u8>) -> Text
         ensures before { result.before ≡ [] }
         ensures tokens { result.tokens ≡ [] }
@@ -47,12 +47,12 @@ impl Text {
         }
     }
 
-    /// How many octets it has, each character outside ASCII as its escape.
+    /// How many octets the text has, if each character outside ASCII is written as its escape.
     pub fn size(&self) -> u64 {
         self.size
     }
 
-    /// What was written.
+    /// Gives what was written.
     pub fn into_octets(self) -> Vec<u8>
         ensures { result.items ≡ self.before ++ print self.tokens }
     {
@@ -60,7 +60,7 @@ impl Text {
         writer.into_inner()
     }
 
-    /// Counts what is written next.
+    /// Counts the octets that are written next.
     fn count(&mut self, size: usize)
         ensures { self.new ≡ self.old }
     {
@@ -71,7 +71,7 @@ impl Text {
         self.is_after_value = true;
     }
 
-    /// The name of a member, whose value comes next.
+    /// Writes the name of a member. Its value comes next.
     #[inline]
     pub fn key(&mut self, name: &str) -> Result<(), AllocError>
         ensures { Writes result self.old self.new (key name.now) }
@@ -81,7 +81,7 @@ impl Text {
         self.writer.key(name)
     }
 
-    /// The beginning of a list or an object.
+    /// Writes the beginning of a list or an object.
     pub fn open(&mut self, is_list: bool) -> Result<(), AllocError>
         ensures { Writes result self.old self.new
             (if is_list then begin_array else begin_object) }
@@ -95,7 +95,7 @@ impl Text {
         }
     }
 
-    /// The end of a list or an object.
+    /// Writes the end of a list or an object.
     pub fn close(&mut self, is_list: bool) -> Result<(), AllocError>
         ensures { Writes result self.old self.new
             (if is_list then end_array else end_object) }
@@ -109,7 +109,7 @@ impl Text {
         }
     }
 
-    /// A text.
+    /// Writes a text.
     pub fn string(&mut self, text: &str) -> Result<(), AllocError>
         ensures { Writes result self.old self.new (string text.now) }
     {
@@ -117,14 +117,14 @@ impl Text {
         self.writer.string(text)
     }
 
-    /// The text of some octets; those that aren't UTF-8 are none.
+    /// Writes the text that octets are. If they aren't UTF-8, it is empty.
     pub fn octets(&mut self, octets: &[u8]) -> Result<(), AllocError>
         ensures { IsUtf8 octets.now → Writes result self.old self.new (string octets.now) }
     {
         self.string(shown_text(octets))
     }
 
-    /// A number by its digits.
+    /// Writes a number by its digits.
     fn digits(&mut self, digits: &str) -> Result<(), AllocError>
         ensures { IsNumber digits.now → Writes result self.old self.new (number digits.now) }
     {
@@ -135,7 +135,7 @@ impl Text {
         self.writer.number(digits)
     }
 
-    /// A number that is spelled; `null` where the octets are no number of JSON.
+    /// Writes a number that is already text. If the octets aren't a number of JSON, writes `null`.
     pub fn number(&mut self, octets: &[u8]) -> Result<(), AllocError>
         ensures { IsUtf8 octets.now → IsNumber octets.now
             → Writes result self.old self.new (number octets.now) }
@@ -143,7 +143,7 @@ impl Text {
         self.digits(shown_text(octets))
     }
 
-    /// A number from 0.
+    /// Writes a number that isn't below 0.
     pub fn unsigned(&mut self, value: u64) -> Result<(), AllocError>
         ensures { Writes result self.old self.new (number (decimal value)) }
     {
@@ -151,7 +151,7 @@ impl Text {
         self.writer.u64(value)
     }
 
-    /// A number.
+    /// Writes a number.
     pub fn signed(&mut self, value: i64) -> Result<(), AllocError>
         ensures { Writes result self.old self.new (number (signed_decimal value)) }
     {
@@ -159,13 +159,14 @@ impl Text {
         self.writer.i64(value)
     }
 
-    /// A number with a point or an exponent, which reads back as it; `null` where it isn't finite, as its text is none of JSON.
+    /// Writes a number with a point or an exponent, in a form that is read back as the same number. If it isn't finite,
+    /// writes `null`, because JSON has no text for it.
     pub fn float<F: Float>(&mut self, value: F) -> Result<(), AllocError> {
         let mut buffer = ryu::Buffer::new();
         self.digits(buffer.format(value))
     }
 
-    /// A truth value.
+    /// Writes a truth value.
     pub fn boolean(&mut self, is_true: bool) -> Result<(), AllocError>
         ensures { Writes result self.old self.new (boolean is_true) }
     {
@@ -173,7 +174,7 @@ impl Text {
         self.writer.boolean(is_true)
     }
 
-    /// Nothing that JSON has a number for.
+    /// Writes `null`.
     pub fn null(&mut self) -> Result<(), AllocError>
         ensures { Writes result self.old self.new null }
     {
@@ -194,7 +195,7 @@ fn digits_of(number: u64) -> usize {
     }
 }
 
-/// Whether each octet of a text is one of ASCII that JSON has no escape for.
+/// Whether all octets of a text are ASCII that needs no escape in JSON.
 fn is_short(text: &[u8]) -> bool {
     let mut is_short = true;
     for octet in text {
@@ -221,7 +222,7 @@ pub(crate) fn shown_size(text: &[u8]) -> usize {
     size
 }
 
-/// Octets as the text that they are in UTF-8; none where they are no such text.
+/// Octets as the text that they are in UTF-8. If they aren't UTF-8, it is empty.
 pub fn shown_text(octets: &[u8]) -> &str
     ensures { IsUtf8 octets.now → result.now ≡ octets.now }
 {

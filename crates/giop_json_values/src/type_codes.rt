@@ -1,4 +1,4 @@
-//! The TypeCode that came last, by which lines are left out (docs/FORMATS.md, JSON).
+//! The last TypeCode. It decides which lines are left out (docs/FORMATS.md, JSON).
 
 ghost use Rattle.std.specs.Prelude.{◌≡◌, ◌↔◌, [], IsTrue, OnOk};
 ghost use Rattle.giop_json_values.specs.TypeCodes.{IsNoted, IsLeftOut, is_unwanted};
@@ -9,12 +9,12 @@ use std::alloc::{AllocError, Global};
 /// The TypeCode whose kind came last.
 #[derive(Drop)]
 pub(crate) struct LastType {
-    // The path of its parameters; empty where none came.
+    // The path of its parameters. It is empty if no TypeCode came.
     parameters: Vec<u8>,
 }
 
 impl LastType {
-    /// None came.
+    /// Makes one for when no TypeCode came.
     pub(crate) fn new(alloc: Global) -> LastType
         ensures { result.parameters.items ≡ [] }
     {
@@ -23,14 +23,14 @@ impl LastType {
         }
     }
 
-    /// Forgets it, for the next message.
+    /// Forgets the TypeCode, before the next message.
     pub(crate) fn forget(&mut self)
         ensures { self.new.parameters.items ≡ [] }
     {
         self.parameters.clear();
     }
 
-    /// Takes the name of an enum's value at a path, which may be the kind of a TypeCode.
+    /// Takes the name of an enum's value at a path. It may be the kind of a TypeCode.
     pub(crate) fn note(&mut self, path: &[u8], word: &[u8]) -> Result<(), AllocError>
         ensures { OnOk result (IsNoted self.old.parameters.items path.now word.now
             self.new.parameters.items) }
@@ -46,8 +46,8 @@ impl LastType {
         self.parameters.extend_from_slice(b".parameters")
     }
 
-    /// Whether a value at a path is one of its parameters that are written by choice alone; `is_head` says whether an
-    /// encapsulation begins with it.
+    /// Whether a value at a path is a parameter of the last TypeCode that is written only if the user chose it. `is_head`
+    /// tells whether an encapsulation begins with the value.
     pub(crate) fn leaves_out(&self, options: Options, path: &[u8], is_head: bool) -> bool
         ensures { IsTrue result
             ↔ IsLeftOut options.has_types self.now.parameters.items path.now is_head }
@@ -62,7 +62,7 @@ impl LastType {
     }
 }
 
-/// Whether all is left out that has this after the path of the parameters.
+/// Whether a value is left out whose path goes on like this after the path of the parameters.
 fn is_unwanted(below: &[u8], is_head: bool) -> bool
     ensures { result ≡ is_unwanted below.now is_head }
 {

@@ -15,7 +15,7 @@ use std::alloc::{AllocError, Global};
 use std::mem;
 use std::num::{f32_from_bits_with_nan, f64_from_bits_with_nan};
 
-/// The octets of the room of a text that is kept for the next one.
+/// The greatest room of a text, in octets, that is kept for the next text.
 const ROOM_MAX: usize = 65_536;
 
 /// The content whose next piece is due.
@@ -25,7 +25,7 @@ struct Due {
     offset: u64,
 }
 
-/// The values of a message, as text that grows. Any lines in any order give JSON.
+/// The values of a message, as a text that grows. Lines in any order give JSON.
 #[derive(Drop)]
 pub struct Values {
     text: Text,
@@ -38,7 +38,7 @@ pub struct Values {
 }
 
 impl Values {
-    /// No values.
+    /// Makes a text without values.
     pub fn new(alloc: Global) -> Values
         ensures { result.last_type.parameters.items ≡ [] }
     {
@@ -53,7 +53,7 @@ impl Values {
         }
     }
 
-    /// How many octets the text has so far.
+    /// How many octets the text has until now.
     pub fn size(&self) -> u64 {
         let size = self.text.size();
         match self.due {
@@ -62,7 +62,7 @@ impl Values {
         }
     }
 
-    /// Whether lines are missing: an element, or the beginning of a content.
+    /// Whether lines are missing: those of an element, or of the beginning of a content.
     pub fn lacks(&self) -> bool {
         self.frames.lacks()
     }
@@ -72,14 +72,14 @@ impl Values {
         self.frames.set_lacks(lacks);
     }
 
-    /// The text, in which all but the object of the message is closed.
+    /// Closes all but the object of the message, and gives the text.
     pub fn close(&mut self) -> Result<&mut Text, AllocError> {
         self.end_content()?;
         self.frames.close(&mut self.text)?;
         Ok(&mut self.text)
     }
 
-    /// Takes the text that was written, and goes on with none.
+    /// Takes the text that was written, and goes on with an empty one.
     pub fn take_text(&mut self, alloc: Global) -> Vec<u8>
         ensures told { result.items ≡ self.old.text.before ++ print self.old.text.tokens }
         ensures left { self.new.text.tokens ≡ [] }
@@ -90,14 +90,14 @@ impl Values {
         text.into_octets()
     }
 
-    /// Gives back room for text.
+    /// Gives back the room of a text.
     pub fn give_room(&mut self, room: Vec<u8>) {
         if room.capacity() <= ROOM_MAX && self.text.size() == 0 {
             self.text = Text::new(room);
         }
     }
 
-    /// Forgets what it knows of a message, for the next one.
+    /// Forgets what is known of a message, before the next one.
     pub fn forget(&mut self)
         ensures { self.new.last_type.parameters.items ≡ [] }
     {
@@ -105,7 +105,7 @@ impl Values {
         self.frames.clear();
     }
 
-    /// Whether a line of a value is left out: one of those that a TypeCode's parameters have by choice alone.
+    /// Whether a line of a value is left out: it is a parameter of a TypeCode that is written only if the user chose it.
     #[inline]
     pub fn leaves_out(&self, options: Options, path: &[u8], value: Value<'_>) -> bool
         ensures { IsTrue result ↔ IsLeftOut options.has_types
@@ -232,7 +232,7 @@ impl Values {
         self.add(options, part)
     }
 
-    /// Adds a piece of a content; where no more of it is due, the content ends.
+    /// Adds a piece of a content. If it is the last piece, ends the content.
     fn add(&mut self, options: Options, part: Part<'_>) -> Result<(), AllocError>
         ensures more { IsTrue part.entry.more → OnOk result (IsSome self.new.due) }
         ensures open { IsTrue part.entry.more → self.new.text ≡ self.old.text }
@@ -270,7 +270,7 @@ impl Values {
         }
     }
 
-    /// What comes before the text of a content.
+    /// Writes what comes before the text of a content.
     fn begin(&mut self, part: Part<'_>) -> Result<(), AllocError>
         ensures { self.new.last_type ≡ self.old.last_type }
     {
@@ -305,7 +305,7 @@ impl Values {
         self.frames.key(&mut self.text, key)
     }
 
-    /// Ends the content whose pieces came, where more of them were due, too.
+    /// Ends the content whose pieces came, even if more pieces were due.
     #[inline]
     fn end_content(&mut self) -> Result<(), AllocError>
         ensures none { OnOk result (self.new.due ≡ None) }
@@ -323,14 +323,14 @@ impl Values {
     }
 }
 
-/// Whether a value is what an encapsulation begins with.
+/// Whether an encapsulation begins with this value.
 fn is_head(value: Value<'_>) -> bool
     ensures { result ≡ is_head value.entry }
 {
     matches!(value, Value::Encapsulation(_) | Value::Order(_))
 }
 
-/// Writes a value that is one number, truth value or name.
+/// Writes a value that is a single number, truth value or name.
 fn put_scalar(text: &mut Text, options: Options, value: Value<'_>) -> Result<(), AllocError> {
     match value {
         Value::Octet(number) => text.unsigned(u64::from(number)),

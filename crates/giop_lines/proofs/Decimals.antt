@@ -22,7 +22,7 @@ AllDigits-at [] i h lt = absurd (omega arith)
 AllDigits-at (d ∷ ds) zero h lt = h.0
 AllDigits-at (d ∷ ds) (suc i) h lt = AllDigits-at ds i h.1 (omega arith)
 
--- what the digits of a number below 2 ^ 64 are
+-- the digits of a number below 2^64
 pub record IsWritten (ds : List ℕ) (n : ℕ) : Type 0 where
   pub some : 0 < length ds
   pub digits : AllDigits 10 ds
@@ -46,7 +46,7 @@ pub written_is : (ds : List ℕ) (n : ℕ) → n < 2 ^ 64 → IsWritten ds n →
 written_is ds n lt w = sym (decimal-digits_value own ds w.digits w.some w.leading
     (omega (arith, w.value))) ∙ ap decimal w.value
 
--- at most k digits
+-- a number below 10^k has at most k digits
 pub is_short : (k : ℕ) (ds : List ℕ) (n : ℕ) → 0 < k → n < 10 ^ k → n < 2 ^ 64
     → ds ≡ decimal n → length ds ≤ k
 is_short k ds n pos small lt e = omega (arith, ap length e, length-decimal-le k n pos small lt)
@@ -57,12 +57,12 @@ digit_is b low high = omega (arith, digit_value_digit b (low, high))
 pub is_digit_octet : (b : ℕ) → digit_value b < 10 → (48 ≤ b) × (b ≤ 57)
 is_digit_octet b h = let k = digit_from_value b h in (omega arith, omega arith)
 
--- a text that is the spelling of no number below a limit
+-- if a text is no number below a limit in decimal, there is none to be read
 pub not_below : (limit : ℕ) (ds : List ℕ) (r : Option ℕ) → r ≡ None
     → ((n : ℕ) → n < limit → ds ≡ decimal n → ⊥) → IsNumberBelow limit ds r
 not_below limit ds r e h = subst (λ (o : Option ℕ). IsNumberBelow limit ds o) (sym e) h
 
--- the digits of a number below a limit
+-- digits are those of the number that is read, if it is below the limit
 pub is_number : {E : Type 0} (limit : ℕ) → limit ≤ 2 ^ 64 → (ds : List ℕ) (n : ℕ) (v : Result ℕ E)
     → IsWritten ds n → OkIff v (n < limit) n → IsNumberBelow limit ds (result_ok v)
 is_number limit le ds n (Ok m) w h =
@@ -74,7 +74,7 @@ pub is_some_length : (k : ℕ) → false ≡ eqb k 0 → 0 < k
 is_some_length zero e = absurd cc
 is_some_length (suc k) e = omega arith
 
--- digits are those of one number
+-- digits are those of only one number
 pub same_number : (ds : List ℕ) (m n : ℕ) → m < 2 ^ 64 → n < 2 ^ 64 → ds ≡ decimal m
     → ds ≡ decimal n → m ≡ n
 same_number ds m n lm ln em en = sym (is_written ds m lm em).value ∙ (is_written ds n ln en).value

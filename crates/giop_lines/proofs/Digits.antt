@@ -8,7 +8,7 @@ use Rattle.std.specs.Borrow.{Bor}
 use Rattle.giop_print.specs.Text.{hex_digit, hex_octet, hex_number, is_plain, escaped_octet}
 use Rattle.giop_lines.specs.Texts.{IsFirstOctet, IsEscaped}
 
--- a test that holds below a number
+-- whether a test holds for all numbers below one
 holds : (ℕ → Bool) → ℕ → Bool
 holds p zero = true
 holds p (suc n) = p n && holds p n
@@ -53,7 +53,7 @@ same_digit a b la lb e =
       ]
     ]
 
--- the octet of an escape doesn't stand for itself
+-- the octet of an escape isn't one that stands for itself
 pub escape_plain : (ds : List ℕ) (x : ℕ) (rest : List ℕ) → ds ≡ hex_octet x ++ rest → x < 256
     → true ≡ is_plain x → (y : ℕ) (next : List ℕ) → y < 256 → is_plain y ≡ false
     → ds ≡ hex_octet y ++ next → ⊥

@@ -1,4 +1,4 @@
--- How far a text was gone through: what was read of it, and what is left.
+-- How far a text was read: what was read of it, and what is left.
 use Rattle.std.proofs.Common.{◌≡◌, ℕ, ◌+◌, ◌-◌, ◌≤◌, ◌<◌, true, List, [], ◌∷◌, ◌++◌, length, get_or, take, drop, take_all, append_assoc, append-nil, length-append, flat_map, refl, sym, ap, subst, ◌∙◌, arith}
 use Rattle.std.specs.Prelude.{All, ◌==◌}
 use Rattle.std.proofs.lemmas.Bool.{eqb-true}
@@ -54,7 +54,7 @@ text_gone most n text rest g le e =
 pub is_none : (n : ℕ) → (n == 0) ≡ true → n ≡ 0
 is_none n e = eqb-true n 0 e
 
--- the same of a path after its root
+-- the same for a path after its root
 pub record PathGone (path rest : List ℕ) (n : ℕ) : Type 0 where
   pub root : List ℕ
   pub behind : List ℕ
@@ -83,7 +83,7 @@ path_more path rest next n part g is e =
       gone = gone_more IsInner part_text g.behind rest next n part g.gone is e;
     }
 
--- what stands before the rest is a path
+-- what comes before the rest is a path
 pub path_front : (text rest : List ℕ) (n : ℕ) → PathGone text rest n → n ≤ 24
     → (path : List ℕ) × IsPath path × (text ≡ path ++ rest)
 path_front text rest n g few = (

@@ -1,4 +1,4 @@
--- Texts of which each octet passes a test.
+-- Texts in which each octet passes a test.
 use Rattle.std.proofs.Common.{◌≡◌, ℕ, zero, suc, ◌+◌, ◌-◌, ◌*◌, ◌/◌, ◌%◌, ◌<◌, ◌≤◌, ◌⊎◌, inl, inr, Bool, true, false, cond, ◌&&◌, ◌||◌, List, [], ◌∷◌, ◌++◌, length, take, flat_map, leb-true, ltb-false, refl, sym, ap, ap₂, subst, ◌∙◌, arith}
 use Rattle.std.specs.Prelude.{All, nat_le, nat_lt, not, ◌==◌, if◌then◌else◌}
 use Rattle.std.specs.List.{list_all, prefix_len}
@@ -16,7 +16,7 @@ either : (x y : Bool) → (x || y) ≡ true → (x ≡ true) ⊎ (y ≡ true)
 either true y e = inl refl
 either false y e = inr e
 
--- so is each of the first that do
+-- each octet of the front that `prefix_len` counts passes the test
 pub first_pass : (p : ℕ → Bool) (xs : List ℕ) → list_all p (take (prefix_len p xs) xs) ≡ true
 first_pass p [] = refl
 first_pass p (x ∷ xs) = by (p x) refl (first_pass p xs)
@@ -48,7 +48,7 @@ all_plain (x ∷ xs) e =
       ap₂ (λ (front back : List ℕ). front ++ back) (sym (escaped_plain x h.0)) rest.1,
     )
 
--- what stands for itself is a text
+-- octets that stand for themselves are a text
 pub plain_text : (most : ℕ) (xs : List ℕ) → list_all is_plain xs ≡ true → length xs ≤ most
     → IsText most xs
 unfolding escaped
@@ -96,7 +96,7 @@ pairs (a ∷ b ∷ ds) even e =
           (sym (ap hex_digit lower ∙ y.2))) rest.spelled;
     }
 
--- an even number of digits is some octets
+-- an even number of digits are octets
 pub digits_octets : (ds : List ℕ) → 0 < length ds → length ds % 2 ≡ 0 → length ds / 2 ≤ 32
     → list_all is_hex_digit ds ≡ true → AreOctets ds
 unfolding hex

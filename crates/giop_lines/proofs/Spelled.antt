@@ -1,4 +1,4 @@
--- What was read in parts is one text.
+-- Parts that were read one after another are one text.
 use Rattle.std.proofs.Common.{◌≡◌, ℕ, ◌<◌, List, [], ◌∷◌, ◌++◌, length, append_assoc, append-nil, refl, sym, ap, subst, ◌∙◌, arith}
 use Rattle.std.specs.Prelude.{Option, Some, None, MatchOption, codes, flat_map}
 use Rattle.std.specs.Borrow.{Bor}

@@ -47,7 +47,7 @@ abbrev pub answers_text : Answers → List ℕ
 answers_text a = codes "answers s" ++ (decimal a.stream ++ (codes " m" ++ (decimal a.message
     ++ (codes " " ++ (a.operation.now ++ (codes " after " ++ a.seconds.now))))))
 
--- a fault after the words that it begins with
+-- the word and the place of a fault
 abbrev pub fault_text : Fault → List ℕ
 fault_text f = f.word.now ++ (codes " at " ++ decimal f.place)
 
@@ -88,7 +88,7 @@ said_text (said.CaptureFault f) = codes "capture fault " ++ fault_text f
 said_text (said.CaptureTotal t) = capture_text t
 said_text (said.Later text) = text.now
 
--- what follows a number, which is left out if it is 0
+-- the text with a letter and a number before it; the number is left out if it is 0
 abbrev pub numbered : List ℕ → ℕ → List ℕ → List ℕ
 numbered letter zero rest = rest
 numbered letter (suc n) rest = letter ++ (decimal (suc n) ++ (codes " " ++ rest))
@@ -96,7 +96,7 @@ numbered letter (suc n) rest = letter ++ (decimal (suc n) ++ (codes " " ++ rest)
 abbrev pub line_text : Line → List ℕ
 line_text l = numbered (codes "s") l.stream (numbered (codes "m") l.message (said_text l.said))
 
--- a message type: its word, or its number
+-- a message type: a word, or a number
 abbrev pub IsType : List ℕ → Type 0
 IsType kind = (is_type_word kind ≡ true) ⊎ ((n : ℕ) × (n < 256) × (kind ≡ decimal n))
 

@@ -1,34 +1,34 @@
--- Numbers as lines have them: each is spelled in one way (docs/FORMATS.md, Lines; meaning).
+-- Numbers as lines have them. Each number has only one form (docs/FORMATS.md, Lines; meaning).
 use Rattle.std.specs.Prelude.{◌≡◌, Bool, ◌&&◌, ◌||◌, nat_le, ℕ, ℤ, negsuc, suc, ◌≤◌, ◌^◌, ◌<◌, List, length, decimal, Option, MatchOption, FitsSigned}
 use Rattle.std.specs.Int.{w64}
 use Rattle.std.specs.Fmt.{signed_decimal}
 use Rattle.giop_print.specs.Text.{hex_digit, hex_number}
 
--- the number below a limit that a text is the decimal spelling of, or none if it is that of none
+-- the number below a limit that is written in decimal as this text; none if no such number is
 abbrev pub IsNumberBelow : ℕ → List ℕ → Option ℕ → Type 0
 IsNumberBelow limit text number = MatchOption number
     ((n : ℕ) → n < limit → text ≡ decimal n → ⊥)
     (λ n. text ≡ decimal n)
 
--- the same of a number that isn't 0
+-- the same for numbers that aren't 0
 abbrev pub IsOrdinal : List ℕ → Option ℕ → Type 0
 IsOrdinal text number = MatchOption number
     ((n : ℕ) → 0 < n → n < 2 ^ 64 → text ≡ decimal n → ⊥)
     (λ n. (text ≡ decimal n) × (0 < n))
 
--- the same of a number with a sign, if it is below zero
+-- the same for numbers that may have a sign: a number below zero has one
 abbrev pub IsInteger : List ℕ → Option ℤ → Type 0
 IsInteger text number = MatchOption number
     ((z : ℤ) → FitsSigned w64 z → text ≡ signed_decimal z → ⊥)
     (λ z. text ≡ signed_decimal z)
 
--- the same of the digits alone of a number below zero
+-- the same for the digits of a number below zero, without its sign
 abbrev pub IsNegative : List ℕ → Option ℤ → Type 0
 IsNegative digits number = MatchOption number
     ((n : ℕ) → 0 < n → n ≤ 2 ^ 63 → digits ≡ decimal n → ⊥)
     (λ z. (n : ℕ) × (z ≡ negsuc n) × (digits ≡ decimal (suc n)))
 
--- the number below 16 that an octet is the digit of
+-- the number below 16 that has this octet as its digit
 abbrev pub IsDigit : ℕ → Option ℕ → Type 0
 IsDigit octet digit = MatchOption digit
     ((d : ℕ) → d < 16 → octet ≡ hex_digit d → ⊥)
@@ -38,6 +38,6 @@ IsDigit octet digit = MatchOption digit
 abbrev pub is_hex_digit : ℕ → Bool
 is_hex_digit b = (nat_le 48 b && nat_le b 57) || (nat_le 97 b && nat_le b 102)
 
--- the number whose hexadecimal digits a text is
+-- the text is the hexadecimal digits of this number
 abbrev pub IsBits : List ℕ → ℕ → Type 0
 IsBits text n = text ≡ hex_number (length text) n

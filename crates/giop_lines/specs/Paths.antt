@@ -1,4 +1,4 @@
--- Paths: a root, and what is added for each part on the way (docs/FORMATS.md, Values; meaning).
+-- Paths: a root, and then a piece for each part on the way (docs/FORMATS.md, Values; meaning).
 use Rattle.std.specs.Prelude.{◌≡◌, ℕ, ◌<◌, ◌≤◌, ◌^◌, Bool, true, ◌||◌, ◌==◌, ◌⊎◌, List, [], ◌∷◌, ◌++◌, length, All, flat_map, codes, Option, IfSome}
 use Rattle.std.specs.Borrow.{Bor}
 use Rattle.giop_print.specs.Paths.{name_segment, index_segment}
@@ -20,28 +20,28 @@ IsPart (Root word) = IsRoot word.now
 IsPart (Name name) = is_part_name name.now ≡ true
 IsPart (Index index) = index < 2 ^ 32
 
--- the same of one after the root
+-- what the fields of a part after the root may be
 abbrev pub IsInner : Part → Type 0
 IsInner (Root word) = ⊥
 IsInner (Name name) = is_part_name name.now ≡ true
 IsInner (Index index) = index < 2 ^ 32
 
--- what follows a part: nothing, or another
+-- whether a path ends here, or its next part begins here
 abbrev pub is_border : List ℕ → Bool
 is_border [] = true
 is_border (b ∷ bs) = b == 46 || b == 91
 
--- a part that a path begins with, and what follows it
+-- a path begins with this part, and this follows it
 pub record Begins (path : List ℕ) (part : Part) (rest : List ℕ) : Type 0 where
   pub is_part : IsPart part
   pub border : is_border rest ≡ true
   pub spelled : path ≡ part_text part ++ rest
 
--- the first part of a path, if there is one
+-- this is the first part of a path, if it has one
 abbrev pub IsFirstPart : List ℕ → Option (Part × Bor (List ℕ)) → Type 0
 IsFirstPart path first = IfSome first (λ f. Begins path f.0 f.1.now)
 
--- a root, and at most 24 parts
+-- the path is a root and at most 24 parts
 pub record IsPath (path : List ℕ) : Type 0 where
   pub root : List ℕ
   pub parts : List Part

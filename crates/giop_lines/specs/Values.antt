@@ -34,7 +34,7 @@ content_text contents.WideString octets = spaced_digits octets
 content_text contents.WideChar octets = spaced_digits octets
 content_text contents.Rest octets = spaced_digits octets
 
--- what has no text, and may be empty
+-- a content that is written in hexadecimal, and may be empty
 abbrev pub IsHexadecimal : Content → Type 0
 IsHexadecimal contents.Text = ⊥
 IsHexadecimal contents.Octets = Unit {0}

@@ -1,4 +1,4 @@
-//! Lines of a capture.
+//! Lines about a capture.
 
 ghost use Rattle.std.specs.Prelude.{◌≡◌, IfSome};
 ghost use Rattle.giop_lines.specs.Lines.{said_text, IsSaid};
@@ -8,7 +8,7 @@ use crate::messages::fault;
 use crate::numbers::number;
 use crate::words::{after, first_word, word};
 
-/// A line of a capture that is known.
+/// Reads a line about a capture, if it is a known one.
 pub fn of_capture(text: &[u8]) -> Option<Said<'_>>
     ensures spelled { IfSome result (λ s. text.now ≡ said_text s) }
     ensures fields { IfSome result IsSaid }

@@ -1,4 +1,4 @@
-//! A line of a dump by what it was made of (docs/FORMATS.md, Lines). Octets are borrowed from the line.
+//! A line of a dump, as what it was made of (docs/FORMATS.md, Lines). Octets are borrowed from the line.
 
 use giop_cdr::Order;
 
@@ -9,18 +9,18 @@ pub struct Line<'a> {
     pub stream: u64,
     /// The number of its message, from 1; 0 if it names none.
     pub message: u64,
-    /// What it says of them.
+    /// What the line says about them.
     pub said: Said<'a>,
 }
 
-/// What a line says of its message, its stream or its capture.
+/// What a line says about its message, its stream or its capture.
 #[derive(Clone, Copy)]
 pub enum Said<'a> {
     /// The header of a message.
     Start(Start<'a>),
-    /// A value, after the path that it stands at (`first_part` goes through it).
+    /// A value, after its path (`first_part` takes the path apart).
     Value(&'a [u8], Value<'a>),
-    /// The offset of a part of a message's rest, and its 1 to 32 octets as hexadecimal digits.
+    /// A part of what a message has after its body: its offset, and its 1 to 32 octets as hexadecimal digits.
     Rest(u64, &'a [u8]),
     /// The call that a Request is.
     Call(Call<'a>),
@@ -28,7 +28,7 @@ pub enum Said<'a> {
     Time(Time<'a>),
     /// The call that a Reply answers.
     Answers(Answers<'a>),
-    /// The repository id of the exception that a Reply has.
+    /// The repository id of the exception that a Reply raises.
     Raises(&'a [u8]),
     /// The message that a Fragment continues.
     Continues(u64),
@@ -52,7 +52,7 @@ pub enum Said<'a> {
     CaptureFault(Fault<'a>),
     /// The totals of a capture.
     CaptureTotal(CaptureTotal),
-    /// What follows the numbers of a line that later versions may have: octets from 20 to 7e.
+    /// What comes after the numbers of a line that a later version may have: octets from 20 to 7e.
     Later(&'a [u8]),
 }
 
@@ -63,7 +63,7 @@ pub struct Start<'a> {
     pub minor: u8,
     /// The byte order of the message.
     pub order: Order,
-    /// The word of the message type, or a number of at most 255.
+    /// The word of the message type, or its number, of at most 255.
     pub kind: &'a [u8],
     /// How many octets follow the header.
     pub size: u32,
@@ -84,7 +84,7 @@ pub enum Value<'a> {
     Long(i32),
     /// An unsigned long.
     ULong(u32),
-    /// An unsigned long, and what it is called: a word, or a word and a number after a space.
+    /// An unsigned long and its name: a word, or a word, a space and a number.
     Named(u32, &'a [u8]),
     /// A long long.
     LongLong(i64),
@@ -96,13 +96,13 @@ pub enum Value<'a> {
     Double(u64),
     /// A boolean.
     Boolean(bool),
-    /// A char as text: one octet, or its escape (`first_octet` reads it).
+    /// A char as text: one octet, or the escape of one (`first_octet` reads it).
     Char(&'a [u8]),
     /// The name of an enum's value.
     Enum(&'a [u8]),
-    /// How many elements a sequence has; they follow.
+    /// The number of elements in a sequence. The elements follow.
     Count(u32),
-    /// How many octets an encapsulation has.
+    /// The number of octets in an encapsulation.
     Encapsulation(u32),
     /// The byte order of an encapsulation.
     Order(Order),
@@ -115,15 +115,16 @@ pub enum Value<'a> {
 pub struct Piece<'a> {
     /// The content.
     pub content: Content,
-    /// How many octets of it stand before the piece.
+    /// How many octets of the content come before the piece.
     pub offset: u32,
-    /// At most 32 octets: of a string as text (`first_octet` goes through it), else two hexadecimal digits each.
+    /// At most 32 octets. Those of a string are text (`first_octet` reads them one by one), others are two hexadecimal
+    /// digits each.
     pub octets: &'a [u8],
     /// Whether ` more` follows.
     pub more: bool,
 }
 
-/// What a piece is of.
+/// The content that a piece belongs to.
 #[derive(Clone, Copy, Debug, PartialEq, Eq)]
 pub enum Content {
     /// A string.
@@ -134,7 +135,7 @@ pub enum Content {
     WideString,
     /// A wide char.
     WideChar,
-    /// What an encapsulation has after its value; no ` more` follows.
+    /// The octets that an encapsulation has after its value; no ` more` follows.
     Rest,
 }
 
@@ -145,14 +146,14 @@ pub struct Call<'a> {
     pub id: u32,
     /// The operation: 1 to 128 octets from 21 to 7e.
     pub operation: &'a [u8],
-    /// The interface that the operation is known to be of: octets as the operation's.
+    /// The interface of the operation, if it is known: 1 to 128 octets from 21 to 7e.
     pub interface: Option<&'a [u8]>,
 }
 
 /// When a message began.
 #[derive(Clone, Copy)]
 pub struct Time<'a> {
-    /// As `2026-11-23T08:13:25.580228123Z`, or `-` where there is none.
+    /// The time, as `2026-11-23T08:13:25.580228123Z`, or `-` if there is none.
     pub time: &'a [u8],
     /// The number of the packet in its capture, from 1.
     pub packet: Option<u64>,
@@ -167,7 +168,7 @@ pub struct Answers<'a> {
     pub message: u64,
     /// The operation: 1 to 128 octets from 21 to 7e.
     pub operation: &'a [u8],
-    /// The seconds after the call, with nine digits after the point; `-` where they aren't known.
+    /// The seconds since the call, with nine digits after the point, or `-` if they aren't known.
     pub seconds: &'a [u8],
 }
 
@@ -176,7 +177,7 @@ pub struct Answers<'a> {
 pub struct Fault<'a> {
     /// Its word.
     pub word: &'a [u8],
-    /// How many octets of the stream, or of the capture, were read.
+    /// How many octets of the stream or of the capture were read.
     pub place: u64,
 }
 
@@ -185,13 +186,13 @@ pub struct Fault<'a> {
 pub struct StreamStart<'a> {
     /// The sender, as `192.0.2.1:2809` or `[2001:db8::1]:2809`.
     pub source: &'a [u8],
-    /// The receiver, as the sender.
+    /// The receiver, in the same form as the sender.
     pub target: &'a [u8],
-    /// As that of a message.
+    /// The time, in the same form as the time of a message.
     pub time: &'a [u8],
-    /// A stream of the same connection.
+    /// The number of the other stream of the connection, if one lives.
     pub with: Option<u64>,
-    /// How many octets of its flow stand before it.
+    /// How many octets of its flow come before it, if any do.
     pub behind: Option<u64>,
     /// Whether it was found in the middle of a flow.
     pub found: bool,
@@ -221,6 +222,6 @@ pub struct CaptureTotal {
     pub packets: u64,
     /// How many octets of the capture were read.
     pub octets: u64,
-    /// How many of its packets have no segment that is read.
+    /// How many payloads were looked through and in which no stream begins.
     pub other: Option<u64>,
 }

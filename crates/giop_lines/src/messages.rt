@@ -1,4 +1,4 @@
-//! Lines of a message, after its number.
+//! Lines about a message, after its number.
 
 ghost use Rattle.std.specs.Prelude.{◌≡◌, ◌++◌, codes, true, IfSome};
 ghost use Rattle.giop_lines.specs.Names.{is_word};
@@ -12,7 +12,7 @@ use crate::pieces::rest;
 use crate::values::{order, value};
 use crate::words::{after, first_word, without_more, word};
 
-/// A line of a message that is known.
+/// Reads a line about a message, if it is a known one. `is_captured` tells whether it is in a dump of a capture.
 pub fn of_message(text: &[u8], is_captured: bool) -> Option<Said<'_>>
     ensures spelled { IfSome result (λ s. text.now ≡ said_text s) }
     ensures fields { IfSome result IsSaid }
@@ -32,7 +32,7 @@ pub fn of_message(text: &[u8], is_captured: bool) -> Option<Said<'_>>
     if is_captured { of_capture(text) } else { None }
 }
 
-/// A line that names another message, or the call that the message is.
+/// Reads a line that names another message, or the call that the message is.
 fn of_two(text: &[u8]) -> Option<Said<'_>>
     ensures spelled { IfSome result (λ s. text.now ≡ said_text s) }
     ensures fields { IfSome result IsSaid }
@@ -46,7 +46,7 @@ fn of_two(text: &[u8]) -> Option<Said<'_>>
     Some(Said::Cancelled(ordinal(after(text, b"cancelled by m")?)?))
 }
 
-/// A line of a message that stands in a dump of a capture alone.
+/// Reads a line about a message that only a dump of a capture has.
 fn of_capture(text: &[u8]) -> Option<Said<'_>>
     ensures spelled { IfSome result (λ s. text.now ≡ said_text s) }
     ensures fields { IfSome result IsSaid }
@@ -140,7 +140,7 @@ fn answers(text: &[u8]) -> Option<Said<'_>>
     }))
 }
 
-/// A fault's word and place.
+/// Reads the word and the place of a fault.
 pub fn fault(text: &[u8]) -> Option<Fault<'_>>
     ensures spelled { IfSome result (λ f. text.now ≡ fault_text f) }
     ensures fields { IfSome result (λ f. is_word f.word.now ≡ true) }

@@ -1,4 +1,4 @@
-//! The alphabets of names and words, and what is spelled by them.
+//! The octets that names and words may have, and the names and words that they make.
 
 ghost use Rattle.std.specs.Prelude.{◌≡◌, ℕ, ◌<◌, ◌||◌, true, decimal};
 ghost use Rattle.std.specs.List.{list_all};
@@ -8,9 +8,9 @@ ghost use Rattle.giop_lines.specs.Lines.{IsType};
 use crate::numbers::{is_digit, number, ulong};
 use crate::words::{after, before, word};
 
-/// The most octets of an operation, an interface or a repository id.
+/// The greatest length of the name of an operation or interface, or of a repository id, in octets.
 const NAME_MAX: usize = 128;
-/// The most octets of the name of a type's part.
+/// The greatest length of the name of a type's part, in octets.
 const PART_MAX: usize = 64;
 
 /// Whether this is a name of 1 to 128 octets from 21 to 7e.
@@ -48,7 +48,7 @@ pub fn is_printed(text: &[u8]) -> bool
     text.iter().all(|b| is_printed_octet(*b))
 }
 
-/// Whether an octet is one of a part's name: a letter, a digit or `_`.
+/// Whether an octet may stand in the name of a part: it is a letter, a digit or `_`.
 pub fn is_letter(octet: u8) -> bool
     ensures { result ≡ is_letter octet }
 {
@@ -59,14 +59,14 @@ pub fn is_letter(octet: u8) -> bool
     }
 }
 
-/// Whether this is the name of a type's part: 1 to 64 letters, digits and `_`, the first of them no digit.
+/// Whether this is the name of a type's part: 1 to 64 letters, digits and `_`, and the first of them isn't a digit.
 pub fn is_part_name(name: &[u8]) -> bool
     ensures { result ≡ is_part_name name.now }
 {
     are_letters(name) && is_part_of_letters(name)
 }
 
-/// The same of letters, digits and `_`.
+/// Whether this is the name of a type's part, if it has only letters, digits and `_`.
 pub fn is_part_of_letters(name: &[u8]) -> bool
     requires { list_all is_letter name.now ≡ true }
     ensures { result ≡ is_part_name name.now }
@@ -80,8 +80,8 @@ fn are_letters(name: &[u8]) -> bool
     name.iter().all(|b| is_letter(*b))
 }
 
-/// Whether this is a word of a fault or of a stream's end: it begins with a small letter, and has no others but digits,
-/// points and hyphens.
+/// Whether this is the word of a fault or of a stream's end: it begins with a small letter, and has only small letters,
+/// digits, points and hyphens.
 pub fn is_word(word: &[u8]) -> bool
     ensures { result ≡ is_word word.now }
 {
@@ -94,7 +94,7 @@ fn are_of_word(word: &[u8]) -> bool
     word.iter().all(|b| is_of_word(*b))
 }
 
-/// Whether an octet is one of a word.
+/// Whether an octet may stand in a word.
 fn is_of_word(octet: u8) -> bool
     ensures { result ≡ is_of_word octet }
 {
@@ -118,7 +118,7 @@ fn is_type_number(digits: &[u8]) -> bool
     }
 }
 
-/// Whether this is a word of letters that begins with a capital one.
+/// Whether this is a word of letters that begins with a capital letter.
 fn is_type_word(word: &[u8]) -> bool
     ensures { result ≡ is_type_word word.now }
 {
@@ -138,8 +138,8 @@ fn is_either_case(octet: u8) -> bool
     octet.is_ascii_lowercase() || octet.is_ascii_uppercase()
 }
 
-/// Whether this is what a number is called: a word of at most 64 octets from 21 to 7e that begins with a letter, and
-/// maybe a number after a space.
+/// Whether this is the name of a number: a word of at most 64 octets from 21 to 7e that begins with a letter; a space and a
+/// number may follow.
 pub fn is_called(name: &[u8]) -> bool {
     match word(name) {
         Some((front, digits)) => is_called_word(front) && ulong(digits).is_some(),
@@ -154,16 +154,16 @@ fn is_called_word(name: &[u8]) -> bool {
     }
 }
 
-/// A time, in which 0 stands for each digit.
+/// The form of a time. A 0 stands for any digit.
 const TIME: &[u8; 30] = b"0000-00-00T00:00:00.000000000Z";
 
-/// Whether this is a time, or `-`.
+/// Whether this is a time or `-`.
 pub fn is_time(time: &[u8]) -> bool {
     time == b"-".as_slice()
         || time.len() == TIME.len() && time.iter().zip(TIME).all(|(b, of)| is_of(*b, *of))
 }
 
-/// Whether an octet may stand in the place of one of a time.
+/// Whether an octet may stand where the form of a time has `of`.
 fn is_of(octet: u8, of: u8) -> bool {
     if of == b'0' {
         octet.is_ascii_digit()
@@ -204,12 +204,12 @@ pub fn is_endpoint(text: &[u8]) -> bool {
     }
 }
 
-/// Whether there are 1 to so many decimal digits.
+/// Whether these are decimal digits, at least one and at most `most`.
 fn are_digits(text: &[u8], most: usize) -> bool {
     !text.is_empty() && text.len() <= most && text.iter().all(|b| b.is_ascii_digit())
 }
 
-/// Whether this is an address: four numbers, or one of IPv6 between brackets.
+/// Whether this is an address: four numbers, or an IPv6 address between brackets.
 fn is_address(text: &[u8]) -> bool {
     if let Some(behind) = after(text, b"[") {
         return match before(behind, b"]") {
@@ -229,7 +229,7 @@ fn is_address(text: &[u8]) -> bool {
     groups == 4
 }
 
-/// Whether an octet is one of an address of IPv6.
+/// Whether an octet may stand in an IPv6 address.
 fn is_of_address(octet: u8) -> bool {
     is_digit(octet) || octet == b':' || octet == b'.'
 }

@@ -1,14 +1,14 @@
-//! Numbers as the lines have them: each is written in one way.
+//! Numbers as the lines have them. Each number has only one form.
 
 ghost use Rattle.std.specs.Prelude.{◌≡◌, ◌^◌, IfSome, true};
 ghost use Rattle.giop_lines.specs.Numbers.{IsNumberBelow, IsOrdinal, IsInteger, IsNegative, IsDigit, IsBits, is_hex_digit};
 
 use crate::words::after;
 
-/// The most digits of a number.
+/// The greatest number of digits in a number.
 const DIGITS_MAX: usize = 20;
 
-/// The number below 2 ^ 64 whose decimal digits these are.
+/// The number below 2^64 that has these decimal digits.
 pub fn number(digits: &[u8]) -> Option<u64>
     ensures { IsNumberBelow (2 ^ 64) digits.now result }
 {
@@ -28,14 +28,14 @@ pub fn number(digits: &[u8]) -> Option<u64>
     Some(n)
 }
 
-/// The number below 2 ^ 32 whose decimal digits these are.
+/// The number below 2^32 that has these decimal digits.
 pub fn ulong(digits: &[u8]) -> Option<u32>
     ensures { IsNumberBelow (2 ^ 32) digits.now result }
 {
     u32::try_from(number(digits)?).ok()
 }
 
-/// The number from 1 to 2 ^ 64 - 1 whose decimal digits these are.
+/// The number from 1 to 2^64 - 1 that has these decimal digits.
 pub fn ordinal(digits: &[u8]) -> Option<u64>
     ensures { IsOrdinal digits.now result }
 {
@@ -45,7 +45,7 @@ pub fn ordinal(digits: &[u8]) -> Option<u64>
     }
 }
 
-/// The number from -2 ^ 63 to 2 ^ 63 - 1 that is written so.
+/// The number from -2^63 to 2^63 - 1 that is written like this.
 pub fn integer(text: &[u8]) -> Option<i64>
     ensures { IsInteger text.now result }
 {
@@ -55,7 +55,7 @@ pub fn integer(text: &[u8]) -> Option<i64>
     }
 }
 
-/// The number from -2 ^ 63 to -1 of which these are the decimal digits.
+/// The number from -2^63 to -1 that has these decimal digits after its sign.
 fn negative(digits: &[u8]) -> Option<i64>
     ensures { IsNegative digits.now result }
 {
@@ -82,7 +82,7 @@ pub fn is_digit(octet: u8) -> bool
     octet.is_ascii_digit() || octet >= b'a' && octet <= b'f'
 }
 
-/// The number that at most 16 lower-case hexadecimal digits spell.
+/// The number that at most 16 lower-case hexadecimal digits are.
 pub fn bits(digits: &[u8]) -> Option<u64>
     ensures { IfSome result (IsBits digits.now) }
 {

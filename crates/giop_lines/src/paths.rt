@@ -1,4 +1,4 @@
-//! Paths: a root, and what is added for each part on the way (docs/FORMATS.md, Values).
+//! Paths: a root, and then a piece for each part on the way (docs/FORMATS.md, Values).
 
 ghost use Rattle.std.specs.Prelude.{◌≡◌, ◌≤◌, ◌++◌, codes, true, length, IfSome};
 ghost use Rattle.std.specs.List.{list_all, prefix_len};
@@ -9,13 +9,13 @@ use crate::names::{is_letter, is_part_of_letters};
 use crate::numbers::ulong;
 use crate::words::after;
 
-/// The most parts after the root of a path.
+/// The greatest number of parts after the root of a path.
 const PARTS_MAX: u32 = 24;
 
 /// A part of a path.
 #[derive(Clone, Copy)]
 pub enum Part<'a> {
-    /// `header`, `exception` or `body`, which a path begins with.
+    /// `header`, `exception` or `body`. A path begins with one of these.
     Root(&'a [u8]),
     /// The name of a member, without its dot.
     Name(&'a [u8]),
@@ -23,7 +23,7 @@ pub enum Part<'a> {
     Index(u32),
 }
 
-/// How many of the first octets are letters, digits and `_`.
+/// How many octets at the front are letters, digits or `_`.
 fn name_len(text: &[u8]) -> usize
     ensures len { result ≡ prefix_len is_letter text.now }
     ensures bound { result ≤ length text.now }
@@ -36,7 +36,7 @@ fn name_len(text: &[u8]) -> usize
     text.len()
 }
 
-/// The letters, digits and `_` that a text begins with, and what follows them.
+/// The letters, digits and `_` at the front of a text, and what follows them.
 fn letters(text: &[u8]) -> (&[u8], &[u8])
     ensures spelled { text.now ≡ result.0.now ++ result.1.now }
     ensures letters { list_all is_letter result.0.now ≡ true }
@@ -44,7 +44,7 @@ fn letters(text: &[u8]) -> (&[u8], &[u8])
     text.split_at(name_len(text))
 }
 
-/// Whether a path ends here, or a part of it begins.
+/// Whether a path ends here, or its next part begins here.
 fn is_border(text: &[u8]) -> bool
     ensures { result ≡ is_border text.now }
 {
@@ -54,7 +54,7 @@ fn is_border(text: &[u8]) -> bool
     }
 }
 
-/// The first part of a path, or of what follows another part, and what follows it.
+/// The first part of a path, or of what follows another part; and what follows it.
 pub fn first_part(path: &[u8]) -> Option<(Part<'_>, &[u8])>
     ensures { IsFirstPart path.now result }
 {
@@ -69,7 +69,7 @@ pub fn first_part(path: &[u8]) -> Option<(Part<'_>, &[u8])>
     }
 }
 
-/// The part that a text begins with, but for a root, and what follows it.
+/// The part at the front of a text, if that isn't a root, and what follows it.
 fn inner_part(text: &[u8]) -> Option<(Part<'_>, &[u8])>
     ensures { IfSome result (λ f. IsInner f.0 × (text.now ≡ part_text f.0 ++ f.1.now)) }
 {
@@ -80,7 +80,7 @@ fn inner_part(text: &[u8]) -> Option<(Part<'_>, &[u8])>
     }
 }
 
-/// A member's name, after its dot.
+/// The name of a member, after its dot.
 fn name(text: &[u8]) -> Option<(Part<'_>, &[u8])>
     ensures { IfSome result (λ f. IsInner f.0 × (codes "." ++ text.now ≡ part_text f.0 ++ f.1.now)) }
 {
@@ -92,7 +92,7 @@ fn name(text: &[u8]) -> Option<(Part<'_>, &[u8])>
     }
 }
 
-/// An element's number, after its bracket.
+/// The number of an element, after its bracket.
 fn index(text: &[u8]) -> Option<(Part<'_>, &[u8])>
     ensures { IfSome result (λ f. IsInner f.0 × (codes "[" ++ text.now ≡ part_text f.0 ++ f.1.now)) }
 {
@@ -101,7 +101,7 @@ fn index(text: &[u8]) -> Option<(Part<'_>, &[u8])>
     Some((Part::Index(ulong(digits)?), rest))
 }
 
-/// The root that a text begins with, and what follows it.
+/// The root at the front of a text, and what follows it.
 fn root(text: &[u8]) -> Option<(&[u8], &[u8])>
     ensures root { IfSome result (λ r. IsRoot r.0.now) }
     ensures spelled { IfSome result (λ r. text.now ≡ r.0.now ++ r.1.now) }
@@ -115,7 +115,7 @@ fn root(text: &[u8]) -> Option<(&[u8], &[u8])>
     Some((b"exception", after(text, b"exception")?))
 }
 
-/// The path that a text begins with, before its first space, and what follows the space.
+/// The path before the first space of a text, and what follows the space.
 pub fn path(text: &[u8]) -> Option<(&[u8], &[u8])>
     ensures path { IfSome result (λ p. IsPath p.0.now) }
     ensures spelled { IfSome result (λ p. text.now ≡ p.0.now ++ (codes " " ++ p.1.now)) }

@@ -1,4 +1,4 @@
-//! Pieces of a content: their offset, their octets, and whether more comes.
+//! Pieces of a content: their offset, their octets, and whether more of the content follows.
 
 ghost use Rattle.std.specs.Prelude.{◌≡◌, ◌++◌, codes, decimal, true, IfSome};
 ghost use Rattle.std.specs.List.{list_all};
@@ -12,7 +12,7 @@ use crate::numbers::{is_digit, number, ulong};
 use crate::texts::is_text;
 use crate::words::{after, before, without_more, word};
 
-/// The most octets of a piece.
+/// The greatest number of octets in a piece.
 const PIECE_MAX: u32 = 32;
 
 /// Whether these are the digits of 1 to 32 octets.
@@ -36,7 +36,7 @@ fn are_digits(digits: &[u8]) -> bool
     are
 }
 
-/// A piece of a string, after its kind.
+/// Reads a piece of a string, after the word of its kind.
 pub fn text_piece(text: &[u8]) -> Option<Value<'_>>
     ensures spelled { IfSome result (λ v. codes "string " ++ text.now ≡ value_text v) }
     ensures fields { IfSome result IsValue }
@@ -55,7 +55,7 @@ pub fn text_piece(text: &[u8]) -> Option<Value<'_>>
     }))
 }
 
-/// A piece of octets, after its kind.
+/// Reads a piece of octets, after the word of its kind.
 pub fn octets_piece(content: Content, text: &[u8]) -> Option<Value<'_>>
     requires { IsHexadecimal content }
     ensures spelled { IfSome result (λ v. content_word content ++ text.now ≡ value_text v) }
@@ -83,7 +83,7 @@ fn offset_and_octets(text: &[u8]) -> Option<(u32, &[u8])>
     }
 }
 
-/// A part of an encapsulation's rest, after its kind.
+/// Reads a part of what an encapsulation has after its value, after the word of its kind.
 pub fn rest_piece(text: &[u8]) -> Option<Value<'_>>
     ensures spelled { IfSome result (λ v. codes "rest " ++ text.now ≡ value_text v) }
     ensures fields { IfSome result IsValue }
@@ -100,7 +100,7 @@ pub fn rest_piece(text: &[u8]) -> Option<Value<'_>>
     }))
 }
 
-/// A part of a message's rest.
+/// Reads a part of what a message has after its body.
 pub fn rest(text: &[u8]) -> Option<Said<'_>>
     ensures spelled { IfSome result (λ s. text.now ≡ said_text s) }
     ensures fields { IfSome result IsSaid }

@@ -12,10 +12,10 @@ use crate::paths::path;
 use crate::streams::{of_dump, of_stream};
 use crate::words::{after, first_word, word};
 
-/// The most octets of a line, without its LF.
+/// The greatest length of a line without its LF, in octets.
 pub const LINE_MAX: usize = 8192;
 
-/// What a line was made of; nothing where no dump has it.
+/// What a line was made of. There is nothing if no dump can have the line.
 pub fn read(line: &[u8]) -> Option<Line<'_>>
     ensures spelled { IfSome result (λ l. line.now ≡ line_text l) }
     ensures fields { IfSome result (λ l. IsSaid l.said) }
@@ -46,7 +46,8 @@ pub fn read(line: &[u8]) -> Option<Line<'_>>
     })
 }
 
-/// The number that a line begins with after this letter, and what follows it; 0 and the line where it begins with none.
+/// The number that follows this letter at the front of a line, and what follows it; or 0 and the whole line if there is no
+/// such number.
 fn head<'a>(line: &'a [u8], letter: &[u8]) -> (u64, &'a [u8])
     ensures { line.now ≡ numbered letter.now result.0 result.1.now }
 {
@@ -63,7 +64,8 @@ fn numbered<'a>(line: &'a [u8], letter: &[u8]) -> Option<(u64, &'a [u8])>
     Some((ordinal(digits)?, rest))
 }
 
-/// A line of a stream or a message that isn't known, or a value of a kind that isn't.
+/// Reads a line about a stream or a message that isn't known, or a value of a kind that isn't known: a later version may
+/// have them.
 fn later(text: &[u8], stream: u64, message: u64) -> Option<Said<'_>>
     ensures spelled { IfSome result (λ s. text.now ≡ said_text s) }
     ensures fields { IfSome result IsSaid }
@@ -91,7 +93,7 @@ fn later(text: &[u8], stream: u64, message: u64) -> Option<Said<'_>>
     }
 }
 
-/// Whether there is more than a space.
+/// Whether something follows the space, if there is one.
 fn is_filled(behind: Option<&[u8]>) -> bool {
     match behind {
         Some(rest) => !rest.is_empty(),
@@ -99,7 +101,7 @@ fn is_filled(behind: Option<&[u8]>) -> bool {
     }
 }
 
-/// The words that lines of streams and messages begin with.
+/// The words that lines about streams and messages begin with.
 const WORDS: [&[u8]; 18] = [
     b"end",
     b"start",
@@ -145,7 +147,8 @@ const KINDS: [&[u8]; 20] = [
     b"rest",
 ];
 
-/// Whether a word is of small letters, at least so many, that hyphens may join to others, and isn't known.
+/// Whether a word isn't a known one: it is of small letters and hyphens, and the letters before its first hyphen are at
+/// least `least` and no known word.
 fn is_new(word: &[u8], least: usize, known: &[&[u8]]) -> bool {
     let mut first = word.len();
     for (i, b) in word.iter().enumerate() {
@@ -163,7 +166,7 @@ fn is_one_of(word: &[u8], others: &[&[u8]]) -> bool {
     others.iter().any(|other| word == *other)
 }
 
-/// Whether small letters follow each hyphen of a word.
+/// Whether a small letter follows each hyphen of a word.
 fn is_joined(word: &[u8]) -> bool {
     for i in 0..word.len() {
         if word[i] == b'-' && (i + 1 == word.len() || word[i + 1] == b'-') {

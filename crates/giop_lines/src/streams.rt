@@ -1,4 +1,4 @@
-//! Lines of a stream, behind its number.
+//! Lines about a stream, after its number.
 
 ghost use Rattle.std.specs.Prelude.{◌≡◌, ◌++◌, codes, IfSome};
 ghost use Rattle.giop_lines.specs.Lines.{said_text, with_number, spaced_name, found_word, AreSome, IsSaid};
@@ -9,7 +9,7 @@ use crate::names::{is_endpoint, is_time, is_word};
 use crate::numbers::{number, ordinal};
 use crate::words::{after, before, first_word, word};
 
-/// A line of a stream that is known.
+/// Reads a line about a stream, if it is a known one.
 pub fn of_stream(text: &[u8]) -> Option<Said<'_>>
     ensures spelled { IfSome result (λ s. text.now ≡ said_text s) }
     ensures fields { IfSome result IsSaid }
@@ -27,7 +27,7 @@ pub fn of_stream(text: &[u8]) -> Option<Said<'_>>
     }
 }
 
-/// A line of a stream that a dump of one stream has too.
+/// Reads a line about a stream that a dump of a single stream has too.
 pub fn of_dump(text: &[u8]) -> Option<Said<'_>>
     ensures spelled { IfSome result (λ s. text.now ≡ said_text s) }
     ensures fields { IfSome result IsSaid }
@@ -61,7 +61,7 @@ fn stream_start(text: &[u8]) -> Option<Said<'_>>
     }))
 }
 
-/// The ends of a stream, and what follows them.
+/// The two endpoints of a stream, and what follows them.
 fn ends(text: &[u8]) -> Option<(&[u8], &[u8], &[u8])>
     ensures { IfSome result (λ e. text.now ≡ codes "stream " ++ (e.0.now ++ (codes " > "
         ++ (e.1.now ++ (codes " at " ++ e.2.now))))) }
@@ -76,7 +76,7 @@ fn ends(text: &[u8]) -> Option<(&[u8], &[u8], &[u8])>
     }
 }
 
-/// The time of a stream's beginning, what it goes with and stands behind, and whether it was found.
+/// The time at which a stream begins, the stream that lives with it, the octets before it, and whether it was found.
 fn since(text: &[u8]) -> Option<(&[u8], (Option<u64>, Option<u64>), bool)>
     ensures spelled { IfSome result (λ s. text.now ≡ s.0.now ++ (with_number (codes " with s") s.1.0
         ++ (with_number (codes " behind ") s.1.1 ++ found_word s.2))) }
@@ -102,7 +102,7 @@ fn without_found(text: &[u8]) -> (&[u8], bool)
     }
 }
 
-/// The stream that one goes with, and how many octets of its flow stand before it.
+/// The number of the stream that lives with a stream, and how many octets of its flow come before it.
 fn place(text: Option<&[u8]>) -> Option<(Option<u64>, Option<u64>)>
     ensures spelled { IfSome result (λ p. spaced_name text.entry
         ≡ with_number (codes " with s") p.0 ++ with_number (codes " behind ") p.1) }

@@ -1,4 +1,4 @@
-//! The octets of a string as a line has them: what stands for itself, and escapes.
+//! The octets of a string as a line has them: octets that stand for themselves, and escapes.
 
 ghost use Rattle.std.specs.Prelude.{◌≡◌, true};
 ghost use Rattle.std.specs.List.{list_all};
@@ -8,7 +8,7 @@ ghost use Rattle.giop_lines.specs.Texts.{IsFirstOctet, IsEscaped, IsPair, IsText
 use crate::numbers::digit;
 use crate::words::after;
 
-/// Whether an octet stands for itself: 20 to 7e, without the quote and the backslash.
+/// Whether an octet stands for itself: it is from 20 to 7e, but neither the quote nor the backslash.
 fn is_plain(octet: u8) -> bool
     ensures { result ≡ is_plain octet }
 {
@@ -26,7 +26,8 @@ fn are_plain(text: &[u8]) -> bool
     are
 }
 
-/// The first octet of a text, and what follows it: an escape `\xHH` is one octet, which doesn't stand for itself.
+/// The first octet of a text, and what follows it. An escape `\xHH` is one octet, and is used only for an octet that
+/// doesn't stand for itself.
 pub fn first_octet(text: &[u8]) -> Option<(u8, &[u8])>
     ensures { IsFirstOctet text.now result }
 {
@@ -37,7 +38,7 @@ pub fn first_octet(text: &[u8]) -> Option<(u8, &[u8])>
     escape(after(text, b"\\x")?)
 }
 
-/// The octet whose digits a text begins with, if it doesn't stand for itself, and what follows them.
+/// The octet whose two digits are at the front of a text, if it doesn't stand for itself, and what follows them.
 fn escape(digits: &[u8]) -> Option<(u8, &[u8])>
     ensures { IsEscaped digits.now result }
 {
@@ -49,7 +50,7 @@ fn escape(digits: &[u8]) -> Option<(u8, &[u8])>
     }
 }
 
-/// The octet whose two hexadecimal digits a text begins with, and what follows them.
+/// The octet whose two hexadecimal digits are at the front of a text, and what follows them.
 pub fn pair(digits: &[u8]) -> Option<(u8, &[u8])>
     ensures { IsPair digits.now result }
 {
@@ -60,7 +61,7 @@ pub fn pair(digits: &[u8]) -> Option<(u8, &[u8])>
     Some((octet, &digits[2..]))
 }
 
-/// Whether this is the text of at most so many octets.
+/// Whether this is the text of at most `most` octets.
 pub fn is_text(text: &[u8], most: u32) -> bool
     ensures { result ≡ true → IsText most text.now }
 {

@@ -1,4 +1,4 @@
-//! Values after their paths: a kind, and what it is of.
+//! Values after their paths: the word of a kind, and then the value.
 
 ghost use Rattle.std.specs.Prelude.{◌≡◌, ◌++◌, codes, IfSome, Some};
 ghost use Rattle.giop_print.specs.Lines.{order_word};
@@ -12,7 +12,7 @@ use crate::texts::is_text;
 use crate::words::{after, before, first_word};
 use giop_cdr::Order;
 
-/// A value of a kind that is known.
+/// Reads a value of a known kind.
 pub fn value(text: &[u8]) -> Option<Value<'_>>
     ensures spelled { IfSome result (λ v. text.now ≡ value_text v) }
     ensures fields { IfSome result IsValue }
@@ -170,7 +170,7 @@ fn double(text: &[u8]) -> Option<Value<'_>>
     }
 }
 
-/// The byte order that a word says.
+/// The byte order that a word names.
 pub fn order(word: &[u8]) -> Option<Order>
     ensures { IfSome result (λ o. word.now ≡ order_word o) }
 {

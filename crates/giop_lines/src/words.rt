@@ -1,9 +1,9 @@
-//! What begins a text, what ends it, and its words.
+//! The front, the end and the words of a text.
 
 ghost use Rattle.std.specs.Prelude.{◌≡◌, List, ℕ, ◌++◌, codes, MatchOption, IfSome};
 ghost use Rattle.giop_print.specs.Lines.{more_word};
 
-/// What follows the octets that a text begins with.
+/// What follows these octets, if they are at the front of a text.
 pub fn after<'a>(text: &'a [u8], front: &[u8]) -> Option<&'a [u8]>
     ensures { MatchOption result ((rest : List ℕ) → text.now ≡ front.now ++ rest → ⊥)
         (λ rest. text.now ≡ front.now ++ rest.now) }
@@ -11,7 +11,7 @@ pub fn after<'a>(text: &'a [u8], front: &[u8]) -> Option<&'a [u8]>
     text.strip_prefix(front)
 }
 
-/// What stands before the octets that a text ends with.
+/// What comes before these octets, if they are at the end of a text.
 pub fn before<'a>(text: &'a [u8], end: &[u8]) -> Option<&'a [u8]>
     ensures { MatchOption result ((rest : List ℕ) → text.now ≡ rest ++ end.now → ⊥)
         (λ rest. text.now ≡ rest.now ++ end.now) }
@@ -19,7 +19,7 @@ pub fn before<'a>(text: &'a [u8], end: &[u8]) -> Option<&'a [u8]>
     text.strip_suffix(end)
 }
 
-/// What stands before the first space of a text, and what follows it.
+/// What comes before the first space of a text, and what follows the space.
 pub fn word(text: &[u8]) -> Option<(&[u8], &[u8])>
     ensures { IfSome result (λ w. text.now ≡ w.0.now ++ (codes " " ++ w.1.now)) }
 {
@@ -31,7 +31,7 @@ pub fn word(text: &[u8]) -> Option<(&[u8], &[u8])>
     None
 }
 
-/// What stands before the first space of a text, or the whole text, and what follows the space.
+/// What comes before the first space of a text, and what follows the space; or the whole text if it has no space.
 pub fn first_word(text: &[u8]) -> (&[u8], Option<&[u8]>)
     ensures { MatchOption result.1 (text.now ≡ result.0.now)
         (λ rest. text.now ≡ result.0.now ++ (codes " " ++ rest.now)) }

@@ -1,4 +1,4 @@
--- How many octets a field takes, what they spell, and what follows them.
+-- How many octets a field has, which numbers they are, and what follows them.
 use Rattle.std.proofs.Common.{◌≡◌, ℕ, ◌+◌, ◌-◌, ◌^◌, ◌<◌, ◌≤◌, List, ◌++◌, length, drop, replicate, Option, Some, None, refl, sym, ap, ◌∙◌, arith}
 use Rattle.std.specs.Int.{w32, w64, from_be_bytes}
 use Rattle.std.proofs.lemmas.List.{drop_at, drop-drop, length-append, length-replicate}
@@ -35,7 +35,7 @@ held_long room octets few =
       length-replicate {A = ℕ} (room - length octets) 0,
     )
 
--- what follows a field of so many octets at an offset
+-- what follows after a field of this size at an offset
 pub behind : (at size : ℕ) (octets field rest : List ℕ) → drop at octets ≡ field ++ rest →
     length field ≡ size → drop (at + size) octets ≡ rest
 behind at size octets field rest is long =

@@ -1,5 +1,5 @@
--- How the fields of a checkpoint are spelled in octets: numbers with the heaviest octet first, and
--- zeros where nothing is stored (meaning).
+-- How the fields of a checkpoint are written in octets: numbers with the most significant octet
+-- first, and zeros if nothing is stored (meaning).
 use Rattle.std.specs.Prelude.{ℕ, ◌-◌, List, ◌∷◌, ◌++◌, length, replicate, Option, Some, None}
 use Rattle.std.specs.Int.{w32, w64, to_be_bytes}
 
@@ -16,6 +16,6 @@ abbrev pub optional : Option ℕ → List ℕ
 optional None = 0 ∷ four 0
 optional (Some n) = 1 ∷ four n
 
--- a few octets: how many, the octets, and zeros up to the room for them
+-- a few octets: first their number, then the octets, then zeros up to the room for them
 abbrev pub held : ℕ → List ℕ → List ℕ
 held room octets = length octets ∷ octets ++ replicate (room - length octets) 0

@@ -1,4 +1,4 @@
-//! The fields of a checkpoint as octets: writers that append them, and readers at offsets that read what was written.
+//! The fields of a checkpoint as octets: writers that append fields, and readers that read, at an offset, what was written.
 #![tactic(auto)]
 
 mod reading;

@@ -1,5 +1,5 @@
-//! Readers of fields at offsets. Each reads what its writer wrote there. Octets that no writer writes are read as some
-//! value; a caller that can't trust them writes again what was read, and compares.
+//! Readers of fields at offsets. Each reads what its writer wrote there. If no writer wrote the octets, some value is read.
+//! A caller that can't trust the octets writes again what was read, and compares.
 
 ghost use Rattle.std.specs.Prelude.{◌≡◌, ℕ, ◌+◌, ◌^◌, ◌<◌, ◌≤◌, List, ◌∷◌, ◌++◌, length, drop, Option, IfSome};
 ghost use Rattle.giop_octets.specs.Fields.{four, eight, optional, held};
@@ -45,7 +45,7 @@ pub fn eight_at(octets: &[u8], at: usize) -> u64
     u64::from_be_bytes(octets_at(octets, at))
 }
 
-/// The number that may be missing, in five octets at this offset.
+/// The number, which may be missing, in five octets at this offset.
 pub fn optional_at(octets: &[u8], at: usize) -> Option<u32>
     requires room { at + 5 ≤ length octets.now }
     ensures { (n : Option ℕ) (rest : List ℕ) → IfSome n (λ m. m < 2 ^ 32) →
@@ -57,7 +57,7 @@ pub fn optional_at(octets: &[u8], at: usize) -> Option<u32>
     Some(four_at(octets, at + 1))
 }
 
-/// The few octets at this offset, with room for N: N of them where the octet that counts them has a greater number.
+/// The few octets at this offset, of at most N. If the octet that counts them has a greater number, they are N.
 pub fn held_at<const N: usize>(octets: &[u8], at: usize) -> ArrayVec<u8, N>
     requires room { at + 1 + N ≤ length octets.now }
     ensures { (inner rest : List ℕ) → length inner ≤ N → drop at octets.now ≡ held N inner ++ rest →

@@ -1,4 +1,4 @@
-//! Writers of fields, each of which appends to what was written before.
+//! Writers of fields. Each appends to what was written before.
 
 ghost use Rattle.std.specs.Prelude.{◌≡◌, ◌+◌, ◌^◌, ◌<◌, ◌≤◌, ◌++◌, length, replicate, IfSome};
 ghost use Rattle.arrayvec.specs.ArrayVec.{array_vec_len};
@@ -17,7 +17,7 @@ pub fn put_octets<const N: usize>(out: &mut ArrayVec<u8, N>, octets: &[u8])
     }
 }
 
-/// Writes so many zeros.
+/// Writes this number of zeros.
 pub fn put_zeros<const N: usize>(out: &mut ArrayVec<u8, N>, count: usize)
     requires room { array_vec_len out.old + count ≤ N }
     ensures put { out.new.items ≡ out.old.items ++ replicate count 0 }
@@ -69,7 +69,7 @@ pub fn put_optional<const N: usize>(out: &mut ArrayVec<u8, N>, n: Option<u32>)
     }
 }
 
-/// Writes a few octets: how many, the octets, and zeros up to the room for them.
+/// Writes a few octets: first their number, then the octets, then zeros up to the room for them.
 pub fn put_held<const N: usize>(out: &mut ArrayVec<u8, N>, octets: &[u8], room: usize)
     requires room { array_vec_len out.old + 1 + room ≤ N }
     requires few { length octets.now ≤ room }

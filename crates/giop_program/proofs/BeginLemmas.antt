@@ -1,4 +1,4 @@
--- What a run of an engine did, for each stream that the checkpoint's file is a checkpoint of.
+-- What a run of an engine did, for each stream that the checkpoint file is a checkpoint of.
 use Rattle.std.proofs.Common.{◌≡◌, ℕ, List, [], Option, Some, None, refl, subst}
 use Rattle.std.specs.Prelude.{IfSome, Result}
 use Rattle.giop_sig.specs.Table.{Table}
@@ -14,7 +14,7 @@ use Rattle.giop_run.specs.Console.{Dumped}
 use Rattle.giop_run.specs.Files.{Asked, Folder, GoesOn, ending_of, stream_of, setup_by}
 use Rattle.giop_run.specs.Running.{Ran, RunSetup, setup_of}
 
--- a run of a source that is a reader of which nothing was read
+-- a run with a source from which nothing had been read
 pub dumped_by : (w : RunSetup) (r : Result Report RunFault) (p s : List ℕ) (a b : SourceLog)
     (x y : OutLog)
     (told : Option (List ℕ)) → a ≡ unread told → Ran w r p s a b x y → Dumped w r p told x y
@@ -32,7 +32,7 @@ goes_on held (Some name) most C l Held Is (octets, front, ours, again) f =
 module _ (held : Folder) (asked : Asked) (C : Table) (l : RequestTable) (e : EngineView)
     (ending : Ending)
     (report_outcome given : Option (List ℕ)) where
-  -- the engine reads by the table and the list, and ends as the arguments ask
+  -- the engine reads by the table and the request list, and ends as the arguments ask
   same_way : (n : ℕ) → e.table ≡ C → e.request_table ≡ l → e.most ≡ n →
       ending ≡ ending_of asked.save
       → setup_of e ending ≡ setup_by C l n asked

@@ -1,4 +1,4 @@
--- What the program did, from what the steps up to the run and the save after it did.
+-- What the program did, by what the steps up to the run did, and by what the save after it did.
 use Rattle.std.proofs.Common.{◌≡◌, ℕ, List, refl, Option, Some, None, Result, Ok, Err, IfSome, IfErr, OnOk, ◌⊎◌, inl, inr}
 use Rattle.giop_sig.specs.Table.{Table}
 use Rattle.giop_message.specs.Signatures.{RequestTable}
@@ -15,7 +15,7 @@ use Rattle.giop_run.specs.declared.fault.RunFault.TheVariants as fault
 use Rattle.giop_run.specs.declared.fault.ProgramFault.{ProgramFault}
 use Rattle.giop_run.specs.declared.fault.ProgramFault.TheVariants as faults
 
--- no step before the run fails with these
+-- no step before the run fails with these two faults
 not_unwritable : (held : Folder) (refuses : Refusals) (asked : Asked) (name : _) →
     Refused held refuses asked (faults.Unwritable name) → ⊥
 not_unwritable held refuses asked name (inl q) = q
@@ -66,7 +66,8 @@ perform_run t C l r x y of by d = record {
   dumped = d;
 }
 
--- what the program did, by what the run did with a catalogue and a list, and the save after it
+-- what the program did, by what the run did with a catalogue and a request list, and by what the
+-- save after it did
 pub did_by : (t : Task) (C : Table) (l : RequestTable) (ran : Result Report ProgramFault)
     (result : Result Totals ProgramFault)
     (x y : _) (a b : Option (List Saved)) → AreOf C l → ReadsBy t.held t.asked C l
@@ -109,7 +110,7 @@ did_by t C l (Err why) result x y a b of by d r u s k =
     performed_by None d = tt
     performed_by (Some r) d = perform_run t C l r x y of by d
 
--- the last step succeeds only where the run did
+-- the last step succeeds only if the run did
 pub kept_ok : (asked : Option (List ℕ)) (ran : Result Report ProgramFault)
     (result : Result Totals ProgramFault)
     (a b : Option (List Saved)) (P : Type 0) → Kept asked ran result a b → OnOk ran P →

@@ -1,4 +1,4 @@
--- What the command line arguments ask for, with the names in them as texts (meaning).
+-- What the words of the command line ask for, with the names in them as texts (meaning).
 use Rattle.std.specs.Prelude.{option_map}
 use Rattle.giop_run.specs.Files.{Asked, latest}
 use Rattle.giop_program.specs.declared.arguments.Arguments.{Arguments}

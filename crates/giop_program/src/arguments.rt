@@ -1,4 +1,4 @@
-//! The program's arguments: which files it reads and saves, and how many messages may be open (docs/FORMATS.md, The
+//! The program's arguments: the files that it reads and saves, and how many messages may be open (docs/FORMATS.md, The
 //! program).
 
 ghost use Rattle.std.specs.Prelude.{◌≡◌, ◌≤◌, ℕ, Some, None};
@@ -10,7 +10,7 @@ use giop_run::marked;
 use giop_stream::MOST_OPEN;
 use std::alloc::{AllocError, Global};
 
-/// How many messages may be open where no argument gives it.
+/// How many messages may be open if no argument says it.
 const DEFAULT_OPEN: u32 = 16;
 
 const ABOUT: &str = "Dumps one direction of a GIOP connection, one text line per value";
@@ -56,22 +56,22 @@ A stream in parts is dumped one after the other, with the same two files:
 FORMATS.md has every line, fault and status, and SIGNATURES.md says how IDL becomes a signature file (docs/ of the
 sources, /usr/share/doc/giopdump/docs of the package).";
 
-/// What the arguments ask for: each file by its name; no name has a special meaning.
+/// What the arguments ask for. Each file is given by its name; no name has a special meaning.
 #[derive(Clone, Copy, Debug, Drop, PartialEq, Eq)]
 pub struct Arguments<'a> {
-    /// The signature file; None for the built-in types alone.
+    /// The signature file. If there is none, only the built-in types are known.
     pub signatures: Option<&'a str>,
     /// Whether that file may be of version 3.
     pub third: bool,
-    /// The request list; None for the empty list.
+    /// The request list. If there is none, the list is empty.
     pub requests: Option<&'a str>,
-    /// The checkpoint from which the stream is read on; None for a new stream.
+    /// The checkpoint from which the stream is read on. If there is none, the stream is new.
     pub resume: Option<&'a str>,
-    /// The file that a checkpoint is saved in; None where the stream is finished.
+    /// The file that a checkpoint is saved in. If there is none, the stream is finished.
     pub save: Option<&'a str>,
-    /// How many messages of a new stream may be open at once.
+    /// The greatest number of open messages for a new stream.
     pub most: u32,
-    /// The file with the stream's octets; None for standard input.
+    /// The file with the stream's octets. If there is none, they come from standard input.
     pub stream: Option<&'a str>,
     ghost range: { (1 ≤ most) × (most ≤ most_open) },
 }
@@ -84,7 +84,7 @@ fn file_option<'a>(alloc: Global, name: &'a str, help: &'a str) -> Arg<'a> {
         .help(help)
 }
 
-/// The option that takes how many messages may be open; 16 without it.
+/// The option for the greatest number of open messages; 16 if it isn't given.
 fn open_option<'a>(alloc: Global) -> Arg<'a> {
     Arg::new(alloc, "open")
         .long("open")
@@ -110,10 +110,10 @@ fn command<'a>(alloc: Global) -> Result<Command<'a>, AllocError> {
 }
 
 impl<'a> Arguments<'a> {
-    /// Parses the arguments, the first of which is the program's name. An `Err` has the text to print and the status,
-    /// also for `--help` and `--version`, which have status 0.
+    /// Parses the arguments. The first word is the program's name. An `Err` has the text to print and the status. It is
+    /// also the answer to `--help` and `--version`, with status 0.
     pub fn read(alloc: Global, words: &'a [String]) -> Result<Arguments<'a>, Error> {
-        // What is wrong with the words is said of marked ones.
+        // If something is wrong with the words, the error's text is made of the marked words.
         command(alloc)?.try_get_matches_from(marked(alloc, words)?.as_slice())?;
         let matches = command(alloc)?.try_get_matches_from(words)?;
         let types = matches.get_str("types");
@@ -129,7 +129,7 @@ impl<'a> Arguments<'a> {
     }
 }
 
-/// How many messages may be open, by the argument for it, of which `clap` has checked the range.
+/// The greatest number of open messages, by the argument for it. `clap` has checked its range.
 fn most_of(word: Option<u32>) -> u32
     ensures range { (1 ≤ result) × (result ≤ most_open) }
     ensures word { (n : ℕ) → word ≡ Some n → 1 ≤ n → n ≤ most_open → result ≡ n }

@@ -1,4 +1,4 @@
-//! The program without its `main`: its arguments, and the steps from them to a status.
+//! The program `giopdump` without its `main`: its arguments, and the steps from them to a status.
 #![tactic(auto)]
 
 mod arguments;

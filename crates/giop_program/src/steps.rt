@@ -1,5 +1,5 @@
-//! The program's steps: arguments, signatures, requests, checkpoint, the opening of the stream, the run, the save. The
-//! first that fails determines the status.
+//! The program's steps: it reads the arguments, the signatures, the requests and the checkpoint, opens the stream, runs,
+//! and saves. The first step that fails decides the status.
 
 ghost use Rattle.std.specs.Prelude.{◌≡◌, ◌≢◌, ◌≤◌, ◌⊎◌, ℕ, List, [], false, Option, None, Some, IfSome, IfOk, IfErr, OnOk, option_map};
 ghost use Rattle.giop_stream.specs.Checkpoint.{counts_of};
@@ -19,7 +19,7 @@ use giop_run::{
 use giop_sig::{Catalogue, Requests};
 use giop_stream::{Engine, Totals};
 
-/// The program's name, which stands in front of what it says on standard error.
+/// The program's name, with which each message on standard error begins.
 const PROGRAM: &str = "giopdump";
 
 /// Runs the program, and returns its status.
@@ -36,7 +36,7 @@ pub fn program(rt: &HostRuntime) -> u8
     }
 }
 
-/// The steps after the arguments, with the lines on standard output; returns the program's status.
+/// Takes the steps after the arguments, with the lines on standard output. Returns the program's status.
 fn print_run(rt: &HostRuntime, asked: Arguments) -> u8
     ensures { result ≤ 5 }
 {
@@ -47,7 +47,7 @@ fn print_run(rt: &HostRuntime, asked: Arguments) -> u8
     report_outcome(rt, &perform_run(rt, asked, &mut lines, &mut files))
 }
 
-/// The steps after the arguments.
+/// Takes the steps after the arguments.
 pub fn perform_run<'a, R: Inputs + AllocGlobal, O: Flush, F: Saves>(
     rt: &R,
     asked: Arguments<'a>,
@@ -63,7 +63,7 @@ pub fn perform_run<'a, R: Inputs + AllocGlobal, O: Flush, F: Saves>(
     run_by_catalogue(rt, asked, out, files, &catalogue)
 }
 
-/// The steps after the signature file.
+/// Takes the steps after the signature file.
 fn run_by_catalogue<'a, R: Inputs + AllocGlobal, O: Flush, F: Saves>(
     rt: &R,
     asked: Arguments<'a>,
@@ -82,7 +82,7 @@ fn run_by_catalogue<'a, R: Inputs + AllocGlobal, O: Flush, F: Saves>(
     run_and_save(rt, asked, out, files, catalogue, &requests)
 }
 
-/// The steps after the request list, up to the save of the engine that the run has kept.
+/// Takes the steps after the request list, up to saving the engine that the run has kept.
 fn run_and_save<'a, R: Inputs + AllocGlobal, O: Flush, F: Saves>(
     rt: &R,
     asked: Arguments<'a>,
@@ -102,7 +102,7 @@ fn run_and_save<'a, R: Inputs + AllocGlobal, O: Flush, F: Saves>(
     kept(files, asked.save, &report)
 }
 
-/// The checkpoint, the opening of the stream, and the run.
+/// Loads the checkpoint, opens the stream, and runs.
 fn begin_run<'a, 'c, R: Inputs + AllocGlobal, O: Flush>(
     rt: &R,
     asked: Arguments<'a>,
@@ -135,7 +135,7 @@ fn begin_run<'a, 'c, R: Inputs + AllocGlobal, O: Flush>(
     }
 }
 
-/// How a run ends: its engine is kept where a file for its checkpoint is named.
+/// How a run ends: its engine is kept if a file for its checkpoint is named.
 fn ending_for(save: Option<&str>) -> Ending
     ensures { result ≡ ending_of (option_map (λ name. name.now) save.entry) }
 {
@@ -145,7 +145,7 @@ fn ending_for(save: Option<&str>) -> Ending
     }
 }
 
-/// Opens the stream, a file or standard input, and runs the engine on it.
+/// Opens the file of the stream, and runs the engine on it.
 fn open_stream<'a, 'c, R: Inputs, O: Flush>(
     rt: &R,
     name: &'a str,
@@ -170,7 +170,7 @@ fn open_stream<'a, 'c, R: Inputs, O: Flush>(
     }
 }
 
-/// Runs the engine on what a source gives, of which nothing was read.
+/// Runs the engine on the octets of a source, from the source's beginning.
 fn dumped<'a, 'c, S: Source + Drop, O: Flush>(
     source: S,
     out: &mut O,
@@ -193,7 +193,7 @@ fn dumped<'a, 'c, S: Source + Drop, O: Flush>(
     }
 }
 
-/// Saves the checkpoint of the engine that a run has kept in the file that was asked for.
+/// Saves the checkpoint of the engine that a run has kept, in the file that the arguments name.
 fn kept<'a, F: Saves>(
     files: &mut F,
     save: Option<&'a str>,

@@ -1,4 +1,5 @@
-//! What a row gives of its checkpoints, one after each of 0, 1, 2, .. octets of its stream: their lengths and a hash.
+//! What a row says about its checkpoints: their lengths and a hash. There is a checkpoint after 0, 1, 2, .. octets of the
+//! row's stream.
 
 use super::early::times;
 use std::alloc::Global;
@@ -6,7 +7,7 @@ use std::alloc::Global;
 /// The hash of no octets.
 pub const NO_OCTETS: u32 = 0x811c_9dc5;
 
-/// How long the checkpoints of a row are, and the hash of their fixed parts, one after the other.
+/// The lengths of a row's checkpoints, and the hash of their fixed parts one after another.
 #[derive(Drop)]
 pub struct Checkpoints {
     pub lengths: Vec<usize>,
@@ -14,8 +15,8 @@ pub struct Checkpoints {
 }
 
 impl Checkpoints {
-    /// Parses a text: the hash in hexadecimal digits, and the lengths, each perhaps with `*` and a number after it.
-    /// `None` for another text, and for lack of memory.
+    /// Parses a text: the hash in hexadecimal digits, and then the lengths. `*` and a number may follow a length. `None` if
+    /// the text is another one, or if there isn't enough memory.
     pub fn read(alloc: Global, text: &str) -> Option<Checkpoints> {
         let (hash, words) = text.split_once(' ')?;
         let mut lengths = Vec::new(alloc);
@@ -37,7 +38,7 @@ fn push(lengths: &mut Vec<usize>, length: usize, count: usize) -> Option<()> {
     Some(())
 }
 
-/// The hash of some octets after others that have this hash (FNV-1a, of 32 bits).
+/// The hash of octets that come after others with this hash (FNV-1a, of 32 bits).
 pub fn hashed(hash: u32, octets: &[u8]) -> u32 {
     let mut hash = hash;
     for octet in octets {

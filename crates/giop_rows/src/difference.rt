@@ -1,4 +1,4 @@
-//! What differs between the lines and the status that a row gives, and those of a dump.
+//! What differs between the lines and the status that a row wants, and those of a dump.
 
 use giop_stream::LoadFault;
 use std::fmt;
@@ -17,22 +17,22 @@ pub enum Difference<'w, 'g> {
         wanted: u8,
         got: u8,
     },
-    /// The length of the checkpoint after so many octets.
+    /// The length of the checkpoint after this number of octets.
     Length {
         at: usize,
         wanted: usize,
         got: usize,
     },
-    /// Why the checkpoint after so many octets is refused.
+    /// Why the checkpoint after this number of octets is refused.
     Refused {
         at: usize,
         why: LoadFault,
     },
-    /// The octet at this place of what is saved.
+    /// The octet at this index of what is saved.
     Saved {
         at: usize,
     },
-    /// What a checkpoint leads to of which the octet at this place is complemented.
+    /// What a checkpoint leads to if its octet at this index is complemented.
     Outcome {
         at: usize,
         wanted: &'w str,
@@ -79,7 +79,7 @@ impl fmt::Display for Difference<'_, '_> {
     }
 }
 
-/// Compares the lines that are wanted, without the last line feed, and the status, with those of a dump.
+/// Compares the lines that are wanted, without the last line feed, and the status with those of a dump.
 pub fn compare<'w, 'g>(
     wanted: &'w str,
     wanted_status: u8,
@@ -99,7 +99,7 @@ pub fn compare<'w, 'g>(
     None
 }
 
-/// Whether a text is these lines, which are given without the last line feed.
+/// Whether a text is these lines. They are given without the last line feed.
 fn is_same(wanted: &str, got: &str) -> bool {
     if wanted.is_empty() {
         return got.is_empty();
@@ -107,8 +107,8 @@ fn is_same(wanted: &str, got: &str) -> bool {
     got.strip_suffix('\n') == Some(wanted)
 }
 
-/// Compares the lines that are wanted with those that were written up to a put that failed: a front of them, the last one
-/// perhaps cut, and the status of a run that failed.
+/// Compares the lines that are wanted with those that were written before a put failed, and the status with the status of a
+/// run that failed. What was written must be a front of the lines; the last line may be cut.
 pub fn compare_front<'w, 'g>(
     wanted: &'w str,
     written: &'g [u8],
@@ -127,7 +127,7 @@ pub fn compare_front<'w, 'g>(
     None
 }
 
-/// The first line in which two texts differ, or the first one after the end of one of them.
+/// The first line in which two texts differ, or the first line after the end of one of them.
 fn first_line<'w, 'g>(wanted: &'w str, got: &'g str) -> Difference<'w, 'g> {
     let mut number = 1usize;
     let mut left = got.split('\n');

@@ -1,23 +1,23 @@
-//! What is written where the stream of a row ends before its last octet.
+//! What is written if the stream of a row ends before its last octet.
 
 use std::alloc::Global;
 
-/// What is written where the stream ends after so many octets: how many of the row's lines, and which closing.
+/// What is written if the stream ends after some of its octets: how many of the row's lines, and which closing.
 #[derive(Clone, Copy)]
 pub struct Early<'a> {
-    /// The lines of the octets up to there.
+    /// How many lines the octets until then have.
     pub lines: usize,
     messages: &'a str,
     faults: &'a str,
     is_truncated: bool,
-    /// The numbers of the messages that are unfinished, between commas.
+    /// The numbers of the messages that are unfinished, with commas between them.
     unfinished: &'a str,
-    /// The octets that are counted, where these are fewer, as the stream has stopped before.
+    /// The number of octets that is counted, if it is smaller because the stream has stopped before.
     octets: Option<&'a str>,
 }
 
 impl<'a> Early<'a> {
-    /// Parses a word; also returns for how many octets of the stream, one after the other, it holds.
+    /// Parses a word. Also returns how many ends of the stream, one octet after another, the word holds for.
     pub fn read(word: &'a str) -> Option<(Early<'a>, usize)> {
         let (word, count) = times(word)?;
         let (word, octets) = split(word, '@');
@@ -39,7 +39,7 @@ impl<'a> Early<'a> {
         Some((early, count))
     }
 
-    /// What is written of a stream with these lines where it ends after so many octets, without the last line feed.
+    /// What is written of a stream with these lines if it ends after this number of octets, without the last line feed.
     pub fn text(&self, alloc: Global, lines: &str, at: usize) -> Option<String> {
         let mut text = self.front(alloc, lines)?;
         if self.is_truncated {
@@ -57,7 +57,7 @@ impl<'a> Early<'a> {
         Some(text)
     }
 
-    /// The lines of the octets up to there.
+    /// The lines of the octets until then.
     pub fn front(&self, alloc: Global, lines: &str) -> Option<String> {
         let mut text = String::new(alloc);
         for line in lines.split('\n').take(self.lines) {
@@ -66,7 +66,7 @@ impl<'a> Early<'a> {
         Some(text)
     }
 
-    /// Whether the stream has a stream fault up to there, so that no more of it is read.
+    /// Whether the stream has a stream fault until then, so that no more of it is read.
     pub fn is_stopped(&self, lines: &str) -> bool {
         let Some(last) = self.lines.checked_sub(1) else {
             return false;
@@ -90,7 +90,7 @@ fn unfinished(text: &mut String, number: &str) -> Option<()> {
     writeln!(text, "m{number} unfinished").ok()
 }
 
-/// The word before `*` and a number, with that number; a word alone counts once.
+/// The word before `*` and a number, and that number. The number of a word alone is 1.
 pub fn times(word: &str) -> Option<(&str, usize)> {
     match word.split_once('*') {
         Some((word, count)) => Some((word, count.parse().ok()?)),
@@ -98,7 +98,7 @@ pub fn times(word: &str) -> Option<(&str, usize)> {
     }
 }
 
-/// What is before a letter in a word, and what is after it, where the word has that letter.
+/// The part of a word before a letter, and the part after it, if the word has the letter.
 fn split(word: &str, letter: char) -> (&str, Option<&str>) {
     match word.split_once(letter) {
         Some((front, behind)) => (front, Some(behind)),

@@ -1,4 +1,4 @@
-//! Makes the engine of a row.
+//! How the engine of a row is made.
 
 ghost use Rattle.std.specs.Prelude.{IfOk, ◌≡◌, false};
 ghost use Rattle.giop_stream.specs.EngineHolds.{AreOf};
@@ -8,7 +8,7 @@ use giop_stream::{Engine, MOST_OPEN};
 use std::alloc::Global;
 use std::io;
 
-/// A new engine, for as many open messages as are asked for, 1 to 4,096.
+/// Makes a new engine for this number of open messages, 1 to 4,096.
 pub fn engine_for<'a>(
     alloc: Global,
     catalogue: &'a Catalogue,

@@ -1,10 +1,10 @@
-//! Readers and writers that fail, or take little at a time.
+//! Readers and writers that fail, or that take only a few octets at a time.
 
 use giop_print::{Sheet, put_all};
 use std::io;
 use std::io::{ErrorKind, Read, Write};
 
-/// A reader of these octets, which ends or fails after them.
+/// A reader of these octets. After them it ends or fails.
 #[derive(Drop)]
 pub struct Octets<'a> {
     left: &'a [u8],
@@ -38,7 +38,7 @@ impl Read for Octets<'_> {
     }
 }
 
-/// A writer that takes at most so many octets a write, and fails once it took a number of writes.
+/// A writer that takes at most `width` octets at each write, and fails after `writes` writes.
 #[derive(Drop)]
 pub struct Narrow<'a, 's> {
     sheet: &'a mut Sheet<'s>,
@@ -47,7 +47,7 @@ pub struct Narrow<'a, 's> {
 }
 
 impl<'a, 's> Narrow<'a, 's> {
-    /// A writer to a sheet.
+    /// Makes a writer to a sheet.
     pub fn new(sheet: &'a mut Sheet<'s>, width: usize, writes: usize) -> Narrow<'a, 's> {
         Narrow {
             sheet,

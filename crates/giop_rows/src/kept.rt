@@ -1,22 +1,22 @@
-//! Parses what a row of a checkpoint has in the place of a stream.
+//! What a row of a checkpoint has in place of a stream, parsed.
 
 use super::row::named;
 
-/// The parts of a row of a checkpoint, octets in hexadecimal text.
+/// The parts of a row of a checkpoint. Octets are in hexadecimal text.
 #[derive(Clone, Copy)]
 pub struct Kept<'a> {
-    /// The octets that were read before it was saved; empty where it isn't saved again.
+    /// The octets that were read before the checkpoint was saved. It is empty if it isn't saved again.
     pub front: &'a str,
     /// The octets of the checkpoint.
     pub checkpoint: &'a str,
-    /// What it leads to where one octet of it is complemented; perhaps nothing.
+    /// What the checkpoint leads to if one of its octets is complemented. It may be empty.
     pub damaged: &'a str,
-    /// The octets that follow in the stream; empty where the checkpoint is refused.
+    /// The octets that follow in the stream. It is empty if the checkpoint is refused.
     pub behind: &'a str,
 }
 
 impl<'a> Kept<'a> {
-    /// Parses the text; `None` for that of a stream.
+    /// Parses the text. Returns `None` if the text is the text of a stream.
     pub fn read(text: &'a str) -> Option<Kept<'a>> {
         let (front, text) = named(text, "front ");
         let text = text.strip_prefix("checkpoint\n")?;
@@ -31,8 +31,8 @@ impl<'a> Kept<'a> {
     }
 }
 
-/// The first of the places at which the octet is complemented, the place after the last, and what that may lead to, with
-/// ` or ` between two.
+/// The first index at which the octet is complemented, the index after the last one, and what that may lead to, with ` or `
+/// between two.
 pub fn complement(text: &str) -> Option<(usize, usize, &str)> {
     let (first, rest) = text.split_once("..")?;
     let (last, wanted) = rest.split_once(' ')?;

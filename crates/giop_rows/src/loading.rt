@@ -1,4 +1,4 @@
-//! Dumps a row with one save and load, after each of its octets in turn.
+//! How a row is dumped with a single save and load, after each of its octets in turn.
 
 ghost use Rattle.giop_stream.specs.EngineHolds.{AreOf};
 
@@ -13,7 +13,7 @@ use giop_stream::Engine;
 use std::alloc::Global;
 use std::{fmt, io};
 
-/// The name of the way in which a row is saved and loaded after so many octets.
+/// The name of the way in which a row is saved and loaded after this number of octets.
 #[derive(Clone, Copy)]
 struct Loaded(usize);
 
@@ -23,7 +23,7 @@ impl fmt::Display for Loaded {
     }
 }
 
-/// Cuts a row in two at each of its octets, and saves and loads it there.
+/// Cuts a row in two after each of its octets, and saves and loads it there.
 pub fn is_loaded(
     rt: &HostRuntime,
     catalogue: &Catalogue,
@@ -66,7 +66,8 @@ fn is_loaded_at(
     is_as_told(rt, row, &Loaded(at), sheet.held(), status)
 }
 
-/// Feeds so many octets to a new engine, and the others to one loaded from its checkpoint; returns the status.
+/// Feeds this number of octets to a new engine, and the other octets to one that is loaded from its checkpoint. Returns the
+/// status.
 fn resumed(
     alloc: Global,
     engine: Engine,

@@ -1,4 +1,4 @@
-//! Loads the checkpoint of a row and reads on, saves it again, and complements each of its octets.
+//! How the checkpoint of a row is loaded and read on from, saved again, and loaded with each of its octets complemented.
 
 ghost use Rattle.giop_stream.specs.EngineHolds.{AreOf};
 
@@ -14,10 +14,10 @@ use giop_stream::{Engine, LoadFault};
 use std::alloc::Global;
 use std::io;
 
-/// The status of the program where a checkpoint is refused.
+/// The status of the program if a checkpoint is refused.
 pub const REFUSED: u8 = 3;
 
-/// The names of what is tried.
+/// The names of the ways in which a checkpoint is tried.
 const LOADED: &str = "loaded";
 
 const SAVED: &str = "saved";
@@ -26,7 +26,7 @@ const SAVED_AGAIN: &str = "loaded and saved";
 
 const DAMAGED: &str = "damaged";
 
-/// Tries a checkpoint in each way, up to the first in which it differs, which is printed.
+/// Tries a checkpoint in each way, up to the first way in which it differs. The difference is printed.
 pub fn is_resumed(
     rt: &HostRuntime,
     catalogue: &Catalogue,
@@ -42,7 +42,7 @@ pub fn is_resumed(
     }
 }
 
-/// Tries a checkpoint, after which these octets follow.
+/// Tries a checkpoint, with these octets after it.
 fn is_followed(
     rt: &HostRuntime,
     catalogue: &Catalogue,
@@ -71,7 +71,7 @@ fn is_followed(
     )
 }
 
-/// Loads the checkpoint and reads on, and compares the lines and the status, or the refusal.
+/// Loads the checkpoint and reads on. Compares the lines and the status, or the refusal.
 fn is_loaded(
     rt: &HostRuntime,
     catalogue: &Catalogue,
@@ -97,7 +97,7 @@ fn is_loaded(
     }
 }
 
-/// Loads a checkpoint and reads these octets and the stream's end; returns the status.
+/// Loads a checkpoint, and reads these octets and the stream's end. Returns the status.
 fn resumed(
     alloc: Global,
     catalogue: &Catalogue,
@@ -113,7 +113,7 @@ fn resumed(
     Ok(ended(engine, sheet))
 }
 
-/// The line of a refused checkpoint.
+/// The line for a checkpoint that is refused.
 fn refusal(why: LoadFault) -> &'static str {
     match why {
         LoadFault::Magic => "refused magic\n",
@@ -125,7 +125,7 @@ fn refusal(why: LoadFault) -> &'static str {
     }
 }
 
-/// Saves an engine that has read these octets, and one that was loaded, where the row says what was read.
+/// If the row says what was read before: saves an engine that has read these octets, and the engine that is loaded.
 fn is_saved_of(
     rt: &HostRuntime,
     catalogue: &Catalogue,
@@ -186,7 +186,7 @@ fn is_saved(
     }
 }
 
-/// The first place at which two texts differ, or at which one of them ends.
+/// The first index at which two texts differ, or at which one of them ends.
 fn first_other(wanted: &[u8], got: &[u8]) -> Option<usize> {
     match wanted
         .iter()
@@ -235,7 +235,7 @@ fn is_damaged(
     Ok(true)
 }
 
-/// Complements the octets at these places, one after the other, each of which may lead to the same.
+/// Complements the octets at these indices, one after another. Each may lead to the same.
 fn is_damaged_at(
     rt: &HostRuntime,
     catalogue: &Catalogue,
@@ -265,7 +265,7 @@ fn is_damaged_at(
     Ok(true)
 }
 
-/// What a checkpoint leads to: its refusal, `lines` where an engine reads on to the end, or `failed` where it doesn't.
+/// What a checkpoint leads to: its refusal, or `lines` if an engine reads on to the end, or `failed` if it doesn't.
 fn outcome(
     alloc: Global,
     catalogue: &Catalogue,

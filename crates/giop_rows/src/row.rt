@@ -1,10 +1,9 @@
-//! Parses the text of a row.
+//! The text of a row, parsed.
 
 use std::alloc::Global;
 
-/// A row: its name, the status of the program, how many messages may be open, what is written where its stream ends
-/// early (or nothing), its checkpoints (or nothing), the octets in hexadecimal text, and the lines without the last
-/// line feed.
+/// A row: its name, the status of the program, how many messages may be open, what is written if its stream ends early (may
+/// be empty), its checkpoints (may be empty), the octets in hexadecimal text, and the lines without the last line feed.
 #[derive(Clone, Copy)]
 pub struct Row<'a> {
     pub name: &'a str,
@@ -38,7 +37,7 @@ impl<'a> Row<'a> {
     }
 }
 
-/// How many messages may be open by this word; 16 where it is empty.
+/// How many messages may be open, by this word; 16 if it is empty.
 fn most_of(word: &str) -> Option<u32> {
     if word.is_empty() {
         return Some(16);
@@ -46,8 +45,8 @@ fn most_of(word: &str) -> Option<u32> {
     word.parse().ok()
 }
 
-/// What follows a name in the first line of a text, and the other lines. An empty text and the whole one, where the
-/// first line doesn't begin with the name.
+/// What follows a name in the first line of a text, and the other lines. If the first line doesn't begin with the name: an
+/// empty text, and the whole text.
 pub fn named<'a>(text: &'a str, name: &str) -> (&'a str, &'a str) {
     let Some(behind) = text.strip_prefix(name) else {
         return ("", text);
@@ -55,7 +54,8 @@ pub fn named<'a>(text: &'a str, name: &str) -> (&'a str, &'a str) {
     behind.split_once('\n').unwrap_or((behind, ""))
 }
 
-/// The octets of hexadecimal text, with spaces and line feeds anywhere. `None` for another text and without memory.
+/// The octets of hexadecimal text, with spaces and line feeds anywhere. `None` if the text is no such text, or if there
+/// isn't enough memory.
 pub fn octets(alloc: Global, text: &str) -> Option<Vec<u8>> {
     let mut octets = Vec::new(alloc);
     let mut high = None;
@@ -63,7 +63,7 @@ pub fn octets(alloc: Global, text: &str) -> Option<Vec<u8>> {
         let digit = digit.to_digit(16)?;
         match high.take() {
             None => high = Some(digit),
-            // A digit is below 16; the remainders show that to the check.
+            // A digit is below 16. The remainders show that to the checker.
             Some(first) => octets.push((first % 16 * 16 + digit % 16) as u8).ok()?,
         }
     }

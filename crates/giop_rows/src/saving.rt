@@ -1,4 +1,4 @@
-//! Dumps a row with a save and a load after each of its octets, and compares the checkpoints.
+//! How a row is dumped with a save and a load after each of its octets, and how its checkpoints are compared.
 
 ghost use Rattle.giop_stream.specs.EngineHolds.{AreOf};
 
@@ -19,7 +19,7 @@ const WAY: &str = "saved and loaded behind each octet";
 /// How many octets a checkpoint's fixed part has.
 const FIXED: usize = 96;
 
-/// Saves a row after each of its octets, where it gives its checkpoints, and loads what was saved.
+/// If a row gives its checkpoints: saves it after each of its octets, and loads what was saved.
 pub fn is_saved(
     rt: &HostRuntime,
     catalogue: &Catalogue,
@@ -40,7 +40,7 @@ pub fn is_saved(
     }
 }
 
-/// Saves and loads a row after each of its octets, up to the first checkpoint that differs, which is printed.
+/// Saves and loads a row after each of its octets, up to the first checkpoint that differs. The difference is printed.
 fn is_saved_as_told(
     rt: &HostRuntime,
     catalogue: &Catalogue,
@@ -73,9 +73,9 @@ fn is_saved_as_told(
     }
 }
 
-/// Feeds a stream octet by octet to a new engine, which is saved and loaded before each octet and at the end, and
-/// returns the last engine; or the first checkpoint of another length, of more than `most` octets, or that is refused;
-/// or that the hash of the fixed parts differs.
+/// Feeds a stream octet by octet to a new engine. The engine is saved and loaded before each octet and at the end. Returns
+/// the last engine; or the first checkpoint that has another length, has more than `most` octets, or is refused; or that
+/// the hash of the fixed parts differs.
 fn saved<'a>(
     alloc: Global,
     engine: Engine<'a>,
@@ -115,24 +115,24 @@ fn saved<'a>(
     })
 }
 
-/// The greatest length of a checkpoint with types of this depth, where so many messages may be open.
+/// The greatest length of a checkpoint with types of this depth, if this number of messages may be open.
 fn most(open: u32, depth: u8) -> usize {
     let records = (open as usize).min(4096) + 1;
     FIXED + records * (256 + 24 * usize::from(depth))
 }
 
-/// The first so many octets.
+/// The first octets, at most `length` of them.
 fn front(octets: &[u8], length: usize) -> &[u8] {
     octets.split_at(length.min(octets.len())).0
 }
 
-/// The octet after so many others, alone; empty at the end of the stream.
+/// The single octet after this number of others. It is empty at the end of the stream.
 fn octet(stream: &[u8], at: usize) -> &[u8] {
     let (_, left) = stream.split_at(at.min(stream.len()));
     left.split_at(left.len().min(1)).0
 }
 
-/// Finishes an engine; returns the status of the program.
+/// Finishes an engine. Returns the status of the program.
 pub fn ended(engine: Engine, sheet: &mut Sheet) -> u8 {
     match engine.finish(sheet) {
         Ok(totals) if totals.faults == 0 => 0,

@@ -1,6 +1,6 @@
 //! Counts the rows, and those that differ.
 
-/// How many rows there were, and how many of them differ.
+/// The number of rows, and how many of them differ.
 #[derive(Clone, Copy)]
 pub struct Tally {
     pub rows: u64,
@@ -8,7 +8,7 @@ pub struct Tally {
 }
 
 impl Tally {
-    /// No row yet.
+    /// Makes a tally without rows.
     pub fn new() -> Tally {
         Tally { rows: 0, differ: 0 }
     }

@@ -1,4 +1,4 @@
-//! Reads the sets of rows, dumps each row, and prints whether it differs.
+//! How the sets of rows are read, each row is dumped, and it is printed whether the row differs.
 
 ghost use Rattle.giop_stream.specs.EngineHolds.{AreOf};
 
@@ -11,7 +11,7 @@ use giop_sig::{Catalogue, Requests, SigFault};
 use std::alloc::Global;
 use std::io;
 
-/// Prints for each row whether it is dumped as expected, and at the end how many there were.
+/// Prints for each row whether it is dumped as expected, and at the end how many rows there were.
 pub fn tell(rt: &HostRuntime, text: &str, tally: &mut Tally) -> io::Result<()> {
     for set in text.strip_suffix('\n').unwrap_or("").split("\n=\n") {
         tell_set(rt, set, tally)?;
@@ -38,7 +38,7 @@ fn unread(rt: &HostRuntime, why: &str, text: &str, tally: &mut Tally) -> io::Res
     println!(rt; "{why}:\n{text}")
 }
 
-/// The catalogue of a signature file; of the built-in types alone where there is none.
+/// The catalogue of a signature file, or of the built-in types if there is none.
 fn catalogue_of(alloc: Global, text: &str) -> Result<Catalogue, SigFault> {
     if text.is_empty() {
         return Catalogue::builtin(alloc);
@@ -126,7 +126,7 @@ fn tell_stream(
     told(rt, row.name, is_as_told)
 }
 
-/// Prints a row that is as expected; one that differs was printed already.
+/// Prints a row that is as expected. A row that differs was printed already.
 fn told(rt: &HostRuntime, name: &str, is_as_told: bool) -> io::Result<()> {
     if is_as_told {
         println!(rt; "ok {name}")?;

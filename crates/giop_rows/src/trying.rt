@@ -1,4 +1,4 @@
-//! Dumps a row in every way: whole, in pieces, ended early, to outs that fail, saved and loaded.
+//! How a row is dumped in every way: whole, in pieces, ended early, to outs that fail, and saved and loaded.
 
 ghost use Rattle.giop_stream.specs.EngineHolds.{AreOf};
 
@@ -16,7 +16,7 @@ use giop_sig::{Catalogue, Requests};
 use giop_stream::{Engine, Totals};
 use std::{fmt, io};
 
-/// Dumps a row in every way, up to the first in which it differs, which is printed.
+/// Dumps a row in every way, up to the first way in which it differs. The difference is printed.
 pub fn is_dumped_each_way(
     rt: &HostRuntime,
     catalogue: &Catalogue,
@@ -46,7 +46,7 @@ pub fn is_dumped_each_way(
     )
 }
 
-/// Dumps a row in the ways that depend on a place, at each place.
+/// Dumps a row in the ways that depend on a number of octets, for each such number.
 fn is_dumped_cut(
     rt: &HostRuntime,
     catalogue: &Catalogue,
@@ -72,7 +72,7 @@ fn is_dumped_cut(
     Ok(true)
 }
 
-/// Ends the stream of a row after each of its octets, in the order in which the row gives what is written then.
+/// Ends the stream of a row after each of its octets, in the order in which the row says what is written then.
 fn is_dumped_early(
     rt: &HostRuntime,
     catalogue: &Catalogue,
@@ -101,7 +101,7 @@ fn is_dumped_early(
     Ok(true)
 }
 
-/// Ends the stream of a row at some places, one after the other, for which the same word gives what is written.
+/// Ends the stream of a row after several numbers of octets, for which one word says what is written.
 fn is_dumped_alike(
     rt: &HostRuntime,
     catalogue: &Catalogue,
@@ -139,7 +139,7 @@ fn is_dumped_alike(
     Ok(true)
 }
 
-/// Ends the stream of a row after so many octets.
+/// Ends the stream of a row after this number of octets.
 fn is_dumped_to(
     rt: &HostRuntime,
     engine: Engine,
@@ -159,7 +159,8 @@ fn is_dumped_to(
     is_dumped(rt, engine, &ended, stream, Way::Early(at))
 }
 
-/// Makes a read of the stream of a row fail after so many octets. A stream that has stopped there isn't read on.
+/// Makes a read of the stream of a row fail after this number of octets. If the stream has stopped by then, it isn't read
+/// on.
 fn is_dumped_up_to(
     rt: &HostRuntime,
     engine: Engine,
@@ -182,7 +183,7 @@ fn is_dumped_up_to(
     is_dumped(rt, engine, &broken, stream, Way::Broken(at))
 }
 
-/// Dumps a row to outs that fail at the first put, the second, and so on, up to a number of puts that isn't reached.
+/// Dumps a row to outs that fail at the first put, at the second, and so on, until no put fails any more.
 fn is_dumped_over_failing(
     rt: &HostRuntime,
     catalogue: &Catalogue,
@@ -213,7 +214,7 @@ fn is_dumped_over_failing(
 enum Failed {
     /// A front of the lines was written, and nothing after the put that failed.
     Rightly,
-    /// Other lines or another status, which is printed.
+    /// There were other lines or another status. This was printed.
     Wrongly,
     /// No put failed, and the lines of the row were written.
     Never,
@@ -267,7 +268,8 @@ fn is_dumped(
     is_as_told(rt, row, &way, sheet.held(), status_of(ended))
 }
 
-/// Dumps a stream in one way, to a writer to a sheet. All ways use one type of out, as the engine is compiled for each.
+/// Dumps a stream in one way, to a writer to a sheet. All ways use one type of out, because the engine is compiled for each
+/// type.
 fn dump(engine: Engine, stream: &[u8], way: Way, sheet: &mut Sheet) -> Result<Totals, RunFault> {
     let (width, puts) = way.puts();
     way.dump(
@@ -310,7 +312,7 @@ pub fn differs(
     Ok(false)
 }
 
-/// Prints an `early` or `checkpoints` line of a row that can't be read.
+/// Prints a text of a row that can't be read.
 pub fn malformed(rt: &HostRuntime, name: &str, text: &str) -> io::Result<bool> {
     println!(rt; "MALFORMED {name}: {text}")?;
     Ok(false)

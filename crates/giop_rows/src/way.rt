@@ -9,29 +9,29 @@ use std::fmt;
 /// A way of dumping a stream.
 #[derive(Clone, Copy)]
 pub enum Way {
-    /// One read gives all octets.
+    /// A single read gives all octets.
     Whole,
-    /// The first so many octets are fed, and the others are read by a run.
+    /// The first octets, this number of them, are fed, and the others are read by a run.
     Cut(usize),
-    /// Each read gives so many octets.
+    /// Each read gives this number of octets.
     Pieces(usize),
     /// The out takes one octet at each put.
     Narrow,
-    /// The stream ends after so many octets.
+    /// The stream ends after this number of octets.
     Early(usize),
-    /// A read fails after so many octets.
+    /// A read fails after this number of octets.
     Broken(usize),
-    /// A put fails after so many others.
+    /// A put fails after this number of puts.
     Failing(usize),
 }
 
 impl Way {
-    /// The ways that depend on a place, at this one.
+    /// The ways that depend on a number of octets, for this number.
     pub fn at(at: usize) -> [Way; 2] {
         [Way::Cut(at), Way::Pieces(at.saturating_add(1))]
     }
 
-    /// How many octets the out takes at each put, and how many puts.
+    /// The greatest number of octets that the out takes at each put, and the number of puts before it fails.
     pub fn puts(self) -> (usize, usize) {
         match self {
             Way::Narrow => (1, usize::MAX),
@@ -72,12 +72,12 @@ impl fmt::Display for Way {
     }
 }
 
-/// The first so many octets of a stream.
+/// The first octets of a stream, at most `at` of them.
 fn front(stream: &[u8], at: usize) -> &[u8] {
     stream.split_at(at.min(stream.len())).0
 }
 
-/// Runs a source to the stream's end; returns the totals.
+/// Runs a source to the stream's end. Returns the totals.
 fn finished<S: Source, O: Out>(
     source: &mut S,
     out: &mut O,
@@ -115,7 +115,7 @@ fn pieces<O: Out>(
     finished(&mut source, out, engine)
 }
 
-/// Feeds a stream. Where a put fails the engine is failed; it is then fed once more and finished, which must fail too.
+/// Feeds a stream. If a put fails, the engine has failed; then it is fed once more and finished, and both must fail.
 fn failing<O: Out>(engine: Engine, stream: &[u8], out: &mut O) -> Result<Totals, RunFault> {
     let mut engine = engine;
     match engine.feed(stream, out) {

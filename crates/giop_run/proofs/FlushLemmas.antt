@@ -1,4 +1,4 @@
--- What was written before a flush stays written after it; a flush that fails writes none of what
+-- What was written before a flush stays written after it. A flush that fails writes nothing of what
 -- was due.
 use Rattle.std.proofs.Common.{ℕ, List, [], Option, Some, None, ◌∙◌, append-nil, sym, arith}
 use Rattle.std.specs.Io.KnownBytes.{Appends, Keeps}

@@ -1,5 +1,5 @@
--- How a text that is said of marked words is shown in several calls through a `&mut`: `at` is what that refers to, and
--- `name` says which one it is.
+-- How a text about marked words is shown by several calls through a `&mut`. What the `&mut` refers
+-- to is `at`, and `name` tells which reference it is.
 use Rattle.std.proofs.Common.{◌≡◌, ℕ, List, [], ◌∷◌, sym, ◌∙◌, subst, rules, Option, None, Some, option_map, Result, Ok, Err, OnOk}
 use Rattle.std.proofs.lemmas.Grind.{flat_map-append}
 use Rattle.std.proofs.Output.{has_written_append, has_written_of_eq}
@@ -30,7 +30,7 @@ module _ {E W N : Type 0} (took : W → List ℕ → W → Type 0) (at : E → F
           rest.1 ∙ calls.1.1,
         )
 
-    -- how a text is shown whose octets may be known, once the loan ends
+    -- how a text whose octets may be known is shown after the loan has ended
     pub shown_on_ok : (text : Option (List ℕ)) (r : Result (Unit {0}) Error) (old new : E)
         (v : Formatter W) → (name new ≡ name old → v ≡ at new) →
         OnOk r (WritesText ShowsMarked old text new) →

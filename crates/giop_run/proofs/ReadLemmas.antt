@@ -1,4 +1,4 @@
--- What follows from the contract of a read for the octets that it gave.
+-- What the contract of a read says about the octets that the read gave.
 use Rattle.std.proofs.Common.{◌≡◌, ℕ, ◌+◌, ◌<◌, ◌≤◌, List, [], ◌++◌, length, take, length-take, suc, zero, ◌∷◌, get_or, refl, sym, ap, ◌∙◌, append_assoc, Option, Some, None, arith}
 use Rattle.std.specs.Io.KnownBytes.{Consumes, Keeps}
 use Rattle.std.proofs.lemmas.Bool.{eq-eqb, ne_eqb, lt-ltb}
@@ -36,7 +36,7 @@ read_none a b f =
       reads = f.reads;
     }
 
--- a read of 0 into some room is the end
+-- if a read returns 0 and there was room, the source is at its end
 pub read_end : (a b : SourceLog) (into : List ℕ) (n : ℕ) → Gave a b into n → n ≡ 0 →
     0 < length into → OneRead [] a b × IsEnded a b
 read_end a b into n g z some =
@@ -52,7 +52,7 @@ read_end a b into n g z some =
       record { answered = g.ends ∙ rw (t1, t2) refl; none = g.over z some },
     )
 
--- a read of some octets gave no more than there was room for
+-- if a read gave octets, they are no more than there was room for
 pub read_some : (a b : SourceLog) (into : List ℕ) (n : ℕ) → Gave a b into n → AreOctets into →
     length into ≡ 4096 → OneRead (take n into) a b
 read_some a b into n g o r =
@@ -63,18 +63,18 @@ read_some a b into n g o r =
       reads = g.reads;
     }
 
--- and it is not the end
+-- if a read gave octets, the source isn't at its end
 pub not_end : (a b : SourceLog) (into : List ℕ) (n : ℕ) → Gave a b into n → (n ≡ 0 → ⊥) →
     b.ends ≡ a.ends
 not_end a b into n g some = let t = ne_eqb n 0 some in g.ends ∙ rw t refl
 
--- one read more, in a count that allows for it
+-- one more read, in a count that has room for it
 pub one_more_read : (before so_far turns after most : ℕ) → so_far ≤ before + turns →
     after ≡ counted so_far → turns < most → after ≤ before + most
 unfolding counted
 one_more_read before so_far turns after most below one room = omega arith
 
--- octets are a list of which each element is one
+-- a list is a list of octets if each of its elements is an octet
 pub octets-from : (xs : List ℕ) → ((i : ℕ) → get_or xs i 0 < 256) → AreOctets xs
 octets-from xs h = λ k d l. rw (same_read xs k d l) (h k)
   where

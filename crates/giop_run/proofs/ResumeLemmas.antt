@@ -1,4 +1,4 @@
--- Why no engine is loaded from the checkpoint in a file, and what a loaded one holds.
+-- Why no engine is loaded from the octets of a checkpoint file, and what a loaded engine holds.
 use Rattle.std.proofs.Common.{◌≡◌, ◌≢◌, ℕ, List, Some, Result, Ok, Err, IfOk, IfErr, Bor, refl}
 use Rattle.giop_checkpoint.specs.declared.fixed.Counts.{Counts}
 use Rattle.giop_checkpoint.specs.declared.fault.LoadFault.{LoadFault}
@@ -13,7 +13,7 @@ use Rattle.giop_run.specs.Files.{Folder, Refusals, GoesOn, IsFront, NoCheckpoint
 use Rattle.giop_run.specs.declared.fault.ProgramFault.{ProgramFault}
 use Rattle.giop_run.specs.declared.fault.ProgramFault.TheVariants as faults
 
--- the octets of the file are refused
+-- the octets of the file are refused, so no engine is loaded
 pub not_resumed : {A : Type 0} → (r : Result A ProgramFault) (held : Folder) (refuses : Refusals)
     (name : Bor (List ℕ)) (counts : Counts) (octets : List ℕ)
     → IsFront checkpoint_most (held name.now) octets
@@ -37,7 +37,7 @@ not_resumed (Err why) held refuses name counts octets front (loads.Length, memor
 not_resumed (Err why) held refuses name counts octets front (loads.State, memory, is, refused) =
     rw (is (λ e. cc)) (refl, (octets, front, refused))
 
--- the octets of the file are loaded: the engine holds what they are a checkpoint of
+-- the octets of the file are loaded, so the engine holds what they are a checkpoint of
 pub is_resumed : {E : Type 0} (r : Result EngineView E) (held : Folder) (name : Bor (List ℕ))
     (most : ℕ) (C : Table) (l : RequestTable)
     (octets : List ℕ) → IsFront checkpoint_most (held name.now) octets

@@ -1,5 +1,5 @@
--- What octets add to a stream's text, piece by piece, and what an engine's status means for the
--- stream.
+-- What octets add to the text of a stream, piece by piece; and what the status of an engine says
+-- about the stream.
 use Rattle.std.proofs.Common.{◌≡◌, List, ℕ, [], ◌++◌, Option, Some, None, refl, append-nil, IsSome}
 use Rattle.std.proofs.Math.Seq.{drop-length}
 use Rattle.giop_print.specs.Output.{OutLog, Wrote}
@@ -19,14 +19,15 @@ pub added-nil : (R : Rules) (p : List ℕ) → added R p [] ≡ []
 unfolding added
 added-nil R p = rw append-nil (drop-length (text R p))
 
--- what some octets, and then others, add to the text of a stream
+-- what octets add to the text of a stream is what the first of them add, and then what the others
+-- add
 abbrev pub AddsUp : Rules → Type 0
 AddsUp R = (p s t : List ℕ) → added R p (s ++ t) ≡ added R p s ++ added R (p ++ s) t
 
 pub adds_up : (e : EngineView) → AddsUp (rules_of e)
 adds_up e p s t = added_both e.table e.request_table e.most p s t
 
--- nothing is due where nothing was read
+-- if nothing was read, nothing is due
 pub wrote-none : (R : Rules) (a : OutLog) (p : List ℕ) → Wrote a a (added R p [])
 wrote-none R a p = rw added-nil (wrote-nil a)
 

@@ -40,20 +40,20 @@ turned_by : (Q R : Rules) (r : Result Bool RunFault) (p s : List ℕ) (e : Engin
     HasReadAndFed R r p s e a b x y
 turned_by Q R r p s e a b x y q t = subst (λ z. HasReadAndFed z r p s e a b x y) q t
 
--- an engine that reads by what a run reads by closed the run
+-- an engine that reads by the rules of the run has closed the run
 closed_by : (w : RunSetup) (d : EngineView) (r : Result Report RunFault) (p : List ℕ)
     (x y : OutLog) → (d.table ≡ w.table) × (d.request_table ≡ w.request_table) × (d.most ≡ w.most) →
     Closed (setup_of d w.ending) r p x y → Closed w r p x y
 closed_by w d r p x y (t, l, n) q = rw (t, l, n) at q
 
--- nothing was read
+-- if nothing was read, nothing was fed
 pub took-none : (R : Rules) (p : List ℕ) (e : EngineView) (x : OutLog) → rules_of e ≡ R →
     Holds e p → HasFed R p [] e x x
 took-none R p e x r h = record { reads = r; holds = rw append-nil h; written = wrote-none R x p }
 
 -- a flush
 
--- what was written stays written
+-- what was written before a flush stays written
 pub going_flushed : (R : Rules) (p s : List ℕ) (e : EngineView) (k : ℕ) (a b : SourceLog)
     (x y z : OutLog) (kept : List ℕ) → Going R p s e k a b x y → Flushed y z kept →
     Going R p s e k a b x z
@@ -75,7 +75,7 @@ going_flushed R p s e k a b x y z kept g f =
       ends = g.ends;
     }
 
--- the finish of a stream, where it or the flush may fail
+-- the end of a run after the stream was finished and the out was flushed
 pub closed_flushed : (e : EngineView) (t : Totals) (p : List ℕ) (x y z : OutLog) (kept : List ℕ)
     → Completed (rules_of e) (Ok t) p x y → Flushed y z kept →
     Closed (setup_of e endings.Finish) (Ok (record { totals = t; kept = None })) p x z
@@ -98,7 +98,7 @@ closed_unfinished e fault.Read p x y f = absurd f
 closed_unfinished e fault.Turns p x y f = absurd f
 closed_unfinished e fault.Failed p x y f = absurd f
 
--- an engine that is kept, where its flush may fail
+-- the end of a run after the out was flushed and the engine was kept
 pub closed_kept : (e : EngineView) (p : List ℕ) (x y : OutLog) (kept : List ℕ) → Holds e p →
     Flushed x y kept
     → Closed (setup_of e endings.Keep) (Ok (record { totals = e.stream.totals; kept = Some e })) p x
@@ -165,7 +165,7 @@ going_start R p e a x y f =
       ends = refl;
     }
 
--- octets that were fed, and then others
+-- octets that were fed, and then more octets
 fed_both : (R : Rules) → AddsUp R → (p s t : List ℕ) (e d : EngineView) (x y z : OutLog) →
     HasFed R p s e x y → HasFed R (p ++ s) t d y z → HasFed R p (s ++ t) d x z
 fed_both R adds p s t e d x y z first second =
@@ -203,7 +203,7 @@ going_more R adds p s t e d k a b c x y z g u =
 
 -- the last read
 
--- a read or a feed failed
+-- a read or a feed failed, after some that didn't
 failed_on : (R : Rules) → AddsUp R → (r : RunFault) (p s t : List ℕ) (e d : EngineView) (k : ℕ)
     (a b c : SourceLog) (x y z : OutLog) → Going R p s e k a b x y →
     HasReadAndFed R (Err r) (p ++ s) t d b c y z → k < 2 ^ 40 → FailedBefore R r p (s ++ t) a c x z
@@ -251,7 +251,7 @@ given_all R p s e k a b x y g h =
       };
     }
 
--- no read is left
+-- the reads are used up
 pub ran_turns : (R : Rules) (p s : List ℕ) (e : EngineView) (k : ℕ) (a b : SourceLog)
     (x y : OutLog) → Going R p s e k a b x y → k ≡ 2 ^ 40 → ReadsSpent R p s a b x y
 ran_turns R p s e k a b x y g h =
@@ -316,7 +316,7 @@ over_first R p e a x y f = record {
       f.0;
 }
 
--- the empty piece failed
+-- the feed of the empty piece failed
 pub failed_first : (R : Rules) (r : RunFault) (p : List ℕ) (e : EngineView) (a : SourceLog)
     (x y : OutLog) → Fed R (Err r) p [] e x y → FailedBefore R r p [] a a x y
 failed_first R fault.Out p e a x y f = record {
@@ -331,7 +331,7 @@ failed_first R fault.Failed p e a x y f = absurd f
 
 -- a run
 
--- it failed before its end
+-- a run that failed before its end
 pub ran_failed : (w : RunSetup) (r : RunFault) (p s : List ℕ) (a b : SourceLog) (x y : OutLog) →
     FailedBefore (reads_by w) r p s a b x y → Ran w (Err r) p s a b x y
 ran_failed w fault.Read p s a b x y f = f
@@ -368,7 +368,7 @@ closed_on w (Err fault.Read) p s e a b x y z f q = absurd q
 closed_on w (Err fault.Turns) p s e a b x y z f q = absurd q
 closed_on w (Err fault.Failed) p s e a b x y z f q = absurd q
 
--- it was closed at its end
+-- a run that was closed at its end
 pub ran_closed : (w : RunSetup) (r : Result Report RunFault) (p s : List ℕ) (e : EngineView)
     (a b : SourceLog) (x y z : OutLog) → ReadToEnd (reads_by w) p s e a b x y → (e.table ≡ w.table)
     × (e.request_table ≡ w.request_table) × (e.most ≡ w.most) →

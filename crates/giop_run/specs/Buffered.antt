@@ -1,19 +1,21 @@
--- The octets in a buffer, and the log of lines in one before a writer, as an out (state).
+-- The octets in a buffer; and the log of lines that a buffer keeps back for a writer, as an out has
+-- a log (state).
 use Rattle.std.specs.Prelude.{ℕ, List, take, Option}
 use Rattle.std.specs.Io.KnownBytes.{append_known}
 use Rattle.giop_print.specs.Output.{OutLog}
 use Rattle.giop_run.specs.declared.buffer.Buffer.{Buffer}
 use Rattle.giop_run.specs.declared.lines.Lines.{Lines}
 
--- the octets that wait in a buffer: those at the head of its room
+-- the octets that wait in a buffer: the first `kept` ones
 abbrev pub buffered : Buffer → List ℕ
 buffered b = take b.kept b.octets.items
 
--- what is buffered of lines
+-- the octets that are kept back of lines
 abbrev pub lines_kept : {W : Type 0} → Lines W → List ℕ
 lines_kept l = buffered l.buffer
 
--- what the writer has, and after it what is buffered; `contents` is the writer's log
+-- the log of lines: what the writer has, and after it the octets that are kept back; `contents` is
+-- the writer's log
 abbrev pub lines_log : {W : Type 0} → (W → Option (List ℕ)) → Lines W → OutLog
 lines_log contents l = record {
   written = append_known (contents l.writer) (lines_kept l);

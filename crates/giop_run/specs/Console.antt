@@ -10,15 +10,15 @@ use Rattle.giop_run.specs.declared.fault.RunFault.{RunFault}
 use Rattle.giop_run.specs.declared.fault.ProgramFault.{ProgramFault}
 use Rattle.giop_run.specs.declared.fault.ProgramFault.TheVariants as faults
 
--- a run of an engine that held p did this with such a source and an out
+-- a run whose engine held p did this with a source of these octets and an out
 pub record Dumped (w : RunSetup) (ran : Result Report RunFault) (p : List ℕ)
     (told : Option (List ℕ)) (x y : OutLog) : Type 0 where
   pub octets : List ℕ
   pub after : SourceLog
   pub did : Ran w ran p octets (unread told) after x y
 
--- the status of what failed: arguments that can't be read, a file that is refused, a file that
--- can't be read or written or a run that failed, no memory
+-- the status of a failure: 2 if the words of the command line are no text, 3 if a file is refused,
+-- 4 if a file can't be read or written or a run failed, 5 if there is no memory
 abbrev pub fault_status : ProgramFault → ℕ
 fault_status faults.Words = 2
 fault_status (faults.Signatures name fault look) = 3
@@ -29,7 +29,7 @@ fault_status (faults.Unwritable name) = 4
 fault_status (faults.Run fault) = 4
 fault_status faults.OutOfMemory = 5
 
--- what giopcap says after a fault
+-- the words that giopcap prints after a fault
 abbrev pub fault_words : ProgramFault → List ℕ
 fault_words (faults.Signatures name fault look) = look_words look
 fault_words (faults.Unreadable name why) = reason_words why
@@ -40,7 +40,7 @@ fault_words (faults.Unwritable name) = []
 fault_words (faults.Run fault) = []
 fault_words faults.OutOfMemory = []
 
--- the fault of a run that failed
+-- the fault of the run, if it is a run that failed
 abbrev pub run_fault : ProgramFault → Option RunFault
 run_fault (faults.Run fault) = Some fault
 run_fault faults.Words = None
@@ -51,17 +51,17 @@ run_fault (faults.Unreadable name why) = None
 run_fault (faults.Unwritable name) = None
 run_fault faults.OutOfMemory = None
 
--- the result of a run that failed
+-- the result of a run that failed with this fault
 abbrev pub ran_as : Option RunFault → Option (Result Report RunFault)
 ran_as (Some fault) = Some (Err fault)
 ran_as None = None
 
--- the result of the run in the result of the program; None where a step before the run failed
+-- the result of the run, by the result of the program; None if a step before the run failed
 abbrev pub run_of : Result Report ProgramFault → Option (Result Report RunFault)
 run_of (Ok report) = Some (Ok report)
 run_of (Err fault) = ran_as (run_fault fault)
 
--- the program's status: whether a fault was counted, or what failed
+-- the program's status: 0 if no fault was counted, 1 if one was, or the status of the failure
 abbrev pub exit_status : Result Totals ProgramFault → ℕ
 exit_status (Ok totals) = if totals.faults == 0 then 0 else 1
 exit_status (Err fault) = fault_status fault

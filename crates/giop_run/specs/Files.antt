@@ -1,5 +1,5 @@
--- What a run takes from the files that the arguments name (meaning). `held` is what the file of a
--- name holds, where that is known; a name is its text, and None where there is no file.
+-- What a run takes from the files that the arguments name (meaning). `held` tells what the file of
+-- a name holds, if that is known. A name is its text, or None if there is no file.
 use Rattle.std.specs.Prelude.{◌≡◌, ℕ, ◌<◌, ◌≤◌, Bool, if◌then◌else◌, List, [], length, take, Option, None, Some, IfSome, ◌⊎◌}
 use Rattle.giop_print.specs.Output.{counted}
 use Rattle.giop_sig.specs.Builtin.{builtin_table}
@@ -22,24 +22,24 @@ use Rattle.std.specs.declared.io.ErrorKind.{ErrorKind}
 use Rattle.giop_run.specs.declared.fault.ProgramFault.{ProgramFault}
 use Rattle.giop_run.specs.declared.fault.ProgramFault.TheVariants as faults
 
--- what the file of a name holds, where that is known
+-- what the file of a name holds, if that is known
 abbrev pub Folder : Type 0
 Folder = List ℕ → Option (List ℕ)
 
--- the errors by which the file of a name can't be opened or read
+-- the errors for which the file of a name can't be opened or read
 abbrev pub Refusals : Type 1
 Refusals = List ℕ → ErrorKind → Type 0
 
--- The file of a name can't be read, and this is why.
+-- The file of a name can't be read, and this is the reason.
 abbrev pub CannotRead : Refusals → List ℕ → Reason → Type 0
 CannotRead refuses name why = (kind : ErrorKind) × refuses name kind × HasReason kind why
 
--- a text is what is read of a file that may have at most so many octets: all of it, or one octet
--- more than that
+-- the text is what is read of a file that may have at most `most` octets: all of it, or its first
+-- `most` + 1 octets
 abbrev pub IsFront : ℕ → Option (List ℕ) → List ℕ → Type 0
 IsFront most held text = IfSome held (λ octets. text ≡ take (counted most) octets)
 
--- the greatest numbers of octets of a signature file, of a request list and of a checkpoint
+-- the greatest sizes, in octets, of a signature file, of a request list and of a checkpoint
 abbrev pub signatures_most : ℕ
 signatures_most = 1048576
 
@@ -49,38 +49,39 @@ requests_most = 16777216
 abbrev pub checkpoint_most : ℕ
 checkpoint_most = 3408800
 
--- the latest version of signature files that is read: the third if that is asked for
+-- the latest version of signature files that is read: the third if `third` says so, else the second
 abbrev pub latest : Bool → ℕ
 latest third = if third then 3 else 2
 
--- a text is a valid signature file of a version up to the latest, and this is its table
+-- the text is a valid signature file of a version up to the latest, and C is its table
 pub record Declares (latest : ℕ) (text : List ℕ) (C : Table) : Type 0 where
   pub file : SignatureFile
   pub spelled : SpellsUpTo latest text file
   pub valid : IsValid file
   pub is : C ≡ table file
 
--- a text is a request list for a catalogue, and this is its request table for the operations of that
+-- the text is a request list for a catalogue, and `kept` is its request table for the catalogue's
+-- operations
 pub record Requests (text : List ℕ) (C : Table) (kept : RequestTable) : Type 0 where
   pub entries : List Entry
   pub lists : Lists (third_in C) text entries
   pub is : IsOf (asked_number C) entries kept
 
--- the catalogue of the signature file, or without one the built-in types
+-- the catalogue of the signature file, or of the built-in types if there is no file
 abbrev pub CatalogueOf : Folder → ℕ → Option (List ℕ) → Table → Type 0
 CatalogueOf held latest None C = C ≡ builtin_table
 CatalogueOf held latest (Some name) C =
     (text : List ℕ) × IsFront signatures_most (held name) text × Declares latest text C
 
--- the list of the request file, or without one no request
+-- the request table of the request file, or the empty table if there is no file
 abbrev pub RequestsOf : Folder → Option (List ℕ) → Table → RequestTable → Type 0
 RequestsOf held None C kept = kept ≡ []
 RequestsOf held (Some name) C kept =
     (text : List ℕ) × IsFront requests_most (held name) text × Requests text C kept
 
--- `Is` holds of each stream that the octets of the checkpoint's file are a checkpoint of, and of
--- how many messages may be open in it; without a file, of the empty stream and of as many as are
--- asked for.
+-- If there is a checkpoint file, `Is` holds of each stream that the file's octets are a checkpoint
+-- of, with its number of open messages. If there is no file, `Is` holds of the empty stream, with
+-- the number that the arguments ask for.
 abbrev pub GoesOn : Folder → Option (List ℕ) → ℕ → Table → RequestTable → (ℕ → List ℕ → Type 0) →
     Type 0
 GoesOn held None most C kept Is = Is most []
@@ -89,13 +90,13 @@ GoesOn held (Some name) most C kept Is =
     × IsOurs (counts_of C kept) octets
     × ((n : ℕ) (p : List ℕ) → Spells octets C kept n p → Is n p)
 
--- the octets of the stream: those of the file; without one, those of standard input
+-- the octets of the stream: those of the file, or those of standard input if there is no file
 abbrev pub stream_of : Folder → Option (List ℕ) → Option (List ℕ) → Option (List ℕ)
 stream_of held given None = given
 stream_of held given (Some name) = held name
 
--- why there is no catalogue: no memory, or the signature file can't be read or is refused, by name,
--- with what its text looks like
+-- why there is no catalogue: there is no memory, or the signature file can't be read, or it is
+-- refused; the fault has the file's name, and tells what its text looks like
 abbrev pub NoCatalogue : Folder → Refusals → ℕ → Option (List ℕ) → ProgramFault → Type 0
 NoCatalogue held refuses latest asked (faults.Signatures name why look) =
     (asked ≡ Some name.now)
@@ -111,8 +112,8 @@ NoCatalogue held refuses latest asked (faults.Checkpoint name why) = ⊥
 NoCatalogue held refuses latest asked (faults.Unwritable name) = ⊥
 NoCatalogue held refuses latest asked (faults.Run why) = ⊥
 
--- why there is no list for a catalogue: no memory, or the request file can't be read or is refused, by
--- its name
+-- why there is no request list for a catalogue: there is no memory, or the request file can't be
+-- read, or it is refused; the fault has the file's name
 abbrev pub NoRequests : Folder → Refusals → Table → Option (List ℕ) → ProgramFault → Type 0
 NoRequests held refuses C asked (faults.Requests name why) =
     (asked ≡ Some name.now)
@@ -127,7 +128,8 @@ NoRequests held refuses C asked (faults.Checkpoint name why) = ⊥
 NoRequests held refuses C asked (faults.Unwritable name) = ⊥
 NoRequests held refuses C asked (faults.Run why) = ⊥
 
--- why no checkpoint is loaded: no memory, or its file can't be read or is refused, by its name
+-- why no checkpoint is loaded: there is no memory, or its file can't be read, or it is refused; the
+-- fault has the file's name
 abbrev pub NoCheckpoint : Folder → Refusals → Option (List ℕ) → Counts → ProgramFault → Type 0
 NoCheckpoint held refuses asked counts (faults.Checkpoint name why) =
     (asked ≡ Some name.now)
@@ -142,7 +144,8 @@ NoCheckpoint held refuses asked counts (faults.Requests name why) = ⊥
 NoCheckpoint held refuses asked counts (faults.Unwritable name) = ⊥
 NoCheckpoint held refuses asked counts (faults.Run why) = ⊥
 
--- why the stream isn't opened: no memory, or its file can't be, by its name
+-- why the stream isn't opened: there is no memory, or its file can't be opened; the fault has the
+-- file's name
 abbrev pub NoStream : Refusals → Option (List ℕ) → ProgramFault → Type 0
 NoStream refuses asked (faults.Unreadable name why) =
     (asked ≡ Some name.now) × CannotRead refuses name.now why
@@ -154,8 +157,8 @@ NoStream refuses asked (faults.Checkpoint name why) = ⊥
 NoStream refuses asked (faults.Unwritable name) = ⊥
 NoStream refuses asked (faults.Run why) = ⊥
 
--- what the arguments ask for: the names of the files, the latest version that the signature file may
--- have, and how many messages of a new stream may be open
+-- what the arguments ask for: the names of the files, the latest version that the signature file
+-- may have, and the number of open messages for a new stream
 pub record Asked : Type 0 where
   pub signatures : Option (List ℕ)
   pub latest : ℕ
@@ -165,22 +168,22 @@ pub record Asked : Type 0 where
   pub most : ℕ
   pub stream : Option (List ℕ)
 
--- how a run ends: its engine is kept where a file to save is asked for
+-- how a run ends: its engine is kept if the arguments name a file to save
 abbrev pub ending_of : Option (List ℕ) → Ending
 ending_of None = endings.Finish
 ending_of (Some name) = endings.Keep
 
--- what a run reads by, where so many messages may be open, and how it ends
+-- the setup of a run: its tables, the number of messages that may be open, and how it ends
 abbrev pub setup_by : Table → RequestTable → ℕ → Asked → RunSetup
 setup_by C kept n asked =
     record { table = C; request_table = kept; most = n; ending = ending_of asked.save }
 
--- what a run reads by: the catalogue and the list of the files
+-- the catalogue and the request table are those of the files
 pub record ReadsBy (held : Folder) (asked : Asked) (C : Table) (kept : RequestTable) : Type 0 where
   pub catalogue : CatalogueOf held asked.latest asked.signatures C
   pub requests : RequestsOf held asked.requests C kept
 
--- why a step before the run failed; the steps before that one succeeded
+-- a step before the run failed for this reason; the steps before it succeeded
 abbrev pub Refused : Folder → Refusals → Asked → ProgramFault → Type 0
 Refused held refuses asked fault =
     NoCatalogue held refuses asked.latest asked.signatures fault

@@ -1,9 +1,9 @@
--- What a flush of an out does, which writes the octets that the out has buffered (meaning).
+-- What a flush of an out does: it writes the octets that the out keeps back (meaning).
 use Rattle.std.specs.Prelude.{◌≡◌, ℕ, List, [], Result, MatchResult}
 use Rattle.std.specs.Io.KnownBytes.{Keeps}
 use Rattle.giop_print.specs.Output.{OutLog, counted}
 
--- what was written stays, and nothing of it is buffered
+-- what was written stays, and nothing of it is kept back
 pub record Flushed (before after : OutLog) (kept : List ℕ) : Type 0 where
   pub written : Keeps before.written after.written
   pub puts : after.puts ≡ before.puts

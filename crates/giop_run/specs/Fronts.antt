@@ -1,10 +1,10 @@
--- What a read of a file that is read whole came to (steps).
+-- What one read of a file did, when the file is read as a whole (steps).
 use Rattle.std.specs.Prelude.{◌≡◌, ℕ, ◌≤◌, ◌<◌, Bool, false, nat_lt, List, ◌++◌, length}
 use Rattle.std.specs.Io.KnownBytes.{Consumes, IsAtEnd}
 use Rattle.giop_run.specs.SourceLog.{SourceLog}
 
--- what a read gave, at most so many octets, stands after those before; where it gave none of some,
--- nothing is left
+-- a read gave at most `most` octets, and they were appended to those before; if it gave none though
+-- it could, nothing is left
 pub record Appended (before after : SourceLog) (old new : List ℕ) (most : ℕ) (some : Bool) : Type 0
   where
     pub given : List ℕ

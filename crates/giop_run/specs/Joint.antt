@@ -1,4 +1,5 @@
--- What is taken from several signature files, which are read as one text (docs/FORMATS.md, Several signature files; meaning).
+-- What is read of several signature files that are read as one text (docs/FORMATS.md, Several
+-- signature files; meaning).
 use Rattle.std.specs.Prelude.{◌≡◌, ℕ, ◌<◌, ◌≤◌, ◌⊎◌, List, [], ◌∷◌, length, map}
 use Rattle.std.specs.List.{All, Contains}
 use Rattle.giop_sig.specs.Builtin.{builtin_table}
@@ -16,24 +17,25 @@ use Rattle.giop_run.specs.declared.reason.Look.TheVariants as looks
 use Rattle.giop_run.specs.declared.fault.ProgramFault.{ProgramFault}
 use Rattle.giop_run.specs.declared.fault.ProgramFault.TheVariants as faults
 
--- these are the files of these names, each with what is read of it
+-- these are the files of these names, each with the text that is read of it
 pub record AreRead (held : Folder) (names : List (List ℕ)) (files : List SignatureText) : Type 0
   where
     pub names_are : map (λ f. f.name.now) files ≡ names
     pub texts : All (λ f. IsFront signatures_most (held f.name.now) f.text.items) files
 
--- the text that they are read as
+-- the text that the files are read as: one after another
 abbrev pub text_of : List SignatureText → List ℕ
 text_of files = joined (map (λ f. f.text.items) files)
 
--- the catalogue of the signature files of these names, of any version, or without one the built-in types
+-- the catalogue of the signature files of these names, of any version, or of the built-in types if
+-- there is no name
 abbrev pub CataloguesOf : Folder → List (List ℕ) → Table → Type 0
 CataloguesOf held [] C = C ≡ builtin_table
 CataloguesOf held (name ∷ names) C =
     (files : List SignatureText) × AreRead held (name ∷ names) files × Declares 3 (text_of files) C
 
--- What is said after the refusal of a line of the text that these files are read as: what its file
--- looks like, or which line above declares its name.
+-- What is printed after the refusal of a line in the text of these files together: what the line's
+-- file looks like, or which earlier line declares the same name.
 abbrev pub IsLook : SignatureText → List SignatureText → SigFault → Look → Type 0
 IsLook first others fault look =
     (look ≡ looks_of ((place first others fault.line).0.text.items))
@@ -41,7 +43,8 @@ IsLook first others fault look =
     × DeclareSame (text_of (first ∷ others)) above fault.line
     × (look ≡ looks.Declared ((place first others above).0.name) ((place first others above).1)))
 
--- the refusal is that of the text, by the file and the line that the line of the text is from
+-- The text of the files together is refused for this reason. The refusal tells the file and the
+-- line that the text's line comes from.
 pub record IsRefusal (first : SignatureText) (others : List SignatureText) (fault why : SigFault)
     (name : List ℕ) (look : Look) : Type 0 where
   pub kind : why.kind ≡ fault.kind
@@ -52,19 +55,20 @@ pub record IsRefusal (first : SignatureText) (others : List SignatureText) (faul
   pub refused : length (text_of (first ∷ others)) ≤ signatures_most
       → IsFirstRefusalUpTo 3 (text_of (first ∷ others)) fault
 
--- the text of these files is refused
+-- the text of these files together is refused
 abbrev pub IsRefused : List SignatureText → ProgramFault → Type 0
 IsRefused (first ∷ others) (faults.Signatures name why look) =
     (fault : SigFault) × IsRefusal first others fault why name.now look
 IsRefused files fault = ⊥
 
--- a file of these names can't be read
+-- one of the files of these names can't be read
 abbrev pub IsUnreadable : Refusals → List (List ℕ) → ProgramFault → Type 0
 IsUnreadable refuses names (faults.Unreadable name why) =
     Contains names name.now × CannotRead refuses name.now why
 IsUnreadable refuses names fault = ⊥
 
--- why there is no catalogue: no memory, or one of the files can't be read, or their text is refused
+-- why there is no catalogue: there is no memory, or one of the files can't be read, or their text
+-- is refused
 abbrev pub NoCatalogues : Folder → Refusals → List (List ℕ) → ProgramFault → Type 0
 NoCatalogues held refuses names fault =
     (fault ≡ faults.OutOfMemory) ⊎ IsUnreadable refuses names fault

@@ -1,5 +1,5 @@
--- What the program did for its arguments (meaning): x and y are its out before and after, a and b
--- the saved files.
+-- What the program did for its arguments (meaning). The logs of its out before and after are x and
+-- y; the saved files before and after are a and b.
 use Rattle.std.specs.Prelude.{◌≡◌, ℕ, List, Option, None, Some, Result, Ok, Err}
 use Rattle.giop_print.specs.Output.{OutLog}
 use Rattle.giop_sig.specs.Table.{Table}
@@ -16,8 +16,8 @@ use Rattle.giop_run.specs.declared.fault.RunFault.TheVariants as fault
 use Rattle.giop_run.specs.declared.fault.ProgramFault.{ProgramFault}
 use Rattle.giop_run.specs.declared.fault.ProgramFault.TheVariants as faults
 
--- what the arguments ask for, and what there is to read, where it is known: files by their names,
--- by which errors they can't be read, and standard input
+-- what the arguments ask for, and what can be read, if it is known: the files by their names, the
+-- errors for which they can't be read, and standard input
 pub record Task : Type 1 where
   pub held : Folder
   pub refuses : Refusals
@@ -28,8 +28,8 @@ abbrev pub task_of : Folder → Refusals → Option (List ℕ) → Asked → Tas
 task_of held refuses given asked =
     record { held = held; refuses = refuses; given = given; asked = asked }
 
--- A run read what the arguments name: the stream, by the catalogue and the list of the files, from
--- the checkpoint on.
+-- The run read what the arguments name: the stream, by the catalogue and the request list of the
+-- files, from the checkpoint on.
 pub record Performed (t : Task) (ran : Result Report RunFault) (x y : OutLog) : Type 0 where
   pub table : Table
   pub request_table : RequestTable
@@ -39,15 +39,15 @@ pub record Performed (t : Task) (ran : Result Report RunFault) (x y : OutLog) : 
       (setup_by table request_table n t.asked) ran p
       (stream_of t.held t.given t.asked.stream) x y)
 
--- the checkpoint of the engine that was kept is saved in the file that was asked for; without one,
--- nothing is saved
+-- the checkpoint of the engine that was kept is saved in the file that the arguments name; if they
+-- name none, nothing is saved
 abbrev pub SavedIn : Option (List ℕ) → Option EngineView → Option (List Saved)
     → Option (List Saved) → Type 0
 SavedIn None kept a b = b ≡ a
 SavedIn (Some name) None a b = ⊥
 SavedIn (Some name) (Some e) a b = SavedMore a b name e
 
--- The run succeeded, and its checkpoint is saved where that was asked for.
+-- The run succeeded, and its checkpoint is saved if the arguments ask for that.
 pub record Completed (t : Task) (totals : Totals) (x y : OutLog) (a b : Option (List Saved))
     : Type 0 where
   pub report : Report
@@ -59,18 +59,19 @@ pub record Completed (t : Task) (totals : Totals) (x y : OutLog) (a b : Option (
 pub record Broken (t : Task) (why : RunFault) (x y : OutLog) : Type 0 where
   pub run : Performed t (Err why) x y
 
--- The run succeeded, and the file for its checkpoint can't be written.
+-- The run succeeded, but the file for its checkpoint can't be written.
 pub record Unsaved (t : Task) (name : List ℕ) (x y : OutLog) : Type 0 where
   pub named : t.asked.save ≡ Some name
   pub report : Report
   pub run : Performed t (Ok report) x y
 
--- A step before the run failed: nothing is written.
+-- A step before the run failed, and nothing is written.
 pub record NotRun (t : Task) (why : ProgramFault) (x y : OutLog) : Type 0 where
   pub refused : Refused t.held t.refuses t.asked why
   pub unwritten : y ≡ x
 
--- what the program did, by why it failed; the engine of a run is never failed
+-- what the program did, by the fault with which it failed; the engine of its run is never one that
+-- had failed
 abbrev pub FailedBy : Task → ProgramFault → OutLog → OutLog → Type 0
 FailedBy t (faults.Run fault.Failed) x y = ⊥
 FailedBy t (faults.Run fault.Read) x y = Broken t fault.Read x y
@@ -84,14 +85,14 @@ FailedBy t (faults.Checkpoint name why) x y = NotRun t (faults.Checkpoint name w
 FailedBy t (faults.Unreadable name why) x y = NotRun t (faults.Unreadable name why) x y
 FailedBy t faults.OutOfMemory x y = NotRun t faults.OutOfMemory x y
 
--- what the program did, by its result; where it failed nothing is saved
+-- what the program did, by its result; if it failed, nothing is saved
 abbrev pub Did : Task → Result Totals ProgramFault → OutLog → OutLog → Option (List Saved)
     → Option (List Saved) → Type 0
 Did t (Ok totals) x y a b = Completed t totals x y a b
 Did t (Err why) x y a b = FailedBy t why x y × (b ≡ a)
 
--- what the last step did: its result is the run's, or that the file which was asked for can't be
--- written
+-- what the last step did: its result is the run's, or the fault that the file which the arguments
+-- name can't be written
 abbrev pub Kept : Option (List ℕ) → Result Report ProgramFault → Result Totals ProgramFault
     → Option (List Saved) → Option (List Saved) → Type 0
 Kept asked (Ok report) (Ok totals) a b =

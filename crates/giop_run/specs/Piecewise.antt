@@ -1,4 +1,4 @@
--- The fields of a slice as a source (state).
+-- The fields of a slice that is read as a source (state).
 use Rattle.std.specs.Prelude.{ℕ, List, Some}
 use Rattle.giop_run.specs.declared.piecewise.Piecewise.{Piecewise}
 use Rattle.giop_run.specs.SourceLog.{SourceLog}

@@ -3,7 +3,7 @@ use Rattle.std.specs.Prelude.{ℕ, List, Option}
 use Rattle.giop_run.specs.declared.reading.Reading.{Reading}
 use Rattle.giop_run.specs.SourceLog.{SourceLog}
 
--- `remaining` gives the octets that the reader has left, where they are known
+-- `remaining` gives the octets that the reader has left, if they are known
 abbrev pub reading_log : {R : Type 0} → (R → Option (List ℕ)) → Reading R → SourceLog
 reading_log remaining r = record {
   left = remaining r.reader;

@@ -1,6 +1,6 @@
 -- The writer inside of a `Retrying` (state).
 use Rattle.giop_run.specs.declared.retrying.Retrying.{Retrying}
 
--- the one whose calls are tried again
+-- the writer whose calls are tried again
 abbrev pub retrying_inner : {S : Type 0} → Retrying S → S
 retrying_inner p = p.inner

@@ -20,18 +20,19 @@ use Rattle.giop_run.specs.declared.fault.RunFault.TheVariants as fault
 abbrev pub IsRunning : List ℕ → Type 0
 IsRunning p = (cut p).stop ≡ None
 
--- a fault of the out, or of an engine that had failed; no read has one
+-- The run failed because the out failed, or because the engine had failed before. A read has
+-- neither fault.
 abbrev pub IsOfWriting : RunFault → Type 0
 IsOfWriting why = (why ≡ fault.Out) ⊎ (why ≡ fault.Failed)
 
--- the octets s were fed to an engine that held p and read messages by R, and their lines were
--- written
+-- the octets s were fed to an engine that held p and reads by R, and their lines were written
 pub record HasFed (R : Rules) (p s : List ℕ) (e : EngineView) (x y : OutLog) : Type 0 where
   pub reads : rules_of e ≡ R
   pub holds : Holds e (p ++ s)
   pub written : Wrote x y (added R p s)
 
--- what feeding the octets s to an engine that held p did: true where the stream goes on
+-- what it did to feed the octets s to an engine that held p; the result is true if the stream goes
+-- on
 abbrev pub Fed : Rules → Result Bool RunFault → List ℕ → List ℕ → EngineView → OutLog → OutLog →
     Type 0
 Fed R (Ok true) p s e x y = HasFed R p s e x y × IsRunning (p ++ s)
@@ -48,7 +49,8 @@ pub record OneRead (s : List ℕ) (before after : SourceLog) : Type 0 where
   pub within : length s ≤ 4096
   pub reads : after.reads ≡ counted before.reads
 
--- what one read and its feed did on an engine that held p: true where the stream goes on
+-- what one read and the feed of its octets did to an engine that held p; the result is true if the
+-- stream goes on
 abbrev pub HasReadAndFed : Rules → Result Bool RunFault → List ℕ → List ℕ → EngineView → SourceLog →
     SourceLog → OutLog → OutLog → Type 0
 HasReadAndFed R (Ok true) p s e before after x y =
@@ -64,7 +66,7 @@ HasReadAndFed R (Err fault.Out) p s e before after x y =
 HasReadAndFed R (Err fault.Turns) p s e before after x y = ⊥
 HasReadAndFed R (Err fault.Failed) p s e before after x y = ⊥
 
--- the source came to its end, or the stream to a fault, and all that the source gave was fed
+-- the source is at its end, or the stream has a fault, and all that the source gave was fed
 pub record ReadToEnd (R : Rules) (p s : List ℕ) (e : EngineView) (before after : SourceLog)
     (x y : OutLog) : Type 0 where
   pub given : Given p s before after
@@ -72,14 +74,14 @@ pub record ReadToEnd (R : Rules) (p s : List ℕ) (e : EngineView) (before after
   pub failures : after.failures ≡ before.failures
   pub fed : HasFed R p s e x y
 
--- a put failed: a front of the lines of what was read is written
+-- a put failed, and a front of the lines of what was read is written
 pub record PutFailed (R : Rules) (p s : List ℕ) (before after : SourceLog) (x y : OutLog) : Type 0
   where
     pub given : Given p s before after
     pub failures : after.failures ≡ before.failures
     pub written : WroteFront x y (added R p s)
 
--- how a run failed before its end
+-- how a run failed before its end, by its fault
 abbrev pub FailedBefore : Rules → RunFault → List ℕ → List ℕ → SourceLog → SourceLog → OutLog →
     OutLog → Type 0
 FailedBefore R fault.Read p s before after x y = ReadStopped R p s before after x y
@@ -87,18 +89,18 @@ FailedBefore R fault.Turns p s before after x y = ReadsSpent R p s before after 
 FailedBefore R fault.Out p s before after x y = PutFailed R p s before after x y
 FailedBefore R fault.Failed p s before after x y = ⊥
 
--- what feeding all that the source gave did on an engine that held p
+-- what it did to feed all that the source gave to an engine that held p
 abbrev pub FedAll : {A : Type 0} → Rules → Result A RunFault → List ℕ → List ℕ → EngineView →
     SourceLog → SourceLog → OutLog → OutLog → Type 0
 FedAll R (Ok done) p s e before after x y = ReadToEnd R p s e before after x y
 FedAll R (Err why) p s e before after x y = FailedBefore R why p s before after x y
 
--- what the ending writes after the lines of p was written, and the report is as the ending requires
+-- the text of the ending was written after the lines of p, and the report is as the ending requires
 pub record Ended (w : RunSetup) (report : Report) (p : List ℕ) (x y : OutLog) : Type 0 where
   pub written : Wrote x y (end_text w.ending (reads_by w) p)
   pub ended : EndsAs w.ending w report p
 
--- what the finish of an engine that held p did
+-- what it did to finish an engine that held p
 abbrev pub Completed : Rules → Result Totals RunFault → List ℕ → OutLog → OutLog → Type 0
 Completed R (Ok totals) p x y = Wrote x y (closing R p) × (totals ≡ final R p)
 Completed R (Err fault.Out) p x y = WroteFront x y (closing R p)
@@ -106,7 +108,7 @@ Completed R (Err fault.Read) p x y = ⊥
 Completed R (Err fault.Turns) p x y = ⊥
 Completed R (Err fault.Failed) p x y = ⊥
 
--- what the end of a run did whose engine held p
+-- what the end of a run did, if the run's engine held p
 abbrev pub Closed : RunSetup → Result Report RunFault → List ℕ → OutLog → OutLog → Type 0
 Closed w (Ok report) p x y = Ended w report p x y
 Closed w (Err fault.Out) p x y = WroteFront x y (end_text w.ending (reads_by w) p)
@@ -114,7 +116,8 @@ Closed w (Err fault.Read) p x y = ⊥
 Closed w (Err fault.Turns) p x y = ⊥
 Closed w (Err fault.Failed) p x y = ⊥
 
--- k reads and feeds, after each of which the stream goes on, did this to an engine that held p
+-- k reads, and the feeds of their octets, did this to an engine that held p; the stream goes on
+-- after each of them
 pub record Going (R : Rules) (p s : List ℕ) (e : EngineView) (k : ℕ) (before after : SourceLog)
     (x y : OutLog) : Type 0 where
   pub began : IsRunning p

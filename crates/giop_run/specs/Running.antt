@@ -1,5 +1,5 @@
--- What a run did (meaning): p is the stream that its engine held, s are the octets that its source
--- gave, w its setup.
+-- What a run did (meaning). The stream that its engine held is p, the octets that its source gave
+-- are s, and its setup is w.
 use Rattle.std.specs.Prelude.{◌≡◌, ℕ, ◌+◌, ◌^◌, ◌≤◌, ◌<◌, List, [], ◌++◌, length, Option, None, Some, IsSome, Result, Ok, Err, ◌⊎◌}
 use Rattle.std.specs.Io.KnownBytes.{Consumes, IsAtEnd}
 use Rattle.giop_cdr.specs.Numbers.{AreOctets}
@@ -18,11 +18,11 @@ use Rattle.giop_run.specs.declared.running.Report.{Report}
 use Rattle.giop_run.specs.declared.fault.RunFault.{RunFault}
 use Rattle.giop_run.specs.declared.fault.RunFault.TheVariants as fault
 
--- what a run reads by and how it ends
+-- the setup of a run: what it reads by, and how it ends
 pub record RunSetup : Type 0 where
   pub table : Table
   pub request_table : RequestTable
-  pub most : ℕ  -- so many messages may be open at once
+  pub most : ℕ  -- the number of messages that may be open at once
   pub ending : Ending
 
 -- the setup of a run of this engine
@@ -34,27 +34,27 @@ setup_of e ending = record {
   ending = ending;
 }
 
--- the rules that it reads by
+-- the rules that a run reads by
 abbrev pub reads_by : RunSetup → Rules
 reads_by w = rules w.table w.request_table w.most
 
--- what an ending writes after the lines of the stream p: its closing, or nothing where the stream
+-- what an ending writes after the lines of the stream p: the closing of p, or nothing if the stream
 -- is read on later
 abbrev pub end_text : Ending → Rules → List ℕ → List ℕ
 end_text endings.Finish R p = closing R p
 end_text endings.Keep R p = []
 
--- whether an engine is kept, by the ending
+-- whether the report of a run has an engine, by the ending
 abbrev pub HasKept : Ending → Option EngineView → Type 0
 HasKept endings.Finish kept = kept ≡ None
 HasKept endings.Keep kept = IsSome kept
 
--- the finish of the stream p: a truncated end is counted, and no engine is kept
+-- the stream p is finished: a truncated end is counted, and no engine is kept
 pub record IsFinish (w : RunSetup) (report : Report) (p : List ℕ) : Type 0 where
   pub totals : report.totals ≡ final (reads_by w) p
   pub kept : report.kept ≡ None
 
--- the stream p is read on later: an engine is kept that holds it, and that reads by the same setup
+-- the stream p is read on later: the report has an engine that holds p and reads by the same setup
 pub record IsKept (w : RunSetup) (report : Report) (p : List ℕ) : Type 0 where
   pub totals : report.totals ≡ tally (reads_by w) p
   pub engine : EngineView
@@ -62,7 +62,7 @@ pub record IsKept (w : RunSetup) (report : Report) (p : List ℕ) : Type 0 where
   pub holds : Holds engine p
   pub same : setup_of engine w.ending ≡ w
 
--- the report of an ending at the stream p
+-- what the report says of the stream p, by the ending
 abbrev pub EndsAs : Ending → RunSetup → Report → List ℕ → Type 0
 EndsAs endings.Finish w report p = IsFinish w report p
 EndsAs endings.Keep w report p = IsKept w report p
@@ -71,7 +71,7 @@ EndsAs endings.Keep w report p = IsKept w report p
 abbrev pub IsStopped : List ℕ → Type 0
 IsStopped p = IsSome (cut p).stop
 
--- the octets s end with those of one read, of at most 4096, before which the stream had no fault
+-- the octets s end with those of one read, at most 4096; before that read the stream had no fault
 pub record LastRead (p s : List ℕ) : Type 0 where
   pub earlier : List ℕ
   pub last : List ℕ
@@ -79,7 +79,7 @@ pub record LastRead (p s : List ℕ) : Type 0 where
   pub room : length last ≤ 4096
   pub running : ¬ IsStopped (p ++ earlier)
 
--- the source gave the octets s, by at most 2^40 reads; none was made after a stream fault
+-- the source gave the octets s in at most 2^40 reads, and there was no read after a stream fault
 pub record Given (p s : List ℕ) (before after : SourceLog) : Type 0 where
   pub left : Consumes before.left after.left s
   pub octets : AreOctets s
@@ -96,8 +96,8 @@ pub record IsEnded (before after : SourceLog) : Type 0 where
 abbrev pub IsOver : List ℕ → SourceLog → SourceLog → Type 0
 IsOver p before after = IsEnded before after ⊎ IsStopped p
 
--- the source ended, or the stream has a fault: the lines are written, and the report is as the
--- ending requires
+-- the source is at its end, or the stream has a fault; the lines are written, and the report is as
+-- the ending requires
 pub record Finished (w : RunSetup) (report : Report) (p s : List ℕ) (before after : SourceLog)
     (x y : OutLog) : Type 0 where
   pub given : Given p s before after
@@ -106,14 +106,14 @@ pub record Finished (w : RunSetup) (report : Report) (p s : List ℕ) (before af
   pub written : Wrote x y (added (reads_by w) p s ++ end_text w.ending (reads_by w) (p ++ s))
   pub ended : EndsAs w.ending w report (p ++ s)
 
--- a read failed: the lines of what was read are written, and no closing
+-- a read failed; the lines of what was read are written, and no closing
 pub record ReadStopped (R : Rules) (p s : List ℕ) (before after : SourceLog) (x y : OutLog) : Type 0
   where
     pub given : Given p s before after
     pub failures : after.failures ≡ counted before.failures
     pub written : Wrote x y (added R p s)
 
--- the reads were used up: the lines of what was read are written, and no closing
+-- all reads were used up; the lines of what was read are written, and no closing
 pub record ReadsSpent (R : Rules) (p s : List ℕ) (before after : SourceLog) (x y : OutLog) : Type 0
   where
     pub given : Given p s before after
@@ -123,14 +123,14 @@ pub record ReadsSpent (R : Rules) (p s : List ℕ) (before after : SourceLog) (x
     pub running : ¬ IsStopped (p ++ s)
     pub written : Wrote x y (added R p s)
 
--- a put failed: a front of what was due is written
+-- a put failed, and a front of what was due is written
 pub record WriteStopped (w : RunSetup) (p s : List ℕ) (before after : SourceLog) (x y : OutLog) :
     Type 0 where
   pub given : Given p s before after
   pub failures : after.failures ≡ before.failures
   pub written : WroteFront x y (added (reads_by w) p s ++ end_text w.ending (reads_by w) (p ++ s))
 
--- what a run did, by its result; with an engine that holds a stream it is never Failed
+-- what a run did, by its result; it never fails with Failed if its engine held a stream
 abbrev pub Ran : RunSetup → Result Report RunFault → List ℕ → List ℕ → SourceLog → SourceLog →
     OutLog → OutLog → Type 0
 Ran w (Ok report) p s before after x y = Finished w report p s before after x y
@@ -139,7 +139,7 @@ Ran w (Err fault.Turns) p s before after x y = ReadsSpent (reads_by w) p s befor
 Ran w (Err fault.Out) p s before after x y = WriteStopped w p s before after x y
 Ran w (Err fault.Failed) p s before after x y = ⊥
 
--- what a run did with a failed engine: it read nothing and wrote nothing
+-- what a run did if its engine had failed: it read nothing and wrote nothing
 pub record Refused (result : Result Report RunFault) (before after : SourceLog) (x y : OutLog) :
     Type 0 where
   pub answer : result ≡ Err fault.Failed

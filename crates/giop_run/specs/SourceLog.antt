@@ -3,18 +3,18 @@ use Rattle.std.specs.Prelude.{◌≡◌, ℕ, ◌≤◌, ◌<◌, List, length, 
 use Rattle.std.specs.Io.KnownBytes.{Consumes, Keeps, IsAtEnd}
 use Rattle.giop_print.specs.Output.{counted}
 
--- the octets that are left, where they are known, and how many reads, failures and ends there were
+-- the octets that are left, if they are known, and how many reads, failures and ends there were
 pub record SourceLog : Type 0 where
   pub left : Option (List ℕ)
   pub reads : ℕ
   pub failures : ℕ
   pub ends : ℕ
 
--- a source of which nothing was read, whose octets are known where `told` is Some
+-- a source before the first read; its octets are known if `told` is Some
 abbrev pub unread : Option (List ℕ) → SourceLog
 unread told = record { left = told; reads = 0; failures = 0; ends = 0 }
 
--- a read put `given` octets at the start of `into`; where it gave none and `into` isn't empty, the
+-- a read put `given` octets at the start of `into`; if it gave none and `into` isn't empty, the
 -- count of ends rises and nothing is left
 pub record Gave (before after : SourceLog) (into : List ℕ) (given : ℕ) : Type 0 where
   pub within : given ≤ length into

@@ -1,18 +1,18 @@
-//! A buffer: octets that wait to be written, at the head of room of a fixed size.
+//! A buffer of a fixed size. The octets that wait to be written stand at its start.
 
 ghost use Rattle.std.specs.Prelude.{◌≡◌, ◌+◌, ◌≤◌, [], ◌++◌, length, take, drop, IfOk};
 
 use std::alloc::{AllocError, Global};
 use std::simd::prelude::*;
 
-/// How many octets may wait: 64 KiB.
+/// The size of a buffer, in octets: 64 KiB.
 pub(crate) const ROOM: usize = 65_536;
 
-/// Octets that wait, in the order of being added.
+/// Octets that wait to be written, in the order in which they were added.
 #[derive(Drop)]
 pub(crate) struct Buffer {
     octets: Vec<u8>,
-    // How many wait: those at the head of the room.
+    // How many octets wait. They are the first ones of `octets`.
     kept: usize,
     ghost room: { length octets.items ≡ 65536 },
     ghost within: { kept ≤ 65536 },
@@ -21,7 +21,7 @@ pub(crate) struct Buffer {
 impl Buffer {
     ghost use Rattle.giop_run.specs.Buffered.{buffered};
 
-    /// An empty buffer. Its memory is taken here.
+    /// Makes an empty buffer. Its memory is taken here.
     pub(crate) fn new(alloc: Global) -> Result<Buffer, AllocError>
         ensures { IfOk result (λ buffer. buffered buffer ≡ []) }
     {
@@ -31,7 +31,7 @@ impl Buffer {
         })
     }
 
-    /// How many more there is room for.
+    /// How many more octets the buffer has room for.
     #[inline(always)]
     pub(crate) fn left(&self) -> usize
         ensures { result + length (buffered self.now) ≡ 65536 }
@@ -39,14 +39,14 @@ impl Buffer {
         ROOM - self.kept
     }
 
-    /// Those that wait.
+    /// The octets that wait.
     pub(crate) fn octets(&self) -> &[u8]
         ensures { result.now ≡ buffered self.now }
     {
         &self.octets[..self.kept]
     }
 
-    /// Adds octets for which there is room.
+    /// Adds octets. The buffer must have room for them.
     #[inline(always)]
     pub(crate) fn add(&mut self, octets: &[u8])
         requires { length (buffered self.old) + length octets.now ≤ 65536 }
@@ -56,7 +56,7 @@ impl Buffer {
         self.kept += octets.len();
     }
 
-    /// The first of them, so many, wait no longer.
+    /// Removes the first octets, as many as `count` says.
     pub(crate) fn remove(&mut self, count: usize)
         requires { count ≤ length (buffered self.old) }
         ensures { buffered self.new ≡ drop count (buffered self.old) }
@@ -66,8 +66,8 @@ impl Buffer {
     }
 }
 
-/// Copies octets to the head of a room. 32 to 128 octets, as most lines have, are copied as two blocks of one size, which
-/// may overlap: a copy of a fixed size is a few moves, and one of any size a call.
+/// Copies octets to the start of a room. If they are 32 to 128, as in most lines, they are copied as two blocks of the same
+/// size, which may overlap: a copy of a fixed size is a few moves, and a copy of any size is a call.
 #[inline(always)]
 fn copy(octets: &[u8], room: &mut [u8])
     requires { length octets.now ≤ length room.old }
@@ -81,7 +81,7 @@ fn copy(octets: &[u8], room: &mut [u8])
     }
 }
 
-/// The same of N to 2 N octets: the first N, and then the last N.
+/// Copies N to 2 N octets to the start of a room: the first N, and then the last N.
 #[inline(always)]
 fn copy_ends<const N: usize>(octets: &[u8], room: &mut [u8])
     requires fits { length octets.now ≤ length room.old }

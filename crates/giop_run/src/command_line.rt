@@ -12,13 +12,13 @@ use clap::Error;
 use clap::error::ErrorKind;
 use std::env;
 
-/// The status where the arguments can't be read.
+/// The status if the arguments can't be read.
 const USAGE: u8 = 2;
 
-/// The status where the help can't be printed.
+/// The status if the help can't be printed.
 const FAILED: u8 = 4;
 
-/// The words of the command line, the first of which is the program's name.
+/// The words of the command line. The first one is the program's name.
 pub fn words<'a>(rt: &HostRuntime) -> Result<Vec<String>, ProgramFault<'a>>
     ensures { IfErr result (λ fault.
         (fault ≡ ProgramFault.Words) ⊎ (fault ≡ ProgramFault.OutOfMemory)) }
@@ -41,7 +41,8 @@ pub fn failed(rt: &HostRuntime, program: &str, fault: &ProgramFault) -> u8
     fault.status()
 }
 
-/// The same, with why a file can't be read, what a refused signature file looks like, or where its name is declared before.
+/// Prints why the program of this name failed, and returns its status. It also prints why a file can't be read, what a
+/// refused signature file looks like, or where the name of a refused line is declared before.
 pub fn explained(rt: &HostRuntime, program: &str, fault: &ProgramFault) -> u8
     ensures { result ≡ fault_status fault.now }
 {
@@ -55,7 +56,7 @@ pub fn explained(rt: &HostRuntime, program: &str, fault: &ProgramFault) -> u8
     fault.status()
 }
 
-/// Prints why the arguments of the program of this name can't be read, or the help that they ask for, and returns its
+/// Prints why the arguments of the program of this name can't be read, or prints the help that they ask for. Returns the
 /// status.
 pub fn refused(rt: &HostRuntime, program: &str, error: &Error) -> u8
     ensures memory { kind_of error.now ≡ ErrorKind.OutOfMemory → result ≡ 5 }

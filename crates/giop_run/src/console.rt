@@ -11,7 +11,8 @@ use super::running::{Ending, Report, run_by};
 use super::source::Source;
 use giop_stream::{Engine, Totals};
 
-/// A run, as `run` is, that flushes the lines before each read and at the end. A flush that fails is a failed put.
+/// Runs an engine as `run` does, and flushes the lines before each read and at the end. If a flush fails, the run fails as
+/// after a failed put.
 pub fn dump<'a, S: Source, O: Flush>(
     source: &mut S,
     out: &mut O,
@@ -23,19 +24,19 @@ pub fn dump<'a, S: Source, O: Flush>(
         (S.log source.old) (S.log source.new) (O.log out.old) (O.log out.new) }
     ensures failed { engine.entry.failed ≡ true
         → Refused result (S.log source.old) (S.log source.new) (O.log out.old) (O.log out.new) }
-    // Of every engine, also of one that holds no stream.
+    // This holds for every engine, also for one that holds no stream.
     ensures sound { result ≡ Err RunFault.Failed → engine.entry.failed ≡ true }
     ensures reads { (S.log source.new).reads ≤ (S.log source.old).reads + 2 ^ 40 }
     ensures kept { IfOk result (λ report. HasKept ending report.kept) }
     ensures flushed { OnOk result (O.kept out.new ≡ []) }
-    // Where a read failed, or there were too many, all that was put is to be seen.
+    // If a read failed, or there were too many reads, all that was put can be seen.
     ensures seen { (result ≡ Err RunFault.Read) ⊎ (result ≡ Err RunFault.Turns) →
         O.kept out.new ≡ [] }
 {
     run_by::<S, O, Flushed>(source, out, engine, ending)
 }
 
-/// The status that the program ends with: 0, or 1 where a fault was counted, or that of what failed.
+/// The status that the program ends with: 0, or 1 if a fault was counted, or the status of the failure.
 pub fn status(ended: &Result<Totals, ProgramFault>) -> u8
     ensures { result ≡ exit_status ended.now }
 {

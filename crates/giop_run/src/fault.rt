@@ -1,4 +1,4 @@
-//! Why a run or a step of the program fails, as the program prints it.
+//! Why a run, or a step of the program, fails, in the words that the program prints.
 
 ghost use Rattle.std.specs.Prelude.{◌≡◌, ◌≢◌};
 ghost use Rattle.std.specs.IoError.{error_kind};
@@ -13,7 +13,7 @@ use std::io;
 use std::io::ErrorKind;
 use thiserror::Error;
 
-/// A read failed by an error of this kind, and gave no octets.
+/// A read failed with an error of this kind, and gave no octets.
 #[derive(Clone, Copy, Debug, PartialEq, Eq, Error)]
 #[error("read failed")]
 pub struct SourceFault {
@@ -32,7 +32,7 @@ pub enum RunFault {
     /// The out failed.
     #[error("write failed")]
     Out = 3,
-    /// The engine was failed before the run.
+    /// The engine had failed before the run.
     #[error("engine failed")]
     Failed = 4,
 }
@@ -40,10 +40,10 @@ pub enum RunFault {
 /// Why the program failed. `Display` is what it prints after its name (docs/FORMATS.md, The program).
 #[derive(Clone, Copy, Debug, Drop, PartialEq, Eq, Error)]
 pub enum ProgramFault<'a> {
-    /// An argument of the command line is no text.
+    /// A word of the command line is no text.
     #[error("a word of the command line is not UTF-8")]
     Words,
-    /// The signature file is refused, and its text looks like this.
+    /// The signature file is refused. `look` tells what its text looks like.
     #[error("{}:{}: {fault}", ShownName(.name), .fault.line)]
     Signatures {
         name: &'a str,
@@ -62,13 +62,13 @@ pub enum ProgramFault<'a> {
         name: &'a str,
         fault: LoadFault,
     },
-    /// A file can't be opened, or one that is read whole can't be read.
+    /// A file can't be opened, or a file that is read as a whole can't be read.
     #[error("{}: cannot read", ShownName(.name))]
     Unreadable {
         name: &'a str,
         why: Reason,
     },
-    /// The file for a checkpoint can't be written. It still holds what it held.
+    /// The file for a checkpoint can't be written. It still has the octets that it had.
     #[error("{}: cannot write", ShownName(.name))]
     Unwritable {
         name: &'a str,
@@ -82,7 +82,7 @@ pub enum ProgramFault<'a> {
 }
 
 impl<'a> ProgramFault<'a> {
-    /// The fault of arguments of the command line that can't be read.
+    /// The fault for words of the command line that can't be read.
     pub fn of_words(error: &io::Error) -> ProgramFault<'a>
         ensures text { error_kind error.now ≡ ErrorKind.InvalidData → result ≡ ProgramFault.Words }
         ensures memory { error_kind error.now ≢ ErrorKind.InvalidData
@@ -95,7 +95,7 @@ impl<'a> ProgramFault<'a> {
         }
     }
 
-    /// The fault of a signature file of this name that is refused, with this text.
+    /// The fault for a signature file of this name, with this text, that is refused.
     pub fn of_signatures(name: &'a str, fault: SigFault, text: &[u8]) -> ProgramFault<'a>
         ensures memory { fault.kind ≡ SigFaultKind.OutOfMemory → result ≡ ProgramFault.OutOfMemory }
         ensures refused { fault.kind ≢ SigFaultKind.OutOfMemory
@@ -111,7 +111,7 @@ impl<'a> ProgramFault<'a> {
         }
     }
 
-    /// The fault of a request list of this name that is refused.
+    /// The fault for a request list of this name that is refused.
     pub fn of_requests(name: &'a str, fault: ListFault) -> ProgramFault<'a>
         ensures memory { fault.kind ≡ ListFaultKind.OutOfMemory →
             result ≡ ProgramFault.OutOfMemory }
@@ -124,7 +124,7 @@ impl<'a> ProgramFault<'a> {
         ProgramFault::Requests { name, fault }
     }
 
-    /// The fault of a checkpoint of this name that is refused.
+    /// The fault for a checkpoint of this name that is refused.
     pub fn of_checkpoint(name: &'a str, fault: LoadFault) -> ProgramFault<'a>
         ensures memory { fault ≡ LoadFault.OutOfMemory → result ≡ ProgramFault.OutOfMemory }
         ensures refused { fault ≢ LoadFault.OutOfMemory
@@ -136,7 +136,7 @@ impl<'a> ProgramFault<'a> {
         ProgramFault::Checkpoint { name, fault }
     }
 
-    /// What `giopcap` says after it: why a file can't be read, or what a refused signature file looks like.
+    /// What `giopcap` prints after the fault: why a file can't be read, or what a refused signature file looks like.
     pub fn words(&self) -> &'static str
         ensures { result.now ≡ fault_words self.now }
     {

@@ -1,4 +1,4 @@
-//! The files that are read whole: the signature file and the request list (docs/FORMATS.md).
+//! The files that are read as a whole: the signature file and the request list (docs/FORMATS.md).
 
 ghost use Rattle.std.specs.Prelude.{◌≡◌, ◌≢◌, ◌<◌, ◌≤◌, ◌⊎◌, Some, length, IfOk, IfErr, option_map};
 ghost use Rattle.std.specs.IoError.{error_kind};
@@ -21,16 +21,16 @@ use std::alloc::Global;
 use std::io;
 use std::io::ErrorKind;
 
-/// The greatest number of octets of a signature file. A longer text is refused by its parser.
+/// The greatest size of a signature file, in octets. The parser refuses a longer text.
 pub(crate) const SIGNATURES_MOST: u64 = 1_048_576;
 
-/// The greatest number of octets of a request list. A longer text is refused by its parser.
+/// The greatest size of a request list, in octets. The parser refuses a longer text.
 const REQUESTS_MOST: u64 = 16_777_216;
 
-/// How many octets a read may give.
+/// The greatest number of octets that a read may give.
 const ROOM: usize = 4096;
 
-/// Reads once, and appends what the read gave; answers whether it gave some.
+/// Reads once, and appends the octets that the read gave. Returns whether it gave any.
 fn append<S: Source>(source: &mut S, into: &mut [u8], octets: &mut Vec<u8>) -> io::Result<bool>
     ensures ok { IfOk result (λ some. Appended (S.log source.old) (S.log source.new)
         octets.old.items octets.new.items (length into.old) some) }
@@ -48,13 +48,13 @@ fn append<S: Source>(source: &mut S, into: &mut [u8], octets: &mut Vec<u8>) -> i
     }
 }
 
-/// What a source gives up to its end, or up to the first octet past the limit.
+/// All octets that a source gives, or, if there are more than `most`, the first `most` + 1 of them.
 pub fn front<S: Source>(alloc: Global, source: &mut S, most: u64) -> io::Result<Vec<u8>>
     ensures ok { IfOk result (λ octets. IsFront most (S.log source.old).left octets.items) }
     ensures err { IfErr result (λ error. (error_kind error ≡ ErrorKind.OutOfMemory)
         ⊎ S.fails source.old (error_kind error)) }
 {
-    // Room for a read at the beginning: so how often it grows depends on what the file holds alone.
+    // There is room for one read from the start. So how often the vector grows depends only on what the file holds.
     let Ok(mut octets) = Vec::with_capacity(alloc, ROOM) else {
         return Err(io::Error::from(ErrorKind::OutOfMemory));
     };
@@ -70,7 +70,7 @@ pub fn front<S: Source>(alloc: Global, source: &mut S, most: u64) -> io::Result<
     Ok(octets)
 }
 
-/// The fault of a file of this name that can't be read.
+/// The fault for a file of this name that can't be read.
 fn unreadable<'a>(name: &'a str, error: &io::Error) -> ProgramFault<'a>
     ensures memory { error_kind error.now ≡ ErrorKind.OutOfMemory →
         result ≡ ProgramFault.OutOfMemory }
@@ -91,7 +91,7 @@ fn unreadable<'a>(name: &'a str, error: &io::Error) -> ProgramFault<'a>
     }
 }
 
-/// Opens a file; nothing was read of it.
+/// Opens a file. Nothing of it has been read.
 pub fn opened<'a, R: Inputs>(rt: &R, name: &'a str) -> Result<R::File, ProgramFault<'a>>
     ensures ok { IfOk result (λ file. R.File.log file ≡ unread (R.held rt.now name.entry.now)) }
     ensures err { IfErr result (NoStream (R.refuses rt.now) (Some name.entry.now)) }
@@ -102,7 +102,7 @@ pub fn opened<'a, R: Inputs>(rt: &R, name: &'a str) -> Result<R::File, ProgramFa
     }
 }
 
-/// What a file holds, up to the first octet past the limit, or the error by which it can't be read.
+/// All octets of a file, or the first `most` + 1 of them if there are more, or the error for which it can't be read.
 fn opened_front<R: Inputs + AllocGlobal>(rt: &R, name: &str, most: u64) -> io::Result<Vec<u8>>
     ensures ok { IfOk result (λ octets. IsFront most (R.held rt.now name.now) octets.items) }
     ensures err { IfErr result (λ error. (error_kind error ≡ ErrorKind.OutOfMemory)
@@ -114,7 +114,7 @@ fn opened_front<R: Inputs + AllocGlobal>(rt: &R, name: &str, most: u64) -> io::R
     }
 }
 
-/// What a file holds, up to the first octet past the limit.
+/// All octets of a file, or the first `most` + 1 of them if there are more.
 pub(crate) fn contents<'a, R: Inputs + AllocGlobal>(
     rt: &R,
     name: &'a str,
@@ -132,7 +132,7 @@ pub(crate) fn contents<'a, R: Inputs + AllocGlobal>(
     }
 }
 
-/// The catalogue of a text, of version 3 too if that is asked for.
+/// The catalogue of the text of a signature file. Version 3 is read only if `third` says so.
 fn parsed(alloc: Global, text: &[u8], third: bool) -> Result<Catalogue, SigFault>
     ensures ok { IfOk result (Declares (latest third) text.now) }
     ensures long { IfErr result
@@ -147,7 +147,7 @@ fn parsed(alloc: Global, text: &[u8], third: bool) -> Result<Catalogue, SigFault
     }
 }
 
-/// The catalogue of a signature file with this text, of version 3 too if that is asked for.
+/// The catalogue of the signature file of this name, which has this text. Version 3 is read only if `third` says so.
 fn catalogue_of<'a>(
     alloc: Global,
     name: &'a str,
@@ -155,7 +155,7 @@ fn catalogue_of<'a>(
     third: bool,
 ) -> Result<Catalogue, ProgramFault<'a>>
     ensures ok { IfOk result (Declares (latest third) text.now) }
-    // The refusal has the file's name, and is that of the text.
+    // If the file is refused, the fault has its name, and the refusal is the refusal of the text.
     ensures err { IfErr result (λ fault. (fault ≡ ProgramFault.OutOfMemory)
         ⊎ ((why : SigFault)
         × (fault ≡ ProgramFault.Signatures name.entry why (looks_of text.now))
@@ -168,7 +168,8 @@ fn catalogue_of<'a>(
     }
 }
 
-/// The catalogue of a signature file, of version 3 too if that is asked for; without one, of the built-in types.
+/// The catalogue of a signature file, or of the built-in types if there is no file. Version 3 is read only if `third` says
+/// so.
 pub fn catalogue<'a, R: Inputs + AllocGlobal>(
     rt: &R,
     name: Option<&'a str>,
@@ -191,7 +192,7 @@ pub fn catalogue<'a, R: Inputs + AllocGlobal>(
     catalogue_of(alloc, name, &text, third)
 }
 
-/// The request list of a file with this text.
+/// The request list of the file of this name, which has this text.
 fn requests_of<'a>(
     alloc: Global,
     name: &'a str,
@@ -199,7 +200,7 @@ fn requests_of<'a>(
     catalogue: &Catalogue,
 ) -> Result<Requests, ProgramFault<'a>>
     ensures ok { IfOk result (λ kept. Requested text.now catalogue.now kept) }
-    // The refusal has the file's name, and is that of the text.
+    // If the file is refused, the fault has its name, and the refusal is the refusal of the text.
     ensures err { IfErr result (λ fault. (fault ≡ ProgramFault.OutOfMemory)
         ⊎ ((why : ListFault) × (fault ≡ ProgramFault.Requests name.entry why)
         × IsRefusedAs (third_in catalogue.now) text.now why.line why.kind)) }
@@ -210,7 +211,7 @@ fn requests_of<'a>(
     }
 }
 
-/// The request list of a file; without one, the empty list.
+/// The request list of a file, or the empty list if there is no file.
 pub fn requests<'a, R: Inputs + AllocGlobal>(
     rt: &R,
     name: Option<&'a str>,

@@ -1,31 +1,31 @@
-//! Outs that buffer octets until they are flushed, and whether a run flushes its out.
+//! Outs that keep octets back until they are flushed, and whether a run flushes its out.
 
 ghost use Rattle.std.specs.Prelude.{ℕ, List, []};
 ghost use Rattle.giop_run.specs.Flushing.{Flushes};
 
 use giop_print::{Out, OutFault};
 
-/// An out that may buffer octets until it is flushed.
+/// An out that may keep octets back until it is flushed.
 pub trait Flush: Out {
-    /// The octets that it has buffered.
+    /// The octets that it keeps back.
     ghost kept: { Self → List ℕ };
 
-    /// Writes the octets that it has buffered.
+    /// Writes the octets that it keeps back.
     fn flush(&mut self) -> Result<(), OutFault>
         ensures { Flushes result (Self.log self.old) (Self.log self.new) (kept self.new) };
 }
 
 /// What a run does to its out before each read and at the end.
 pub(crate) trait Between<O: Out> {
-    /// The octets that the out has buffered.
+    /// The octets that the out keeps back.
     ghost left: { O → List ℕ };
 
-    /// Writes them.
+    /// Writes the octets that the out keeps back, if there are any.
     fn flush(out: &mut O) -> Result<(), OutFault>
         ensures { Flushes result (O.log out.old) (O.log out.new) (left out.new) };
 }
 
-/// It does nothing: the out has no buffer.
+/// Does nothing: the out keeps nothing back.
 pub(crate) struct Nothing;
 
 impl<O: Out> Between<O> for Nothing {
@@ -36,7 +36,7 @@ impl<O: Out> Between<O> for Nothing {
     }
 }
 
-/// It flushes the out.
+/// Flushes the out.
 pub(crate) struct Flushed;
 
 impl<O: Flush> Between<O> for Flushed {

@@ -19,28 +19,28 @@ pub trait Inputs {
     /// Standard input.
     type Standard: Source + Drop;
 
-    /// What the file of a name holds, where the contracts know it.
+    /// What the file of a name holds, if the contracts know it.
     ghost held: { Self → List ℕ → Option (List ℕ) };
 
-    /// What standard input gives, where the contracts know it.
+    /// What standard input gives, if the contracts know it.
     ghost given: { Self → Option (List ℕ) };
 
-    /// The errors by which the file of a name can't be opened or read.
+    /// The errors for which the file of a name can't be opened or read.
     ghost refuses: { Self → List ℕ → ErrorKind → Type 0 };
 
-    /// Opens a file; nothing was read of it.
+    /// Opens a file. Nothing of it has been read.
     fn open(&self, name: &str) -> io::Result<Self::File>
         ensures ok { IfOk result (λ file. Self.File.log file ≡ unread (held self.now name.now)) }
         ensures read { IfOk result (λ file. (kind : ErrorKind)
             → Self.File.fails file kind → refuses self.now name.now kind) }
         ensures err { IfErr result (λ error. refuses self.now name.now (error_kind error)) };
 
-    /// Standard input; nothing was read of it.
+    /// Gives standard input. Nothing of it has been read.
     fn standard_input(&self) -> Self::Standard
         ensures { Self.Standard.log result ≡ unread (given self.now) };
 }
 
-/// Those of the system; the contracts don't know what they hold, nor when they fail.
+/// The files and the standard input of the system. The contracts know neither what they hold nor when they fail.
 impl Inputs for HostRuntime {
     type File = Reading<File>;
 

@@ -1,4 +1,4 @@
-//! The catalogue of several signature files, which are read as one text (docs/FORMATS.md, Several signature files).
+//! The catalogue of several signature files that are read as one text (docs/FORMATS.md, Several signature files).
 
 ghost use Rattle.std.specs.Prelude.{◌≡◌, ◌≢◌, ◌<◌, ◌≤◌, ◌⊎◌, ◌∷◌, [], length, map, None, IfOk, IfErr};
 ghost use Rattle.std.specs.List.{Contains};
@@ -16,7 +16,8 @@ use giop_sig::{Catalogue, SigFault, SigFaultKind};
 use giop_sig_files::{SignatureText, declared_above, joined, place};
 use std::alloc::Global;
 
-/// What the signature files of these names hold, each up to the first octet past the limit.
+/// Reads the signature files of these names: all octets of each, or, if it has more than a signature file may have, one
+/// more than that.
 fn signature_texts<'a, R: Inputs + AllocGlobal>(
     rt: &R,
     names: &[&'a str],
@@ -36,7 +37,7 @@ fn signature_texts<'a, R: Inputs + AllocGlobal>(
     Ok(files)
 }
 
-/// What is said after the refusal of a line of the text that these files are read as.
+/// What the program prints after the refusal of a line in the text of these files together.
 fn look_in<'a>(
     first: &SignatureText<'a>,
     others: &[SignatureText<'a>],
@@ -58,7 +59,7 @@ fn look_in<'a>(
     Look::of(file.text.as_slice())
 }
 
-/// The refusal of the text that these files are read as, by the file and the line.
+/// The refusal of the text of these files together, as one of a line of a file.
 fn refusal<'a>(
     first: &SignatureText<'a>,
     others: &[SignatureText<'a>],
@@ -84,7 +85,7 @@ fn refusal<'a>(
     }
 }
 
-/// The catalogue of the text that these files are read as; without one, of the built-in types.
+/// The catalogue of the text of these files together, or of the built-in types if there is no file.
 fn catalogue_of_files<'a>(
     alloc: Global,
     files: &[SignatureText<'a>],
@@ -109,7 +110,8 @@ fn catalogue_of_files<'a>(
     }
 }
 
-/// The catalogue of the signature files of these names, which are read as one text; without one, of the built-in types.
+/// The catalogue of the signature files of these names, which are read as one text, or of the built-in types if there is no
+/// name.
 pub fn joint_catalogue<'a, R: Inputs + AllocGlobal>(
     rt: &R,
     names: &[&'a str],

@@ -11,8 +11,8 @@ use giop_print::{Line, Out, OutFault};
 use std::alloc::{AllocError, Global};
 use std::io::Write;
 
-/// An out that buffers octets for a writer, until there is no room for more or they are flushed. It fails where its writer
-/// does, and where that takes none of some octets; the octets that were not taken stay buffered then.
+/// An out that keeps octets back for a writer, until there is no room for more or they are flushed. It fails if its writer
+/// fails, and if the writer takes none of some octets. Then the octets that weren't taken stay.
 #[derive(Drop)]
 pub struct Lines<W: Write + Drop> {
     writer: W,
@@ -24,7 +24,7 @@ pub struct Lines<W: Write + Drop> {
 impl<W: Write + Drop> Lines<W> {
     ghost use Rattle.giop_run.specs.Buffered.{lines_log, lines_kept};
 
-    /// An empty buffer for this writer.
+    /// Makes an out over this writer that keeps nothing back.
     pub fn new(alloc: Global, writer: W) -> Result<Lines<W>, AllocError>
         ensures log { IfOk result (λ lines. lines_log W.contents lines
             ≡ record { written = W.contents writer; puts = 0; failures = 0 }) }
@@ -38,7 +38,7 @@ impl<W: Write + Drop> Lines<W> {
         })
     }
 
-    /// The writer, which has what was put except for what is buffered.
+    /// The writer. It has all that was put, except the octets that are kept back.
     pub fn writer(&self) -> &W
         ensures { append_known (W.contents result.now) (lines_kept self.now)
             ≡ (lines_log W.contents self.now).written }
@@ -46,7 +46,7 @@ impl<W: Write + Drop> Lines<W> {
         &self.writer
     }
 
-    /// Hands the octets that are buffered to the writer; those that it doesn't take stay.
+    /// Gives the octets that are kept back to the writer. Those that the writer doesn't take stay.
     fn hand_on(&mut self) -> Result<(), OutFault>
         ensures written { Keeps (lines_log W.contents self.old).written
             (lines_log W.contents self.new).written }
@@ -61,7 +61,7 @@ impl<W: Write + Drop> Lines<W> {
         if is_all { Ok(()) } else { Err(OutFault) }
     }
 
-    /// Puts octets for which there is no room until those that are buffered are handed to the writer.
+    /// Puts octets for which there is no room: first gives the octets that are kept back to the writer.
     #[cold]
     #[inline(never)]
     fn put_behind(&mut self, octets: &[u8]) -> Result<usize, OutFault>
@@ -79,7 +79,8 @@ impl<W: Write + Drop> Lines<W> {
         Ok(taken)
     }
 
-    /// Writes a line for which there is no room. It is a function of its own, so that a line for which there is needs no stack.
+    /// Writes a line for which there is no room. This is a function of its own, so that the usual line, for which there is
+    /// room, needs no stack.
     #[cold]
     #[inline(never)]
     fn put_line_behind(&mut self, text: &[u8]) -> Result<(), OutFault>
@@ -105,7 +106,7 @@ impl<W: Write + Drop> Out for Lines<W> {
         Ok(octets.len())
     }
 
-    // It isn't counted as a put: no more puts than octets is all that is said of it.
+    // The call isn't counted as a put. The contract says of puts only that there are no more than octets.
     #[inline]
     fn put_line(&mut self, line: &mut Line) -> Result<(), OutFault> {
         let text = line.text();
@@ -131,7 +132,7 @@ impl<W: Write + Drop> Flush for Lines<W> {
     }
 }
 
-/// Hands octets to a writer until that has all of them, takes none or fails, and returns how many it took.
+/// Gives octets to a writer until the writer has taken all of them, takes none, or fails. Returns how many it took.
 fn hand_over<W: Write>(writer: &mut W, octets: &[u8]) -> usize
     ensures within { result ≤ length octets.now }
     ensures written { Appends (W.contents writer.old) (W.contents writer.new)

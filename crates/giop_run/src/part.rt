@@ -1,4 +1,5 @@
-//! The part that a checkpoint is written to: a file beside the one that is saved, which it replaces once it is whole.
+//! The part: the file that a checkpoint is written to. It stands beside the file that is saved, and replaces it after it is
+//! whole.
 
 ghost use Rattle.std.specs.Prelude.{◌≡◌, ◌≤◌, IfSome};
 ghost use Rattle.giop_run.specs.Saving.{kept_mode as mode_by};
@@ -11,23 +12,24 @@ use std::io::{ErrorKind, Write};
 use std::os::unix::fs::{MetadataExt, OpenOptionsExt, PermissionsExt};
 use std::{fs, io, process};
 
-/// How many octets the system allows in the name of a file, with the zero after it.
+/// The greatest length of a file's name in the system, in octets, with the zero at its end.
 const NAME_ROOM: usize = 4096;
 
-/// What is added to a file's name in the name of its part; then come the program's process id and the number of the try,
-/// as decimal numbers with a point before each.
+/// What is added to a file's name to get the name of its part. The program's process id and the number of the try follow,
+/// as decimal numbers, each after a point.
 const SUFFIX: &str = ".giopdump-part";
 
-/// How many names are tried for a part. One is taken only where a program of the same process id left it.
+/// How many names are tried for a part. A name is in use only if a program of the same process id left a part there.
 const TRIES: u32 = 16;
 
-/// Who may read and write a file that is made: its owner alone.
+/// The mode of a file that is made: only its owner may read and write it.
 pub(crate) const PRIVATE: u32 = 0o600;
 
-/// The bits of a mode that say who may read, write and run a file: without set-user-id, set-group-id and sticky.
+/// The bits of a mode that say who may read, write and run a file. The bits for set-user-id, set-group-id and sticky aren't
+/// among them.
 const RIGHTS: u32 = 0o777;
 
-/// Whose a plain file is, by how many names it is known, and its mode.
+/// The user and the group of a plain file, the number of names it has, and its mode.
 #[derive(Clone, Copy)]
 pub(crate) struct Rights {
     user: u32,
@@ -37,7 +39,7 @@ pub(crate) struct Rights {
 }
 
 impl Rights {
-    /// Those of a file.
+    /// The rights of the file that is known by this.
     fn of(found: &Metadata) -> Rights {
         Rights {
             user: found.uid(),
@@ -47,7 +49,7 @@ impl Rights {
         }
     }
 
-    /// Those of the plain file that has this name; none if the name is a symbolic link.
+    /// The rights of the plain file of this name; none if the name is a symbolic link.
     fn of_name(rt: &HostRuntime, name: &str) -> Option<Rights> {
         match fs::symlink_metadata(rt, name) {
             Ok(found) if found.is_file() => Some(Rights::of(&found)),
@@ -56,7 +58,7 @@ impl Rights {
     }
 }
 
-/// Writes the checkpoint to a part, and renames that to the name of this file.
+/// Writes the checkpoint to a part, and renames the part to the name of this file.
 pub(crate) fn replaced(rt: &HostRuntime, name: &str, engine: &Engine) -> io::Result<()> {
     for attempt in 0..TRIES {
         let mut room = [0; NAME_ROOM];
@@ -72,14 +74,14 @@ pub(crate) fn replaced(rt: &HostRuntime, name: &str, engine: &Engine) -> io::Res
     Err(io::Error::from(ErrorKind::AlreadyExists))
 }
 
-/// Makes a file that wasn't there, and that its owner alone may read.
+/// Makes a file that wasn't there before. Only its owner may read it.
 fn new_part(rt: &HostRuntime, part: &str) -> io::Result<File> {
     let mut options = OpenOptions::new();
     options.write(true).create_new(true).mode(PRIVATE);
     options.open(rt, part)
 }
 
-/// Renames a part that was written to the name of the file; removes it where that, or the writing, failed.
+/// Renames a part to the name of the file if it was written. If the writing or the renaming failed, removes the part.
 fn renamed(rt: &HostRuntime, part: &str, name: &str, written: io::Result<()>) -> io::Result<()> {
     let renamed = match written {
         Ok(()) => fs::rename(rt, part, name),
@@ -91,7 +93,8 @@ fn renamed(rt: &HostRuntime, part: &str, name: &str, written: io::Result<()>) ->
     renamed
 }
 
-/// Writes the checkpoint to a part, and then gives that the rights of the file that it is to replace, if it may have them.
+/// Writes the checkpoint to a part. After that the part gets the rights of the file that it will replace, if it may have
+/// them.
 fn written(rt: &HostRuntime, name: &str, part: &File, engine: &Engine) -> io::Result<()> {
     put_into(part, engine)?;
     let own = Rights::of(&part.metadata()?);
@@ -101,8 +104,8 @@ fn written(rt: &HostRuntime, name: &str, part: &File, engine: &Engine) -> io::Re
     part.sync_all()
 }
 
-/// The mode that a part gets of the file that it replaces, if that file has its user and group and no other name; else none,
-/// so that nobody gets rights over a checkpoint by what stood in its place.
+/// The mode that a part gets from the file that it replaces. It gets one only if that file has the same user and group and
+/// no second name, so that nobody gets rights over a checkpoint by a file that stood in its place.
 fn kept_mode(part: Rights, replaced: Option<Rights>) -> Option<u32>
     ensures mode { result ≡ mode_by part replaced }
     ensures rights { IfSome result (λ mode. mode ≤ 0o777) }
@@ -112,7 +115,7 @@ fn kept_mode(part: Rights, replaced: Option<Rights>) -> Option<u32>
     is_alike.then_some(old.mode & RIGHTS)
 }
 
-/// Writes the checkpoint into a file.
+/// Writes the checkpoint to a file.
 pub(crate) fn put_into(file: &File, engine: &Engine) -> io::Result<()> {
     let mut out = Written::new(Retrying::new(file));
     match engine.save(&mut out) {
@@ -121,7 +124,7 @@ pub(crate) fn put_into(file: &File, engine: &Engine) -> io::Result<()> {
     }
 }
 
-/// The name of a file's part in this try.
+/// The name of a file's part, for this try.
 fn part_name<'r>(
     name: &str,
     process: u32,

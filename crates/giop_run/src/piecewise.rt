@@ -1,4 +1,4 @@
-//! Octets in memory as a source that gives a few at each read.
+//! Octets in memory as a source that gives a few of them at each read.
 
 ghost use Rattle.std.specs.Prelude.{◌≡◌, ◌≤◌, MatchResult, IfErr, Ok, Some, length, min, take};
 ghost use Rattle.giop_run.specs.SourceLog.{Gave, ReadFailed};
@@ -6,7 +6,7 @@ ghost use Rattle.giop_run.specs.SourceLog.{Gave, ReadFailed};
 use super::fault::SourceFault;
 use super::source::{Source, one_more};
 
-/// A slice that is read from its start, at most `step` octets a read.
+/// A slice that is read from its start, at most `step` octets at each read.
 #[derive(Drop)]
 pub struct Piecewise<'a> {
     left: &'a [u8],
@@ -19,7 +19,7 @@ pub struct Piecewise<'a> {
 impl<'a> Piecewise<'a> {
     ghost use Rattle.giop_run.specs.Piecewise.{piecewise_log, piecewise_step};
 
-    /// A source of the octets, of which nothing was read.
+    /// Makes a source of these octets. Nothing of it has been read.
     pub fn new(octets: &'a [u8], step: usize) -> Piecewise<'a>
         requires { 1 ≤ step }
         ensures log { piecewise_log result
@@ -47,7 +47,7 @@ impl<'a> Source for Piecewise<'a> {
             (λ given. Gave (piecewise_log self.old) (piecewise_log self.new) into.new given)
             (λ _. ReadFailed (piecewise_log self.old) (piecewise_log self.new)) }
         ensures fault { IfErr result (λ _. ⊥) }
-        // It never fails, and gives as many octets as the rest, the step and the length of `into` allow.
+        // The read never fails. It gives as many octets as the rest, the step and the length of `into` allow.
         ensures value { result ≡ Ok (min
             (min (length (piecewise_left self.old)) (piecewise_step self.old))
             (length into.old)) }

@@ -10,10 +10,10 @@ use super::source::{Source, one_more};
 use std::io;
 use std::io::{ErrorKind, Read};
 
-/// How often a read or a write is tried until it fails: 2^16.
+/// How often a read or a write is tried before it fails: 2^16 times.
 pub(crate) const TRIES: u32 = 1 << 16;
 
-/// A reader as a source. The contracts know its octets where they know those of the reader.
+/// A reader as a source. The contracts know its octets if they know those of the reader.
 #[derive(Drop)]
 pub struct Reading<R: Read> {
     reader: R,
@@ -25,7 +25,7 @@ pub struct Reading<R: Read> {
 impl<R: Read> Reading<R> {
     ghost use Rattle.giop_run.specs.ReaderLog.{reading_log};
 
-    /// A source of what the reader gives, of which nothing was read.
+    /// Makes a source of what the reader gives. Nothing of it has been read.
     pub fn new(reader: R) -> Reading<R>
         ensures { reading_log R.remaining result
             ≡ record { left = R.remaining reader; reads = 0; failures = 0; ends = 0 } }
@@ -63,7 +63,7 @@ impl<R: Read> Source for Reading<R> {
     }
 }
 
-/// One read. It is tried again where it is interrupted, and fails where every try is.
+/// Reads once. If the read is interrupted, it is tried again; if every try is interrupted, it fails.
 fn retried<R: Read>(reader: &mut R, into: &mut [u8]) -> io::Result<usize>
     ensures within { ReadsAtMost result into.new }
     ensures octets { ReadConsumes (R.remaining reader.old) (R.remaining reader.new)

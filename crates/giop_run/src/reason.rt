@@ -1,5 +1,5 @@
-//! Why a file can't be read, and what a text looks like that is refused as a signature file: what `giopcap` says after a fault
-//! (docs/FORMATS.md, The program giopcap).
+//! Why a file can't be read, and what a text looks like that is refused as a signature file. `giopcap` prints this after a
+//! fault (docs/FORMATS.md, The program giopcap).
 
 ghost use Rattle.std.specs.Prelude.{◌≡◌};
 ghost use Rattle.giop_run.specs.Looks.{HasReason, begins, begins_capture, begins_idl, looks_of, look_words, reason_words};
@@ -10,13 +10,13 @@ use std::io::ErrorKind;
 /// Why a file can't be read.
 #[derive(Clone, Copy, Debug, Drop, PartialEq, Eq)]
 pub enum Reason {
-    /// There is no file of the name.
+    /// There is no file of this name.
     NoSuchFile,
-    /// The file may not be read.
+    /// The program has no permission to read the file.
     NoPermission,
-    /// The name is that of a folder.
+    /// The name is the name of a folder.
     Folder,
-    /// Any other.
+    /// Any other reason.
     Other,
 }
 
@@ -36,7 +36,7 @@ impl Reason {
         }
     }
 
-    /// The words for it, which stand after `cannot read`.
+    /// The words for the reason, which follow `cannot read` and the name.
     pub fn words(&self) -> &'static str
         ensures { result.now ≡ reason_words self.now }
     {
@@ -52,13 +52,13 @@ impl Reason {
 /// What a text looks like that is refused as a signature file.
 #[derive(Clone, Copy, Debug, Drop, PartialEq, Eq)]
 pub enum Look<'a> {
-    /// It begins as a capture does.
+    /// The text begins as a capture does.
     Capture,
-    /// It begins as IDL does.
+    /// The text begins as IDL does.
     Idl,
-    /// Its line declares a name that this line of this file declares before.
+    /// The refused line declares a name that this line of this file declares before.
     Declared { name: &'a str, line: u32 },
-    /// Any other.
+    /// Any other text.
     Other,
 }
 
@@ -79,7 +79,7 @@ impl<'a> Look<'a> {
         }
     }
 
-    /// The words for it, which stand after the refusal.
+    /// The words for the look, which follow the refusal.
     pub fn words(&self) -> &'static str
         ensures { result.now ≡ look_words self.now }
     {
@@ -99,7 +99,7 @@ fn begins(text: &[u8], octets: &[u8]) -> bool
     text.starts_with(octets)
 }
 
-/// Whether a text begins as a pcap file of either order and unit does, or as a pcapng file.
+/// Whether a text begins as a capture does: as a pcap file of any byte order and unit of time, or as a pcapng file.
 fn begins_capture(text: &[u8]) -> bool
     ensures { result ≡ begins_capture text.now }
 {
@@ -110,7 +110,7 @@ fn begins_capture(text: &[u8]) -> bool
         || begins(text, &[0x0a, 0x0d, 0x0d, 0x0a])
 }
 
-/// Whether a text begins with what is IDL's and in no signature file.
+/// Whether a text begins with a word or sign that IDL has there and no signature file has.
 fn begins_idl(text: &[u8]) -> bool
     ensures { result ≡ begins_idl text.now }
 {

@@ -1,4 +1,4 @@
-//! The engine that a run begins with: a new one, or one that is loaded from the checkpoint in a file.
+//! The engine that a run begins with: a new engine, or one that is loaded from a checkpoint file.
 
 ghost use Rattle.std.specs.Prelude.{◌≡◌, ◌≢◌, ◌≤◌, List, ℕ, [], false, None, IfOk, IfErr, IfSome, option_map};
 ghost use Rattle.giop_checkpoint.specs.Refusals.{IsOurs};
@@ -16,10 +16,10 @@ use giop_sig::{Catalogue, Requests};
 use giop_stream::{Engine, NewFault};
 use std::alloc::Global;
 
-/// The greatest number of octets of a checkpoint. A longer one is refused when it is loaded.
+/// The greatest size of a checkpoint, in octets. A longer one is refused when it is loaded.
 const CHECKPOINT_MOST: u64 = 3_408_800;
 
-/// The engine that is loaded from a checkpoint's octets.
+/// Loads an engine from the octets of a checkpoint.
 fn loaded<'a, 'c>(
     alloc: Global,
     name: &'a str,
@@ -45,7 +45,7 @@ fn loaded<'a, 'c>(
     }
 }
 
-/// The engine that is loaded from the checkpoint in a file; without a file, a new engine for so many open messages.
+/// Loads the engine from a checkpoint file. If there is no file, makes a new engine for `most` open messages.
 pub fn resumed<'a, 'c, R: Inputs + AllocGlobal>(
     rt: &R,
     name: Option<&'a str>,

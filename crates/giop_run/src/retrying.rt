@@ -1,4 +1,4 @@
-//! A writer whose interrupted calls are tried again.
+//! A writer that tries interrupted calls again.
 
 ghost use Rattle.std.specs.Prelude.{◌≡◌, ◌≢◌, IfErr};
 ghost use Rattle.std.specs.IoError.{error_kind};
@@ -9,7 +9,7 @@ use super::reading::TRIES;
 use std::io;
 use std::io::{ErrorKind, Write};
 
-/// A writer that is tried again where it is interrupted, and fails where every try is.
+/// A writer that tries a call again if it is interrupted, and fails if every try is interrupted.
 #[derive(Drop)]
 pub struct Retrying<S> {
     inner: S,
@@ -18,7 +18,7 @@ pub struct Retrying<S> {
 impl<S> Retrying<S> {
     ghost use Rattle.giop_run.specs.Retrying.{retrying_inner};
 
-    /// Wraps a writer.
+    /// Makes one over this writer.
     pub fn new(inner: S) -> Retrying<S>
         ensures { retrying_inner result ≡ inner }
     {

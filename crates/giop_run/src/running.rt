@@ -18,32 +18,33 @@ use giop_stream::{Engine, Status, Stop, Totals};
 /// The greatest number of reads: 2^40.
 const TURNS: u64 = 1 << 40;
 
-/// How many octets a read may give.
+/// The greatest number of octets that a read may give.
 const ROOM: usize = 4096;
 
 /// What a run does at its end.
 #[derive(Clone, Copy, Debug, PartialEq, Eq)]
 pub enum Ending {
-    /// It writes the closing lines.
+    /// The run writes the closing lines.
     Finish,
-    /// It writes none, and returns its engine: the stream is read on with it, or with a checkpoint that it saves.
+    /// The run writes no closing lines, and returns its engine. The stream is read on with the engine, or with a checkpoint
+    /// that it saves.
     Keep,
 }
 
 /// What a run returns.
 #[derive(Drop)]
 pub struct Report<'a> {
-    /// The totals of the stream; with `Ending::Keep` those of what was read so far.
+    /// The totals of the stream. With `Ending::Keep` they are the totals of what was read until now.
     pub totals: Totals,
-    /// The engine, which holds all that was read; none with `Ending::Finish`.
+    /// The engine, which holds all that was read, with `Ending::Keep`; none with `Ending::Finish`.
     pub kept: Option<Engine<'a>>,
 }
 
-/// Reads the source to its end or to a stream fault, writes the lines of what it gave, and ends the stream, or keeps its
-/// engine.
+/// Reads the source up to its end or to a stream fault, and writes the lines of what it gave. Then ends the stream, or
+/// keeps its engine.
 ///
-/// A stream that has a stream fault already is ended without a read. Where the run fails, what was written stays: the
-/// lines of all that was read, or after a failed put a front of them.
+/// If the stream has a stream fault already, it is ended without a read. If the run fails, what was written stays: the
+/// lines of all that was read, or, after a failed put, a front of them.
 pub fn run<'a, S: Source, O: Out>(
     source: &mut S,
     out: &mut O,
@@ -55,7 +56,7 @@ pub fn run<'a, S: Source, O: Out>(
         (S.log source.old) (S.log source.new) (O.log out.old) (O.log out.new) }
     ensures failed { engine.entry.failed ≡ true
         → Refused result (S.log source.old) (S.log source.new) (O.log out.old) (O.log out.new) }
-    // Of every engine, also of one that holds no stream.
+    // This holds for every engine, also for one that holds no stream.
     ensures sound { result ≡ Err RunFault.Failed → engine.entry.failed ≡ true }
     ensures reads { (S.log source.new).reads ≤ (S.log source.old).reads + 2 ^ 40 }
     ensures kept { IfOk result (λ report. HasKept ending report.kept) }
@@ -63,8 +64,8 @@ pub fn run<'a, S: Source, O: Out>(
     run_by::<S, O, Nothing>(source, out, engine, ending)
 }
 
-/// A run that does `F` to its out before each read and at the end, so that the lines of a live stream are seen at once.
-/// A flush that fails is a failed put.
+/// Runs an engine, and lets `F` flush the out before each read and at the end, so that the lines of a live stream can be
+/// seen at once. If a flush fails, the run fails as after a failed put.
 pub(crate) fn run_by<'a, S: Source, O: Out, F: Between<O>>(
     source: &mut S,
     out: &mut O,
@@ -76,12 +77,12 @@ pub(crate) fn run_by<'a, S: Source, O: Out, F: Between<O>>(
         (S.log source.old) (S.log source.new) (O.log out.old) (O.log out.new) }
     ensures failed { engine.entry.failed ≡ true
         → Refused result (S.log source.old) (S.log source.new) (O.log out.old) (O.log out.new) }
-    // Of every engine, also of one that holds no stream.
+    // This holds for every engine, also for one that holds no stream.
     ensures sound { result ≡ Err RunFault.Failed → engine.entry.failed ≡ true }
     ensures reads { (S.log source.new).reads ≤ (S.log source.old).reads + 2 ^ 40 }
     ensures kept { IfOk result (λ report. HasKept ending report.kept) }
     ensures flushed { OnOk result (F.left out.new ≡ []) }
-    // Where a read failed, or there were too many, nothing waits in the out.
+    // If a read failed, or there were too many reads, the out keeps nothing back.
     ensures seen { (result ≡ Err RunFault.Read) ⊎ (result ≡ Err RunFault.Turns) →
         F.left out.new ≡ [] }
 {
@@ -90,7 +91,7 @@ pub(crate) fn run_by<'a, S: Source, O: Out, F: Between<O>>(
     close::<O, F>(engine, out, ending)
 }
 
-/// Feeds all that the source gives, up to its end or to a stream fault; nothing to a stream that has a fault already.
+/// Feeds all that the source gives, up to its end or to a stream fault. If the stream has a fault already, feeds nothing.
 fn feed_all<S: Source, O: Out, F: Between<O>>(
     source: &mut S,
     out: &mut O,
@@ -135,7 +136,7 @@ fn flush<O: Out, F: Between<O>>(out: &mut O) -> Result<(), RunFault>
     }
 }
 
-/// Reads once, and feeds what the read gave; returns whether the stream goes on.
+/// Reads once, and feeds what the read gave. Returns whether the stream goes on.
 fn read_and_feed<S: Source, O: Out>(
     source: &mut S,
     out: &mut O,
@@ -164,7 +165,7 @@ fn read_and_feed<S: Source, O: Out>(
     feed(engine, &buffer[..given], out)
 }
 
-/// Reads once, with a contract that the buffer has octets, which follows from its type.
+/// Reads once. Its contract says that the buffer has octets, which follows from the buffer's type.
 fn read<S: Source>(source: &mut S, buffer: &mut [u8]) -> Result<usize, SourceFault>
     ensures read { MatchResult result
         (λ given. Gave (S.log source.old) (S.log source.new) buffer.new given)
@@ -174,7 +175,7 @@ fn read<S: Source>(source: &mut S, buffer: &mut [u8]) -> Result<usize, SourceFau
     source.read(buffer)
 }
 
-/// Feeds a piece; returns whether the stream goes on.
+/// Feeds a piece. Returns whether the stream goes on.
 fn feed<O: Out>(engine: &mut Engine, piece: &[u8], out: &mut O) -> Result<bool, RunFault>
     ensures fed { (p : List ℕ) → Holds engine.old p
         → Fed (rules_of engine.old) result p piece.now engine.new (O.log out.old) (O.log out.new) }
@@ -195,7 +196,7 @@ fn feed<O: Out>(engine: &mut Engine, piece: &[u8], out: &mut O) -> Result<bool, 
     }
 }
 
-/// Ends a run, by its `Ending`.
+/// Ends a run as its `Ending` says.
 fn close<'a, O: Out, F: Between<O>>(
     engine: Engine<'a>,
     out: &mut O,
@@ -214,7 +215,7 @@ fn close<'a, O: Out, F: Between<O>>(
     }
 }
 
-/// Ends the stream, flushes the out, and reports the totals.
+/// Ends the stream, flushes the out, and returns the totals.
 fn finished<'a, O: Out, F: Between<O>>(
     engine: Engine<'a>,
     out: &mut O,
@@ -231,7 +232,7 @@ fn finished<'a, O: Out, F: Between<O>>(
     Ok(Report { totals, kept: None })
 }
 
-/// Flushes the out, and keeps the engine.
+/// Flushes the out, and returns the engine.
 fn kept<'a, O: Out, F: Between<O>>(engine: Engine<'a>, out: &mut O) -> Result<Report<'a>, RunFault>
     ensures closed { (p : List ℕ) → Holds engine.entry p
         → Closed (setup_of engine.entry Ending.Keep) result p (O.log out.old) (O.log out.new) }

@@ -12,25 +12,25 @@ use std::{fs, io};
 
 /// Files in which checkpoints can be saved.
 pub trait Saves {
-    /// The files that were saved, where the contracts know them.
+    /// The files that were saved, if the contracts know them.
     ghost saved: { Self → Option (List Saved) };
 
-    /// Saves the checkpoint of an engine in the file of this name. An `Err` leaves a plain file of that name as it was.
+    /// Saves the checkpoint of an engine in the file of this name. If it fails, a plain file of this name is as it was.
     fn save(&mut self, name: &str, engine: &Engine) -> io::Result<()>
         ensures { SavesOne result (saved self.old) (saved self.new) name.now engine.now };
 }
 
-/// The files of the system; the contracts don't know what they hold.
+/// The files of the system. The contracts don't know what they hold.
 #[derive(Drop)]
 pub struct Disk<'a> {
     rt: &'a HostRuntime,
     in_use: [Option<FileId>; 6],
 }
 
-/// Names of the standard streams, which lead to their files: input, output, error.
+/// Names that lead to the files of the standard streams: input, output, error.
 const STANDARD: [&str; 3] = ["/proc/self/fd/0", "/proc/self/fd/1", "/proc/self/fd/2"];
 
-/// Which plain file it is, by whatever name.
+/// The identity of a plain file, which is the same for each name that it has.
 #[derive(Clone, Copy, Debug, Drop, PartialEq, Eq)]
 struct FileId {
     device: u64,
@@ -38,7 +38,7 @@ struct FileId {
 }
 
 impl FileId {
-    /// The plain file that a name leads to, through links too.
+    /// The identity of the plain file that a name leads to, also through links.
     fn of_name(rt: &HostRuntime, name: &str) -> Option<FileId> {
         match fs::metadata(rt, name) {
             Ok(found) => FileId::of_file(&found),
@@ -46,7 +46,7 @@ impl FileId {
         }
     }
 
-    /// The plain file of which this is known.
+    /// The identity of the plain file that is known by this.
     fn of_file(found: &Metadata) -> Option<FileId> {
         if !found.is_file() {
             return None;
@@ -59,8 +59,8 @@ impl FileId {
 }
 
 impl<'a> Disk<'a> {
-    /// The files of the system. The plain files of the standard streams, and those that these names lead to now, are in use:
-    /// a save in one of them fails, by whatever name, and leaves it as it is.
+    /// The files of the system. The plain files of the standard streams, and those that the given names lead to now, are in
+    /// use. A save in one of them fails, also under another name of it, and leaves the file as it is.
     pub fn new(rt: &'a HostRuntime, named: [Option<&str>; 3]) -> Disk<'a> {
         let [first, second, third] = named;
         let [input, output, error] = STANDARD;
@@ -93,17 +93,18 @@ impl Saves for Disk<'_> {
     fn save(&mut self, name: &str, engine: &Engine) -> io::Result<()> {
         match fs::metadata(self.rt, name) {
             Ok(found) if self.is_in_use(&found) => Err(io::Error::from(ErrorKind::InvalidInput)),
-            // A device or a pipe holds no old octets, and can't be replaced by another file.
+            // A device or a pipe holds no old octets, and another file can't replace it.
             Ok(found) if !found.is_file() => put_into(&open_in_place(self.rt, name)?, engine),
             _ => replaced(self.rt, name, engine),
         }
     }
 }
 
-/// Opens a device or a pipe. A plain file that has come to its name since is refused, and keeps its octets.
+/// Opens a device or a pipe. If its name leads to a plain file by now, that is refused and keeps its octets.
 fn open_in_place(rt: &HostRuntime, name: &str) -> io::Result<File> {
     let mut options = OpenOptions::new();
-    // It may be made, since only then does the system refuse another user's pipe in a folder that is open to all, as /tmp.
+    // The call allows that the file is made. Only then does the system refuse another user's pipe in a folder that is open
+    // to all, such as /tmp.
     options.write(true).create(true).mode(PRIVATE);
     let file = options.open(rt, name)?;
     if file.metadata()?.is_file() {

@@ -1,5 +1,5 @@
-//! What stands on the command line, as the programs show it: an octet outside 20 to 7e is `\xHH`, so that a word has no line
-//! feed and no escape sequence for the terminal that shows it.
+//! How the programs show words of the command line. An octet outside 20 to 7e is shown as `\xHH`, so that the terminal gets
+//! no line feed and no escape sequence from a word.
 
 ghost use Rattle.std.specs.Prelude.{◌≡◌, ◌<◌, Some, option_map, IfOk, map, string_bytes, encode_utf8};
 ghost use Rattle.std.specs.Fmt.{WritesOnOk, IsPlainFormatter, HasWritten};
@@ -10,10 +10,11 @@ use std::alloc::{AllocError, Global};
 use std::fmt;
 use std::fmt::{Display, Formatter, Write};
 
-/// What stands for a line feed of a word in what `clap` says of the words. No word has it, since it ends a word.
+/// The octet that stands for a line feed of a word while `clap` reads the words. No word has this octet, because it ends a
+/// word.
 const STAND_IN: u8 = 0;
 
-/// A file's name.
+/// A file's name, to be shown.
 #[derive(Clone, Copy)]
 pub struct ShownName<'a>(pub &'a str);
 
@@ -28,7 +29,8 @@ impl Display for ShownName<'_> {
     }
 }
 
-/// The words in which `clap` looks for what is wrong, so that what it says of them tells their line feeds from its own.
+/// The words for `clap`, with the stand-in for each line feed. So in a text of `clap` about the words, the line feeds of
+/// the words differ from those of `clap`.
 pub fn marked(alloc: Global, words: &[String]) -> Result<Vec<String>, AllocError>
     ensures { IfOk result (λ marked. map string_bytes marked.items
         ≡ map (λ word. mark (string_bytes word)) words.now) }
@@ -40,7 +42,7 @@ pub fn marked(alloc: Global, words: &[String]) -> Result<Vec<String>, AllocError
     Ok(marked)
 }
 
-/// A word with what stands for its line feeds.
+/// A word with the stand-in for each of its line feeds.
 fn marked_word(alloc: Global, word: &str) -> Result<String, AllocError>
     ensures { IfOk result (λ marked. string_bytes marked ≡ mark word.now) }
 {
@@ -51,7 +53,7 @@ fn marked_word(alloc: Global, word: &str) -> Result<String, AllocError>
     Ok(marked)
 }
 
-/// A letter of a word, or what stands for its line feed.
+/// A letter of a word, or the stand-in if the letter is a line feed.
 fn marked_letter(letter: char) -> char
     ensures { encode_utf8 result ≡ mark (encode_utf8 letter) }
 {
@@ -62,7 +64,7 @@ fn marked_letter(letter: char) -> char
     }
 }
 
-/// A text that is said of marked words, as `clap` says it.
+/// A text that `clap` gives about marked words, to be shown.
 #[derive(Drop)]
 pub(crate) struct ShownText<'a, D: Display>(pub(crate) &'a D);
 
@@ -72,18 +74,18 @@ impl<D: Display> Display for ShownText<'_, D> {
     fn fmt<W: Write>(&self, f: &mut Formatter<W>) -> fmt::Result {
         let mut escaping = Escaping(f);
         let written = escaping.write(self.0);
-        // It does nothing; by the reference that comes back a proof knows what `f` holds.
+        // The call does nothing. By the reference that it returns, a proof knows what `f` holds.
         escaping.into_inner();
         written
     }
 }
 
-/// Writes a text that is said of marked words: a line feed of it is no word's, and stays.
+/// Writes a text about marked words. A line feed in it isn't a word's, and stays.
 #[derive(Drop)]
 struct Escaping<'f, W: Write>(&'f mut Formatter<W>);
 
 impl<'f, W: Write> Escaping<'f, W> {
-    /// What is written to.
+    /// The formatter that is written to.
     fn into_inner(self) -> &'f mut Formatter<W>
         ensures { result ≡ self.entry.0 }
     {
@@ -104,7 +106,7 @@ impl<W: Write> Write for Escaping<'_, W> {
     }
 }
 
-/// Writes an octet of a text that is said of marked words.
+/// Writes an octet of a text about marked words.
 fn put_marked<W: Write>(f: &mut Formatter<W>, octet: u8) -> fmt::Result
     ensures { WritesOnOk W.write_str_gives f.old result (shown_marked_octet octet) f.new }
 {
@@ -115,7 +117,7 @@ fn put_marked<W: Write>(f: &mut Formatter<W>, octet: u8) -> fmt::Result
     }
 }
 
-/// Writes an octet as it is shown.
+/// Writes an octet in the way that it is shown.
 fn put_shown<W: Write>(f: &mut Formatter<W>, octet: u8) -> fmt::Result
     ensures { WritesOnOk W.write_str_gives f.old result (shown_octet octet) f.new }
 {

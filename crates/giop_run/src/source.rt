@@ -1,4 +1,4 @@
-//! Where a run reads its octets: a source gives some at each read, and counts its reads.
+//! Where a run reads its octets from: a source, which gives some octets at each read, and counts its reads.
 
 ghost use Rattle.std.specs.Prelude.{◌≡◌, MatchResult, IfErr};
 ghost use Rattle.std.specs.declared.io.ErrorKind.{ErrorKind};
@@ -7,15 +7,16 @@ ghost use Rattle.giop_run.specs.SourceLog.{SourceLog, Gave, ReadFailed};
 
 use super::fault::SourceFault;
 
-/// Gives octets, some at each read.
+/// Something that gives octets, some of them at each read.
 pub trait Source {
-    /// The octets that are left, where the contracts know them, and how many reads, failures and ends there were.
+    /// The octets that are left, if the contracts know them, and how many reads, failures and ends there were.
     ghost log: { Self → SourceLog };
 
-    /// The errors by which its reads fail. None is added by a read.
+    /// The kinds of error that a read may fail with. No read adds a kind.
     ghost fails: { Self → ErrorKind → Type 0 };
 
-    /// Puts the next octets at the start of `into`, and returns how many. None where `into` isn't empty is the end.
+    /// Puts the next octets at the start of `into`, and returns how many. If it returns 0 and `into` isn't empty, the
+    /// source is at its end.
     fn read(&mut self, into: &mut [u8]) -> Result<usize, SourceFault>
         ensures read { MatchResult result
             (λ given. Gave (log self.old) (log self.new) into.new given)
@@ -24,7 +25,7 @@ pub trait Source {
         ensures fewer { (kind : ErrorKind) → fails self.new kind → fails self.old kind };
 }
 
-/// A count plus one; the greatest count stays the same.
+/// One more than a count, or the greatest number of 64 bits if the count is that.
 #[tactic(auto, unfolding(giop_print::specs::Output::counted))]
 pub(crate) fn one_more(count: u64) -> u64
     ensures { result ≡ counted count }

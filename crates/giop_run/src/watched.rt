@@ -1,4 +1,4 @@
-//! A writer that notes whether its reader has gone.
+//! A writer that notes whether its reader is gone.
 
 ghost use Rattle.std.specs.Prelude.{◌≡◌, ◌≢◌, true, false, IfOk, IfErr};
 ghost use Rattle.std.specs.IoError.{error_kind};
@@ -8,18 +8,19 @@ ghost use Rattle.std.specs.Io.KnownBytes.{WriteAppends};
 use std::io;
 use std::io::{ErrorKind, Write};
 
-/// A writer that notes whether a write failed because nobody reads any more what is written, as of a pipe (EPIPE).
+/// A writer that notes whether a write failed because nobody reads any more what is written, as it happens with a pipe
+/// (EPIPE).
 #[derive(Drop)]
 pub struct Watched<W: Write> {
     inner: W,
-    /// Whether a write has failed so.
+    /// Whether a write has failed for this reason.
     pub reader_is_gone: bool,
 }
 
 impl<W: Write> Watched<W> {
     ghost use Rattle.giop_run.specs.Watched.{watched_inner};
 
-    /// Wraps a writer whose reader is there, as far as is known.
+    /// Makes one over this writer. As far as is known, the reader is there.
     pub fn new(inner: W) -> Watched<W>
         ensures inner { watched_inner result ≡ inner }
         ensures none { result.reader_is_gone ≡ false }

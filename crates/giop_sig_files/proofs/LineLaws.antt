@@ -1,4 +1,4 @@
--- The first line of a text, by the place of its LF; words, as they are read.
+-- The first line of a text, by the index of its LF; and the words of a line, as they are read.
 use Rattle.std.proofs.Common.{◌≡◌, ℕ, ◌-◌, ◌<◌, ◌≤◌, Bool, true, false, cond, ltb, refl, List, length, drop, take, Option, Some, None, arith}
 use Rattle.std.specs.Prelude.{MatchOption}
 use Rattle.std.specs.List.{position_or_len}

@@ -4,7 +4,7 @@ use Rattle.std.proofs.lemmas.List.{take_more, get_or-drop, length-drop}
 use Rattle.std.proofs.Math.Seq.{drop-cons}
 use Rattle.giop_sig_files.specs.Names.{word_before}
 
--- the part of a text between two places
+-- the part of a text between two indices
 abbrev pub between : ℕ → ℕ → List ℕ → List ℕ
 between start end text = take (end - start) (drop start text)
 

@@ -1,13 +1,14 @@
--- The file and the line of a line of the text that signature files are read as (meaning).
+-- The file and the line that a line of the joined text comes from (meaning).
 use Rattle.std.specs.Prelude.{ℕ, ◌+◌, ◌-◌, ◌==◌, if◌then◌else◌, nat_le, List, [], ◌∷◌}
 use Rattle.std.specs.List.{count_by}
 use Rattle.giop_sig_files.specs.declared.places.SignatureText.{SignatureText}
 
--- how many lines a text has, with the one after its last LF
+-- how many lines a text has; what follows its last LF is a line too
 abbrev pub line_count : List ℕ → ℕ
 line_count text = count_by (λ x. x == 10) text + 1
 
--- the file that a line is in, and which of its lines it is; the last has all that are left
+-- the file that a line of the joined text comes from, and the number of the line in the file; all
+-- lines that are left are of the last file
 abbrev pub place : SignatureText → List SignatureText → ℕ → SignatureText × ℕ
 place file [] line = (file, line)
 place file (next ∷ others) line =

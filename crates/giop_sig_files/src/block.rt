@@ -1,4 +1,4 @@
-//! The blocks of a text: its lines, where those of a declaration are one.
+//! The blocks of a text: its lines, but the lines of a declaration are one block.
 
 ghost use Rattle.std.specs.Prelude.{◌≡◌, ◌∷◌, ◌++◌, [], IfOk};
 ghost use Rattle.std.specs.List.{count_by};
@@ -13,7 +13,7 @@ fn begins(text: &[u8], word: &[u8]) -> bool
     text.starts_with(word)
 }
 
-/// Whether a block begins as a declaration does, or the version.
+/// Whether a block begins with the word of a declaration, or of the version.
 #[tactic(auto, unfolding(crate::specs::Blocks::is_declared))]
 pub(crate) fn is_declared(block: &[u8]) -> bool
     ensures { result ≡ is_declared block.now }
@@ -27,7 +27,7 @@ pub(crate) fn is_declared(block: &[u8]) -> bool
         || begins(block, b"signatures ")
 }
 
-/// The front of a block, with how many braces and parentheses open and close in it.
+/// The front of a block, and how many braces and parentheses open and close in it.
 #[derive(Drop)]
 pub(crate) struct Front {
     pub(crate) octets: Vec<u8>,
@@ -38,7 +38,7 @@ pub(crate) struct Front {
 }
 
 impl Front {
-    /// The front that has no octet.
+    /// Makes an empty front.
     pub(crate) fn new(alloc: Global) -> Front
         ensures { result.octets.items ≡ [] }
     {
@@ -59,7 +59,7 @@ impl Front {
         Ok(())
     }
 
-    /// Whether it is a declaration of which there is more in the next line.
+    /// Whether the front is a declaration that goes on in the next line.
     pub(crate) fn goes_on(&self) -> bool
         ensures { result ≡ goes_on self.now.octets.items }
     {

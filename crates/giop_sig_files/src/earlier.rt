@@ -1,9 +1,9 @@
-//! The line above that declares the same name.
+//! The earlier line that declares the same name as a line.
 
 ghost use Rattle.std.specs.Prelude.{◌≡◌, ◌<◌, ◌≤◌, ℕ, [], IfSome, IfNone, option_map};
 ghost use Rattle.giop_sig_files.specs.Names.{first_line, after_line, line_at, word_before, name_behind, declared_type, declared_name, is_operation, declare_same, DeclareSame};
 
-/// The first line, and what follows it.
+/// The first line of a text, and what follows it.
 fn first_line(text: &[u8]) -> (&[u8], &[u8])
     ensures line { result.0.now ≡ first_line text.now }
     ensures after { result.1.now ≡ after_line text.now }
@@ -14,7 +14,7 @@ fn first_line(text: &[u8]) -> (&[u8], &[u8])
     }
 }
 
-/// A line by its number, from 1.
+/// The line of a text with this number, from 1.
 fn line_at(text: &[u8], line: u32) -> &[u8]
     ensures { result.now ≡ line_at text.now line }
 {
@@ -25,7 +25,7 @@ fn line_at(text: &[u8], line: u32) -> &[u8]
     first_line(rest).0
 }
 
-/// The word in front of the first octet that is this.
+/// The word before the first octet that is `stop`.
 #[tactic(auto, unfolding(crate::specs::Names::word_before))]
 fn word_before(text: &[u8], stop: u8) -> Option<&[u8]>
     ensures { option_map (λ w. w.now) result ≡ word_before stop [] text.now }
@@ -42,7 +42,7 @@ fn word_before(text: &[u8], stop: u8) -> Option<&[u8]>
     None
 }
 
-/// The name after this word of a line, in front of the first octet that is this.
+/// The name in a line that begins with this word: what comes before the first octet that is `stop`.
 #[tactic(auto, unfolding(crate::specs::Names::name_behind))]
 fn name_behind<'a>(line: &'a [u8], word: &[u8], stop: u8) -> Option<&'a [u8]>
     ensures { option_map (λ w. w.now) result ≡ name_behind word.now stop line.now }
@@ -53,7 +53,7 @@ fn name_behind<'a>(line: &'a [u8], word: &[u8], stop: u8) -> Option<&'a [u8]>
     }
 }
 
-/// The name of the type that a line declares.
+/// The name of the type that a line declares, if it declares one.
 fn declared_type(line: &[u8]) -> Option<&[u8]>
     ensures { option_map (λ w. w.now) result ≡ declared_type line.now }
 {
@@ -62,7 +62,7 @@ fn declared_type(line: &[u8]) -> Option<&[u8]>
         .or(name_behind(line, b"enum ", b' '))
 }
 
-/// The name that a line declares.
+/// The name that a line declares, if it declares one.
 fn declared_name(line: &[u8]) -> Option<&[u8]>
     ensures { option_map (λ w. w.now) result ≡ declared_name line.now }
 {
@@ -79,7 +79,7 @@ fn is_operation(line: &[u8]) -> bool
     line.starts_with(b"operation ")
 }
 
-/// Whether both lines declare the same name.
+/// Whether two lines declare the same name.
 #[tactic(auto, unfolding(crate::specs::Names::declare_same))]
 fn declare_same(above: &[u8], line: &[u8]) -> bool
     ensures { result ≡ declare_same above.now line.now }
@@ -93,7 +93,7 @@ fn declare_same(above: &[u8], line: &[u8]) -> bool
     }
 }
 
-/// The first line above a line that declares the name that this declares.
+/// The number of the first line before a line that declares the same name.
 pub fn declared_above(text: &[u8], line: u32) -> Option<u32>
     ensures same { IfSome result (λ above. DeclareSame text.now above line) }
     ensures above { IfSome result (λ above. (1 ≤ above) × (above < line)) }

@@ -26,14 +26,14 @@ fn blocks(alloc: Global, text: &[u8]) -> Result<Vec<Vec<u8>>, AllocError>
     Ok(blocks)
 }
 
-/// Whether a block is a declaration that stands among the blocks of the files before its own.
+/// Whether a block is a declaration that stands among the blocks of earlier files.
 fn is_taken(before: &[Vec<u8>], block: &Vec<u8>) -> bool
     ensures { result ≡ is_taken (map (λ b. b.items) before.now) block.now.items }
 {
     is_declared(block.as_slice()) && before.contains(block)
 }
 
-/// Adds what is taken of a block to a text, after the blocks of the files before its own.
+/// Adds to a text what is taken of a block: all of it, or only its line feeds if an earlier file has the block.
 fn take(text: &mut Vec<u8>, before: &[Vec<u8>], block: &Vec<u8>) -> Result<(), AllocError>
     ensures { IfOk result (λ _. text.new.items ≡ text.old.items
         ++ 10 ∷ once (map (λ b. b.items) before.now) block.now.items) }
@@ -50,7 +50,7 @@ fn take(text: &mut Vec<u8>, before: &[Vec<u8>], block: &Vec<u8>) -> Result<(), A
     Ok(())
 }
 
-/// Adds what is taken of blocks to a text, after the blocks of the files before their own.
+/// Adds to a text what is taken of the blocks of a file.
 fn take_all(text: &mut Vec<u8>, before: &[Vec<u8>], blocks: &[Vec<u8>]) -> Result<(), AllocError>
     ensures { IfOk result (λ _. text.new.items ≡ text.old.items ++ flat_map with_line_feed
         (map (once (map (λ b. b.items) before.now)) (map (λ b. b.items) blocks.now))) }

@@ -1,5 +1,5 @@
-//! Signature files that are read as one text: the text, the file and the line of a line of it, and the line above that declares
-//! the same name.
+//! Signature files that are read as one text: that text, the file and the line that a line of it comes from, and the
+//! earlier line that declares the same name.
 #![tactic(auto)]
 
 mod block;

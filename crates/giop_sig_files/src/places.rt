@@ -1,4 +1,4 @@
-//! The file and the line of a line of the text that signature files are read as.
+//! The file and the line that a line of the joined text comes from.
 
 ghost use Rattle.std.specs.Prelude.{◌≡◌};
 ghost use Rattle.giop_sig_files.specs.Places.{line_count, place};
@@ -10,7 +10,7 @@ pub struct SignatureText<'a> {
     pub text: Vec<u8>,
 }
 
-/// How many lines a text has, with the one after its last LF.
+/// How many lines a text has. What follows its last LF is a line too.
 fn line_count(text: &[u8]) -> usize
     ensures { result ≡ line_count text.now }
 {
@@ -21,7 +21,7 @@ fn line_count(text: &[u8]) -> usize
     count
 }
 
-/// The file that a line of the joined text is in, and which of its lines it is.
+/// The file that a line of the joined text comes from, and the number of the line in the file.
 pub fn place<'s, 'a>(
     first: &'s SignatureText<'a>,
     others: &'s [SignatureText<'a>],

@@ -1,9 +1,9 @@
-//! Files that are read as one, by rows.
+//! Tests of files that are read as one text.
 
 use crate::{SignatureText, declared_above, joined, place};
 use std::test::Fail;
 
-/// Files and the text that they are read as; `|` stands between files, and a LF after each.
+/// Files, and the text that they are read as.
 const JOINED: [(&[&str], &str); 13] = [
     (&["signatures 1;"], "signatures 1;"),
     (&["signatures 1;\n"], "signatures 1;\n"),
@@ -23,7 +23,7 @@ const JOINED: [(&[&str], &str); 13] = [
         ],
         "signatures 1;\noperation void f();\n// Ours.\n\n\noperation void g();",
     ),
-    // Another version stays, and so does a name that is declared otherwise.
+    // Another version stays, and so does a name that is declared in another way.
     (
         &[
             "signatures 1;\noperation void f();\n",
@@ -31,7 +31,7 @@ const JOINED: [(&[&str], &str); 13] = [
         ],
         "signatures 1;\noperation void f();\n\nsignatures 2;\noperation long f();\n",
     ),
-    // A declaration of several lines is one.
+    // A declaration of several lines is one block.
     (
         &[
             "signatures 1;\nstruct A {\n  long x;\n};\n",
@@ -53,7 +53,7 @@ const JOINED: [(&[&str], &str); 13] = [
         ],
         "operation void f(in long a,\n    in long b);\n\n\n\n",
     ),
-    // So is a key.
+    // So is a key of several lines.
     (
         &[
             "key \"61*\" of \"A\";\n",
@@ -61,7 +61,7 @@ const JOINED: [(&[&str], &str); 13] = [
         ],
         "key \"61*\" of \"A\";\n\nkey \"62\"\n    of \"B\";\n\n",
     ),
-    // Twice in one file is twice.
+    // What stands twice in one file stays twice.
     (
         &[
             "operation void f();\noperation void f();",
@@ -69,7 +69,7 @@ const JOINED: [(&[&str], &str); 13] = [
         ],
         "operation void f();\noperation void f();\noperation void g();\noperation void g();",
     ),
-    // What is no declaration stays, also where it is indented.
+    // What is no declaration stays, and so does a declaration with spaces before it.
     (
         &[
             "  enum E { a };\nenum E { a };  \n};",
@@ -79,7 +79,7 @@ const JOINED: [(&[&str], &str); 13] = [
     ),
 ];
 
-/// Lines of a joined text, and the lines above them that declare the same.
+/// Lines of a text, and the earlier lines that declare the same name.
 const ABOVE: [(&str, u32, Option<u32>); 12] = [
     (
         "operation void f();\noperation long f(in long a);",

@@ -33,18 +33,18 @@ The manual page has every column.";
 pub(crate) struct Arguments<'a> {
     /// What is counted, and how it is written.
     pub(crate) settings: Settings<'a>,
-    /// The file with the lines; None for standard input. No name has a special meaning.
+    /// The file with the lines. If there is none, they come from standard input. No name has a special meaning.
     pub(crate) file: Option<&'a str>,
 }
 
 /// Why the words can't be read.
 #[derive(Drop)]
 pub(crate) enum Refusal<'a> {
-    /// What clap says; or the help.
+    /// The error of `clap`, or the help.
     Words(Error),
-    /// No value is known by this word.
+    /// This word names nothing that calls can be counted by.
     By(&'a str),
-    /// This is no time.
+    /// This word is no time.
     Time(&'a str),
 }
 
@@ -83,7 +83,8 @@ fn command<'a>(alloc: Global) -> Result<Command<'a>, AllocError> {
 }
 
 impl<'a> Arguments<'a> {
-    /// Reads the words, the first of which is the program's name. An `Err` is also for `--help` and `--version`.
+    /// Reads the words of the command line. The first word is the program's name. An `Err` is also the answer to `--help`
+    /// and `--version`.
     pub(crate) fn read(alloc: Global, words: &'a [String]) -> Result<Arguments<'a>, Refusal<'a>> {
         let matches = matches_of(alloc, words)?;
         Ok(Arguments {
@@ -94,7 +95,7 @@ impl<'a> Arguments<'a> {
 }
 
 fn matches_of<'a>(alloc: Global, words: &'a [String]) -> Result<ArgMatches<'a>, Error> {
-    // What is wrong with the words is said of marked ones.
+    // If something is wrong with the words, the error's text is made of the marked words.
     command(alloc)?.try_get_matches_from(marked(alloc, words)?.as_slice())?;
     command(alloc)?.try_get_matches_from(words)
 }

@@ -1,4 +1,4 @@
-//! The program: its words, its steps, and its status.
+//! The program: the words of its command line, its steps, and its status.
 
 ghost use Rattle.std.specs.Prelude.{◌≤◌};
 
@@ -7,10 +7,10 @@ use giop_run::{ProgramFault, ShownName, failed, refused, words};
 use giop_stat_counts::Stat;
 use giop_views::viewed;
 
-/// The program's name, which stands in front of what it says on standard error.
+/// The program's name, with which each message on standard error begins.
 const PROGRAM: &str = "giop-stat";
 
-/// The status where the arguments can't be read.
+/// The status if the arguments can't be read.
 const USAGE: u8 = 2;
 
 /// Runs the program, and returns its status.
@@ -29,7 +29,7 @@ pub(crate) fn program(rt: &HostRuntime) -> u8
     }
 }
 
-/// Says that a word names no value; returns the program's status.
+/// Prints that a word names nothing to count by. Returns the program's status.
 fn refused_by(rt: &HostRuntime, word: &str) -> u8
     ensures { result ≤ 5 }
 {
@@ -40,7 +40,7 @@ fn refused_by(rt: &HostRuntime, word: &str) -> u8
     USAGE
 }
 
-/// Says that a word is no time; returns the program's status.
+/// Prints that a word is no time. Returns the program's status.
 fn refused_time(rt: &HostRuntime, word: &str) -> u8
     ensures { result ≤ 5 }
 {
@@ -51,7 +51,7 @@ fn refused_time(rt: &HostRuntime, word: &str) -> u8
     USAGE
 }
 
-/// The steps after the words; returns the program's status.
+/// Takes the steps after the words of the command line. Returns the program's status.
 fn view(rt: &HostRuntime, asked: Arguments<'_>) -> u8
     ensures { result ≤ 5 }
 {

@@ -1,4 +1,4 @@
-//! Counts the calls in the lines of a dump: lines in, tables or one JSON object on standard output.
+//! Counts the calls in the lines of a dump. It reads lines, and writes tables or one JSON object to standard output.
 #![tactic(auto)]
 
 mod arguments;

@@ -2,6 +2,6 @@
 
 use Rattle.std.specs.Prelude.{ℕ, ◌+◌, ◌-◌, ◌^◌, Bool, min, if◌then◌else◌}
 
--- a count and one more where something is so, as far as there is room
+-- a count, or one more if `is_one_more` is true; the greatest number of 64 bits stays
 abbrev pub plus : ℕ → Bool → ℕ
 plus count is_one_more = min (count + (if is_one_more then 1 else 0)) (2 ^ 64 - 1)

@@ -6,6 +6,7 @@ use Rattle.std.specs.Prelude.{ℕ, ◌+◌, ◌/◌, ◌%◌, List, ◌++◌, dr
 abbrev pub places : ℕ → List ℕ
 places number = drop 1 (decimal number)
 
--- a number of the parts that one has so many of, a power of ten, with a point before as many digits as that has zeros
+-- a number of parts in decimal, if `parts` of them make one; `parts` is a power of ten, and as many
+-- digits follow the point as it has zeros
 abbrev pub fraction : ℕ → ℕ → List ℕ
 fraction number parts = decimal (number / parts) ++ (codes "." ++ places (parts + number % parts))

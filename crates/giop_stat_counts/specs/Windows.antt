@@ -1,12 +1,13 @@
--- Which messages are counted, by their times (docs/FORMATS.md, Counts).
+-- The messages that are counted, by their times (docs/FORMATS.md, Counts).
 
 use Rattle.std.specs.Prelude.{ℕ, Bool, true, false, not, ◌&&◌, ◌==◌, List, [], ◌∷◌, length, slice_index, drop, take, nat_lt, min, if◌then◌else◌}
 
--- a time with its day has a T after it
+-- whether a time has its day: a T follows the day
 abbrev pub has_day : List ℕ → Bool
 has_day time = nat_lt 10 (length time) && slice_index time 10 == 84
 
--- what of a time is compared with another: no day where the other has none
+-- the part of a time that is compared with another time: without its day if the other one has no
+-- day
 abbrev pub compared : List ℕ → List ℕ → List ℕ
 compared time other = if has_day other then time else drop (min (length time) 11) time
 
@@ -23,10 +24,10 @@ is_known time = nat_lt 0 (length time)
 abbrev pub is_from : List ℕ → List ℕ → Bool
 is_from time first = is_known time && not (comes_before (compared time first) first)
 
--- the octets that a time begins with, as many as another has
+-- the first octets of a time, as many as another time has
 abbrev pub front_of : List ℕ → List ℕ → List ℕ
 front_of time other = take (min (length time) (length other)) time
 
--- not after the last time, or it begins with that
+-- whether a time isn't after the last one, or begins with it
 abbrev pub is_up_to : List ℕ → List ℕ → Bool
 is_up_to time last = is_known time && not (comes_before last (front_of (compared time last) last))

@@ -1,19 +1,20 @@
-//! Buckets of times: those of a bucket have the same first six binary digits, and as many after them.
+//! Buckets of times. The numbers of a bucket have the same first six binary digits, and the same number of digits after
+//! them.
 
 ghost use Rattle.std.specs.Prelude.{◌≡◌, ℕ, ◌+◌, ◌*◌, ◌^◌, ◌/◌, ◌<◌, ◌≤◌, ◌⊎◌, length, take, sum};
 ghost use Rattle.giop_stat_counts.specs.Buckets.{IsBucketOf, IsMiddleOf};
 
-/// How many buckets there are: 64 of a number each, 32 for each further binary digit up to the 44th, one of all numbers below
-/// 0, which is the first, and one of all others, which is the last.
+/// How many buckets there are: 64 with one number each; 32 for each further binary digit up to the 44th; the first one, for
+/// all numbers below 0; and the last one, for all other numbers.
 pub(crate) const BUCKETS: usize = 1_282;
 
-/// The bucket of all numbers below 0.
+/// The bucket for all numbers below 0.
 pub(crate) const BELOW: usize = 0;
 
-/// The bucket of all numbers from 2^44 on.
+/// The bucket for all numbers from 2^44 on.
 pub(crate) const ABOVE: usize = BUCKETS - 1;
 
-/// The bucket of a number of nanoseconds.
+/// The bucket for a number of nanoseconds.
 pub(crate) fn bucket(time: i128) -> usize
     ensures { result < 1282 }
 {
@@ -24,7 +25,7 @@ pub(crate) fn bucket(time: i128) -> usize
     }
 }
 
-/// The bucket of a number from 0.
+/// The bucket for a number that isn't below 0.
 fn bucket_from_zero(time: u64) -> usize
     ensures within { result < 1282 }
     ensures below { time < 2 ^ 44 → IsBucketOf time result }
@@ -43,7 +44,7 @@ fn bucket_from_zero(time: u64) -> usize
     1 + 32 * 38 + digits as usize
 }
 
-/// The middle of a bucket that is neither the first nor the last.
+/// The middle of a bucket that is neither the first nor the last one.
 pub(crate) fn middle(bucket: usize) -> u64
     requires { (0 < bucket) × (bucket < 1281) }
     ensures { IsMiddleOf bucket result }
@@ -53,7 +54,7 @@ pub(crate) fn middle(bucket: usize) -> u64
     digits * width + width / 2
 }
 
-/// How many numbers have the same first binary digits, if so many follow.
+/// How many numbers have the same first binary digits, if this number of digits follow these.
 fn width_of(after: u64) -> u64
     requires { after ≤ 38 }
     ensures value { result ≡ 2 ^ after }
@@ -62,7 +63,8 @@ fn width_of(after: u64) -> u64
     1 << after
 }
 
-/// How many binary digits follow the first of the numbers of a bucket, whose number is one more than this, and these first ones.
+/// How many binary digits follow the first ones in the numbers of a bucket, and these first digits. The number of the
+/// bucket is `place` + 1.
 fn parts_of(place: u64) -> (u64, u64)
     requires { place < 1280 }
     ensures place { place ≡ 32 * result.0 + result.1 }
@@ -77,7 +79,7 @@ fn parts_of(place: u64) -> (u64, u64)
     (after, place - 32 * after)
 }
 
-/// Which of some buckets has the number that so many are up to, itself counted; their count if none has.
+/// The bucket that the number with rank `due` is in, by the counts of the buckets; the number of buckets if none has it.
 pub(crate) fn bucket_at(counts: &[u64], due: u64) -> usize
     requires { 0 < due }
     ensures within { result ≤ length counts.now }

@@ -1,8 +1,8 @@
-//! What a user chooses.
+//! What a user may choose.
 
 use crate::window::Window;
 
-/// What calls are counted by beside their operation.
+/// What calls are counted by, in addition to their operation.
 #[derive(Clone, Copy, Debug, Drop, PartialEq, Eq)]
 pub enum By<'a> {
     /// The client's address.
@@ -16,7 +16,7 @@ pub enum By<'a> {
 }
 
 impl<'a> By<'a> {
-    /// What a word of the command line says, which is a path below `header` or `body` or one of three words.
+    /// What a word of the command line stands for: a path below `header` or `body`, or one of three words.
     pub fn of(word: &'a str) -> Option<By<'a>> {
         match word {
             "client" => Some(By::Client),
@@ -32,7 +32,7 @@ impl<'a> By<'a> {
         }
     }
 
-    /// The title of its column.
+    /// The title of the column for it.
     pub(crate) fn title(self) -> &'a str {
         match self {
             By::Client => "client",
@@ -63,15 +63,15 @@ fn is_path_below(path: &[u8]) -> bool {
     rest.is_empty()
 }
 
-/// What a user chooses.
+/// What a user may choose.
 #[derive(Clone, Copy, Debug, Drop)]
 pub struct Settings<'a> {
-    /// What calls are counted by beside their operation, if by anything.
+    /// What calls are counted by in addition to their operation, if by anything.
     pub by: Option<By<'a>>,
-    /// When the messages that are counted began.
+    /// The times of the messages that are counted.
     pub window: Window<'a>,
     /// Whether one JSON object is written.
     pub is_json: bool,
-    /// Whether the table of connections is written as text; as JSON it always is.
+    /// Whether the table of connections is written as text. In JSON it is always written.
     pub has_connections: bool,
 }

@@ -1,11 +1,11 @@
-//! A table as text: columns of equal width, without those in which nothing was counted.
+//! A table as text: columns of equal width, without the columns in which nothing was counted.
 
 use std::alloc::{AllocError, Global};
 
 /// A column.
 #[derive(Drop)]
 struct Column {
-    // Whether it is of names: they begin at the left, and are written where they are alike too.
+    // Whether the column has names. Names begin at the left, and their column is written if one of them isn't empty.
     is_name: bool,
     width: usize,
     is_shown: bool,
@@ -27,7 +27,7 @@ pub(crate) struct Sheet {
 }
 
 impl Sheet {
-    /// No line.
+    /// Makes a table without lines.
     pub(crate) fn new(alloc: Global) -> Sheet {
         Sheet {
             alloc,
@@ -36,7 +36,7 @@ impl Sheet {
         }
     }
 
-    /// Whether there is no line beside the titles.
+    /// Whether there is only the line of titles.
     pub(crate) fn is_empty(&self) -> bool {
         self.rows.len() <= 1
     }
@@ -51,7 +51,7 @@ impl Sheet {
         Ok(())
     }
 
-    /// Adds a cell to the last line; those of the first line are titles.
+    /// Adds a cell to the last line. The cells of the first line are the titles.
     pub(crate) fn cell(&mut self, text: Vec<u8>, is_name: bool) -> Result<(), AllocError> {
         let is_first = self.rows.len() <= 1;
         let Some(line) = self.rows.last_mut() else {
@@ -100,7 +100,7 @@ impl Sheet {
     }
 }
 
-/// Appends a cell, after two spaces unless it is the first.
+/// Appends a cell, with two spaces before it unless it is the first.
 fn put_cell(
     text: &mut Vec<u8>,
     column: &Column,

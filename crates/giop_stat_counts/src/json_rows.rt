@@ -11,7 +11,7 @@ use giop_json_values::{Text, shown_text};
 use giop_view_parts::{Capture, Endpoint};
 use std::alloc::{AllocError, Global};
 
-/// The object, with its line feed.
+/// The tables as one object, with its line feed.
 pub(crate) fn json_of(
     alloc: Global,
     by: Option<By<'_>>,
@@ -53,7 +53,7 @@ pub(crate) fn json_of(
     Ok(octets)
 }
 
-/// Writes a list of rows, with their names under these titles.
+/// Writes a list of rows. Their names are members with these titles.
 fn put_table(
     alloc: Global,
     text: &mut Text,
@@ -104,7 +104,7 @@ fn put_end(text: &mut Text, names: [&str; 2], end: &[u8]) -> Result<(), AllocErr
     text.total_or_null(names[1], end.port)
 }
 
-/// Writes the row of all others, or null where there are none.
+/// Writes the row of all others, or null if there are none.
 fn put_others(
     alloc: Global,
     text: &mut Text,
@@ -136,7 +136,7 @@ fn put_row(alloc: Global, text: &mut Text, row: &Row) -> Result<(), AllocError> 
     text.close(false)
 }
 
-/// The counts of a row by their names.
+/// The counts of a row, with their names.
 pub(crate) fn counts(row: &Row) -> [(&'static str, u64); 8] {
     [
         ("calls", row.calls),
@@ -150,7 +150,7 @@ pub(crate) fn counts(row: &Row) -> [(&'static str, u64); 8] {
     ]
 }
 
-/// Writes times as seconds, or null where there are none.
+/// Writes times as seconds, or null if there are none.
 fn put_times(alloc: Global, text: &mut Text, times: &Times) -> Result<(), AllocError> {
     if times.is_empty() {
         return text.null();
@@ -167,7 +167,7 @@ fn put_times(alloc: Global, text: &mut Text, times: &Times) -> Result<(), AllocE
     text.close(false)
 }
 
-/// The times of a row by their names; those that it doesn't have are None.
+/// The times of a row, with their names. A time that the row doesn't have is None.
 pub(crate) fn named_times(times: &Times) -> [(&'static str, Option<i128>); 6] {
     [
         ("min", Some(times.least())),

@@ -1,4 +1,4 @@
-//! What is kept of a message beside its facts: the value that it is counted by.
+//! What is kept of a message in addition to its facts: the value that it is counted by.
 
 use crate::choice::By;
 use giop_cdr::Order;
@@ -6,10 +6,10 @@ use giop_lines::{Content, Value};
 use giop_view_parts::{Own, object_text};
 use std::alloc::{AllocError, Global};
 
-/// How many octets of a value calls are counted by.
+/// The greatest length of a value that calls are counted by, in octets. A longer value is cut.
 const VALUE_MAX: usize = 128;
 
-/// The value that a message is counted by; empty where it isn't known.
+/// The value that a message is counted by. It is empty if it isn't known.
 #[derive(Drop)]
 pub struct Counted {
     pub(crate) value: Vec<u8>,
@@ -56,7 +56,7 @@ impl Counted {
     }
 }
 
-/// Appends a value as its line has it.
+/// Appends a value in the form that its line has.
 fn put_value(text: &mut Vec<u8>, value: Value<'_>) -> Result<(), AllocError> {
     match value {
         Value::Octet(number) => put_number(text, number),
@@ -84,7 +84,7 @@ fn put_number<I: itoa::Integer>(text: &mut Vec<u8>, number: I) -> Result<(), All
     text.extend_from_slice(itoa::Buffer::new().format(number).as_bytes())
 }
 
-/// Appends bits as so many hexadecimal digits.
+/// Appends bits as this number of hexadecimal digits.
 fn put_bits(text: &mut Vec<u8>, bits: u64, count: u32) -> Result<(), AllocError> {
     let digits = b"0123456789abcdef";
     for place in 0..count.min(16) {

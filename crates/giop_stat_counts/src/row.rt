@@ -8,10 +8,10 @@ use crate::times::Times;
 use giop_view_parts::{Facts, Kind, Message, Status};
 use std::alloc::{AllocError, Global};
 
-/// How many repository ids a row counts apart; all others are one.
+/// The greatest number of repository ids that a row counts one by one. All others are counted together.
 const IDS_MAX: usize = 64;
 
-/// What stands for all others in the names of rows and ids. No name of a dump has a space.
+/// The name for all others among the names of rows and ids. No name in a dump has a space.
 pub(crate) const OTHERS: &str = "all others";
 
 /// How often something was counted.
@@ -25,7 +25,7 @@ pub(crate) struct Row {
     pub(crate) faults: u64,
     pub(crate) gaps: u64,
     pub(crate) octets: u64,
-    // Calls that want a reply, and replies to a call.
+    // The number of calls that expect a reply, and the number of replies to a call.
     awaited: u64,
     answered: u64,
     /// The times of its calls.
@@ -35,7 +35,7 @@ pub(crate) struct Row {
 }
 
 impl Row {
-    /// Nothing was counted.
+    /// Makes a row in which nothing was counted.
     pub(crate) fn new(alloc: Global, has_buckets: bool) -> Row {
         Row {
             calls: 0,
@@ -54,19 +54,19 @@ impl Row {
         }
     }
 
-    /// How many calls that want a reply have none.
+    /// How many calls that expect a reply have none.
     pub(crate) fn unanswered(&self) -> u64
         ensures { result ≡ self.now.awaited - self.now.answered }
     {
         self.awaited.saturating_sub(self.answered)
     }
 
-    /// The exceptions by their repository ids, and how often each came.
+    /// The repository ids of the exceptions, and how often each came.
     pub(crate) fn ids(&self) -> &[(Vec<u8>, u64)] {
         &self.ids
     }
 
-    /// Counts a message; of a reply the nanoseconds since its call, if they are known.
+    /// Counts a message. `time` is the nanoseconds between a reply and its call, if they are known.
     pub(crate) fn add(
         &mut self,
         message: &Message<Counted>,
@@ -111,7 +111,7 @@ impl Row {
         }
     }
 
-    /// Counts exceptions of a repository id.
+    /// Counts this number of exceptions with this repository id.
     fn add_id(&mut self, id: &[u8], count: u64) -> Result<(), AllocError> {
         if self.count_known(id, count) {
             return Ok(());
@@ -128,7 +128,7 @@ impl Row {
         Ok(())
     }
 
-    /// Counts exceptions of a repository id that came before. Answers whether it did.
+    /// Counts exceptions with a repository id that came before. Returns whether it came before.
     fn count_known(&mut self, id: &[u8], count: u64) -> bool {
         let Some(place) = self.ids.iter().position(|known| known.0.as_slice() == id) else {
             return false;
@@ -139,7 +139,7 @@ impl Row {
         true
     }
 
-    /// Counts all that another row without buckets has.
+    /// Adds all counts of another row without buckets.
     pub(crate) fn join(&mut self, other: &Row) -> Result<(), AllocError> {
         self.calls = self.calls.saturating_add(other.calls);
         self.oneways = self.oneways.saturating_add(other.oneways);
@@ -160,7 +160,7 @@ impl Row {
     }
 }
 
-/// A count, and one more where something is so.
+/// A count, or one more if `is_one_more` is true.
 pub(crate) fn plus(count: u64, is_one_more: bool) -> u64
     ensures { result ≡ plus count is_one_more }
 {

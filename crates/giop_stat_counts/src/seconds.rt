@@ -1,17 +1,17 @@
-//! Seconds with nine digits after the point, and the nanoseconds that they are.
+//! Seconds with nine digits after the point, and how many nanoseconds they are.
 
 ghost use Rattle.std.specs.Prelude.{◌≡◌, ◌+◌, ◌++◌, ◌/◌, ◌^◌, ◌<◌, OnOk};
 ghost use Rattle.giop_stat_counts.specs.Seconds.{fraction, places};
 
 use std::alloc::AllocError;
 
-/// Nanoseconds of a second.
+/// The number of nanoseconds in a second.
 const SECOND: u64 = 1_000_000_000;
 
-/// Nanoseconds of a microsecond.
+/// The number of nanoseconds in a microsecond.
 const MICROSECOND: u64 = 1_000;
 
-/// The nanoseconds that seconds with nine digits after the point are; None for what is no number.
+/// How many nanoseconds these seconds with nine digits after the point are; None if there is no digit.
 pub(crate) fn nanoseconds(text: &[u8]) -> Option<i128> {
     let (digits, is_negative) = match text {
         [b'-', digits @ ..] => (digits, true),
@@ -52,14 +52,14 @@ pub(crate) fn put_short_seconds(text: &mut Vec<u8>, time: i128) -> Result<(), Al
     put_fraction(text, rounded, SECOND / MICROSECOND)
 }
 
-/// The nearest number of microseconds.
+/// The nearest number of microseconds, for a number of nanoseconds.
 fn microseconds(time: u128) -> u128
     ensures { time < 2 ^ 127 → result ≡ (time + 500) / 1000 }
 {
     time.saturating_add(u128::from(MICROSECOND / 2)) / u128::from(MICROSECOND)
 }
 
-/// Appends a number of the parts that one has so many of, a power of ten, as decimal digits with a point.
+/// Appends a number of parts as decimal digits with a point. `parts` of them make one, and `parts` is a power of ten.
 fn put_fraction(text: &mut Vec<u8>, number: u128, parts: u64) -> Result<(), AllocError>
     requires { 0 < parts }
     ensures { OnOk result (text.new.items ≡ text.old.items ++ fraction number parts) }

@@ -1,12 +1,12 @@
-//! The orders in which rows and repository ids are written.
+//! The order in which rows and repository ids are written.
 
 use crate::row::Row;
 use crate::table::Table;
 use std::alloc::{AllocError, Global};
 use std::cmp::Ordering;
 
-/// The rows of a table: first those with the most time, of these those with the most calls, and of these those with the most
-/// octets; else by their names.
+/// The rows of a table in their order: those with the most time first; of these, those with the most calls first; of these,
+/// those with the most octets first; and of these by their names.
 pub(crate) fn sorted<'a>(
     alloc: Global,
     table: &'a Table,
@@ -28,7 +28,7 @@ fn compare_rows(a: (&str, &Row), b: (&str, &Row)) -> Ordering {
         .then(a.0.cmp(b.0))
 }
 
-/// The repository ids of a row: first those that came most often, else by their names.
+/// The repository ids of a row in their order: those that came most often first, and of these by their names.
 pub(crate) fn sorted_ids<'a>(
     alloc: Global,
     row: &'a Row,

@@ -1,4 +1,4 @@
-//! A dump whose calls are counted, and what is written at its end.
+//! The calls of a dump, counted, and what is written at the dump's end.
 
 use crate::choice::Settings;
 use crate::json_rows::json_of;
@@ -13,7 +13,7 @@ use giop_view_parts::{
 use lru::LruCache;
 use std::alloc::{AllocError, Global};
 
-/// How many calls may wait for their replies; the one that began first is forgotten where there is one more.
+/// The greatest number of calls that wait for their replies. If there is one more, the one that began first is forgotten.
 const WAITING_MAX: usize = 1_048_576;
 
 /// Counts the calls of a dump.
@@ -23,12 +23,12 @@ pub struct Stat<'a> {
     settings: Settings<'a>,
     tables: Tables,
     capture: Capture,
-    // The calls that wait for their replies, and the places of their operations.
+    // The calls that wait for their replies, and the indices of their operations' rows.
     waiting: LruCache<Key, Option<usize>>,
 }
 
 impl<'a> Stat<'a> {
-    /// Nothing was counted.
+    /// Makes one that has counted nothing.
     pub fn new(alloc: Global, settings: Settings<'a>) -> Result<Stat<'a>, AllocError> {
         Ok(Stat {
             alloc,
@@ -59,7 +59,7 @@ impl<'a> Stat<'a> {
         self.await_reply(message, place)
     }
 
-    /// Notes the place of a call that wants a reply.
+    /// Notes the row of a call that expects a reply.
     fn await_reply(
         &mut self,
         message: &Message<Counted>,

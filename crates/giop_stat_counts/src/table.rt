@@ -4,10 +4,10 @@ use crate::row::Row;
 use indexmap::IndexMap;
 use std::alloc::{AllocError, Global};
 
-/// How many rows a table has; all others are one.
+/// The greatest number of rows in a table. All others are one row.
 pub(crate) const ROWS_MAX: usize = 4_096;
 
-/// Rows by their names, which are joined by line feeds, in the order in which they came.
+/// Rows by their names, in the order in which they came. The names of a row are one text, with line feeds between them.
 #[derive(Drop)]
 pub(crate) struct Table {
     alloc: Global,
@@ -16,7 +16,7 @@ pub(crate) struct Table {
 }
 
 impl Table {
-    /// No rows.
+    /// Makes a table without rows.
     pub(crate) fn new(alloc: Global) -> Table {
         Table {
             alloc,
@@ -38,7 +38,7 @@ impl Table {
         }
     }
 
-    /// The place of the row with these names; None where it is one of the others.
+    /// The index of the row with these names; None if the row is counted with the others.
     pub(crate) fn place(&mut self, names: &str) -> Result<Option<usize>, AllocError> {
         if let Some(place) = self.rows.get_index_of(names) {
             return Ok(Some(place));
@@ -54,7 +54,7 @@ impl Table {
         Ok(Some(place))
     }
 
-    /// The row at a place.
+    /// The row at this index, or the row of all others.
     pub(crate) fn row(&mut self, place: Option<usize>) -> Option<&mut Row> {
         match place {
             Some(place) => self.rows.get_index_mut(place),

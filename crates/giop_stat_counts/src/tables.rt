@@ -1,4 +1,4 @@
-//! The tables, and the rows in which a message counts.
+//! The tables, and the rows that a message counts in.
 
 use crate::choice::By;
 use crate::message::Counted;
@@ -10,10 +10,10 @@ use giop_json_values::shown_text;
 use giop_view_parts::{Endpoint, Message, Stream};
 use std::alloc::{AllocError, Global};
 
-/// What stands for the operation of messages that have none. No operation has a space.
+/// The name of the operation if a message has none. No operation has a space.
 const NONE: &str = "no operation";
 
-/// What stands for an endpoint that isn't known.
+/// The name of an endpoint that isn't known.
 const UNKNOWN: &str = "-";
 
 /// The tables of operations, of clients with servers, and of connections.
@@ -26,7 +26,7 @@ pub(crate) struct Tables {
 }
 
 impl Tables {
-    /// No rows.
+    /// Makes tables without rows.
     pub(crate) fn new(alloc: Global) -> Result<Tables, AllocError> {
         Ok(Tables {
             operations: Table::new(alloc),
@@ -36,7 +36,7 @@ impl Tables {
         })
     }
 
-    /// The place among the operations of a message that is no reply to a call.
+    /// The index of the operation's row for a message that isn't a reply to a call.
     pub(crate) fn place(
         &mut self,
         by: Option<By<'_>>,
@@ -64,7 +64,7 @@ impl Tables {
         self.operations.place(&self.names)
     }
 
-    /// The place of what no message tells.
+    /// The index of the operation's row for what belongs to no message.
     fn place_of_none(&mut self, by: Option<By<'_>>) -> Result<Option<usize>, AllocError> {
         self.names.clear();
         self.names.push('\n')?;
@@ -75,7 +75,7 @@ impl Tables {
         self.operations.place(&self.names)
     }
 
-    /// The place among the pairs of the ends of a stream.
+    /// The index of the pair's row for the endpoints of a stream.
     fn place_of_ends(&mut self, stream: &Stream) -> Result<Option<usize>, AllocError> {
         let (client, server) = stream.ends();
         self.names.clear();
@@ -86,7 +86,8 @@ impl Tables {
         self.pairs.place(&self.names)
     }
 
-    /// Counts a message in the operation at this place, in its pair and in its connection.
+    /// Counts a message in the row of its operation at this index, in the row of its pair, and in the row of its
+    /// connection.
     pub(crate) fn add(
         &mut self,
         place: Option<usize>,
@@ -134,7 +135,7 @@ fn add_loss_to(row: Option<&mut Row>, is_gap: bool) {
     }
 }
 
-/// A name, or what stands for none.
+/// A name, or the one that stands for an unknown name.
 fn known(name: &str) -> &str {
     if name.is_empty() { UNKNOWN } else { name }
 }

@@ -1,4 +1,4 @@
-//! The connections that are counted apart.
+//! The connections, each counted in a row.
 
 ghost use Rattle.std.specs.Prelude.{◌<◌};
 
@@ -14,14 +14,14 @@ use std::collections::VecDeque;
 pub(crate) struct Talk {
     /// The number of its first stream.
     pub(crate) number: u64,
-    // The sender and the receiver of its first stream, and the words that the last stream of each closed with.
+    // The sender and the receiver of its first stream, and the words with which the last stream of each closed.
     ends: [Vec<u8>; 2],
     closed: [Vec<u8>; 2],
     // Whether the receiver of its first stream is the client.
     is_turned: bool,
     /// When its first stream began.
     pub(crate) opened: Vec<u8>,
-    /// The last time of a message.
+    /// The time of its last message.
     pub(crate) last: Vec<u8>,
     /// How many streams it has.
     pub(crate) streams: u64,
@@ -47,7 +47,7 @@ impl Talk {
         })
     }
 
-    /// Which of its two ends sends a stream.
+    /// Which of its two endpoints sends a stream: 0 or 1.
     fn side_of(&self, stream: &Stream) -> usize
         ensures { result < 2 }
     {
@@ -59,7 +59,7 @@ impl Talk {
         }
     }
 
-    /// The endpoint of the client, or that of the server.
+    /// The endpoint of the server or of the client.
     pub(crate) fn end(&self, is_server: bool) -> &[u8] {
         let [first, second] = &self.ends;
         if self.is_turned == is_server {
@@ -69,7 +69,7 @@ impl Talk {
         }
     }
 
-    /// The word that the last stream of the client closed with, or that of the server.
+    /// The word with which the last stream of the server or of the client closed.
     pub(crate) fn word(&self, is_server: bool) -> &[u8] {
         let [first, second] = &self.closed;
         if self.is_turned == is_server {
@@ -79,13 +79,13 @@ impl Talk {
         }
     }
 
-    /// Notes the word that a stream closed with; no word where one began.
+    /// Notes the word with which a stream closed. A stream that begins has no word.
     fn note_word(&mut self, stream: &Stream, word: &[u8]) -> Result<(), AllocError> {
         let side = self.side_of(stream);
         replace(&mut self.closed[side], word)
     }
 
-    /// Notes who sends a message, and its time.
+    /// Notes whether a server sends the stream, if the message tells it, and the time of the message.
     fn note(&mut self, stream: &Stream, kind: Kind, time: &[u8]) -> Result<(), AllocError> {
         if kind.is_of_server().is_some() {
             let is_from_second = self.side_of(stream) == 1;
@@ -103,7 +103,7 @@ impl Talk {
 pub(crate) struct Talks {
     alloc: Global,
     rows: LruCache<u64, Talk>,
-    // Those that ended, in the order in which they did.
+    // The connections that ended, in the order in which they did.
     ended: VecDeque<u64>,
     others: Option<Row>,
     begun: u64,
@@ -120,7 +120,7 @@ impl Talks {
         })
     }
 
-    /// The rows, the last first.
+    /// The rows, the last one first.
     pub(crate) fn rows(&self) -> &LruCache<u64, Talk> {
         &self.rows
     }
@@ -145,7 +145,7 @@ impl Talks {
         }
     }
 
-    /// Counts a stream that begins; its connection has a row if this is the first one.
+    /// Counts a stream that begins. If it is the first one of its connection, the connection gets a row.
     pub(crate) fn begin(&mut self, stream: &Stream) -> Result<(), AllocError> {
         let Some(of) = stream.connection else {
             return Ok(());
@@ -165,7 +165,7 @@ impl Talks {
         Ok(())
     }
 
-    /// Counts the row that ended first as one of the others, or else the first.
+    /// Counts one row with the others: the one that ended first, or, if none ended, the first one.
     fn drop_one(&mut self) -> Result<(), AllocError> {
         let mut gone = None;
         for _ in 0..self.ended.len() {
@@ -195,7 +195,7 @@ impl Talks {
         joined
     }
 
-    /// Notes who sends a message of a stream, and its time.
+    /// Notes whether a server sends a stream, if the message tells it, and the time of the message.
     pub(crate) fn note(
         &mut self,
         stream: &Stream,
@@ -211,7 +211,7 @@ impl Talks {
         }
     }
 
-    /// Notes the word that a stream closed with.
+    /// Notes the word with which a stream closed.
     pub(crate) fn close(&mut self, stream: &Stream, word: &[u8]) -> Result<(), AllocError> {
         let Some(of) = stream.connection else {
             return Ok(());

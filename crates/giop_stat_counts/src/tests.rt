@@ -1,4 +1,4 @@
-//! Counts, by hand.
+//! Tests with counts that were made by hand.
 
 use crate::{Settings, Stat, Window};
 use giop_lines::read;

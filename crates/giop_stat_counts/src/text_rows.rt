@@ -11,10 +11,10 @@ use crate::tables::Tables;
 use giop_view_parts::Capture;
 use std::alloc::{AllocError, Global};
 
-/// How many exceptions are named below a row.
+/// The greatest number of exceptions that are named below a row.
 const NAMED: usize = 3;
 
-/// The titles of the columns of a connection's names.
+/// The titles of the columns that name a connection.
 const TALK: [&str; 8] = [
     "connection",
     "client",
@@ -26,7 +26,7 @@ const TALK: [&str; 8] = [
     "streams",
 ];
 
-/// The tables one after the other, and the lines of the capture, with an empty line between them.
+/// The tables one after another, and then the lines of the capture, with an empty line between them.
 pub(crate) fn text_of_tables(
     alloc: Global,
     settings: Settings<'_>,
@@ -57,7 +57,7 @@ pub(crate) fn text_of_tables(
     Ok(text)
 }
 
-/// Appends an empty line, if something stands before it.
+/// Appends an empty line, if the text isn't empty.
 fn put_border(text: &mut Vec<u8>) -> Result<(), AllocError> {
     if text.is_empty() {
         return Ok(());
@@ -65,7 +65,7 @@ fn put_border(text: &mut Vec<u8>) -> Result<(), AllocError> {
     text.extend_from_slice(b"\n")
 }
 
-/// Appends a table with names under these titles.
+/// Appends a table. The columns of its names have these titles.
 fn put_table(
     alloc: Global,
     text: &mut Vec<u8>,
@@ -113,7 +113,7 @@ fn put_talks(alloc: Global, text: &mut Vec<u8>, tables: &Tables) -> Result<(), A
     put_sheet(text, &sheet)
 }
 
-/// Appends a sheet after an empty line.
+/// Appends a sheet, with an empty line before it.
 fn put_sheet(text: &mut Vec<u8>, sheet: &Sheet) -> Result<(), AllocError> {
     if sheet.is_empty() {
         return Ok(());
@@ -155,7 +155,7 @@ fn put_others(
     put_row(alloc, sheet, row)
 }
 
-/// Adds the cells of a row after its names, and its commonest exceptions below.
+/// Adds the cells of a row after its names, and its most frequent exceptions below.
 fn put_row(alloc: Global, sheet: &mut Sheet, row: &Row) -> Result<(), AllocError> {
     for (_, count) in counts(row) {
         put_number(alloc, sheet, count)?;

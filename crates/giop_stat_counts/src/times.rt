@@ -1,4 +1,4 @@
-//! Times in nanoseconds: how many are in each bucket, the least, the greatest and their sum.
+//! Times in nanoseconds: how many are in each bucket, the least one, the greatest one, and their sum.
 
 ghost use Rattle.std.specs.Prelude.{◌≡◌, ◌+◌, ◌*◌, ◌/◌, ◌≤◌};
 
@@ -13,13 +13,13 @@ pub(crate) struct Times {
     least: i128,
     most: i128,
     total: i128,
-    // How many are in each bucket; empty until a time comes, and where no percentile is asked for.
+    // How many times are in each bucket. It is empty until a time comes, and if no percentile is asked for.
     buckets: Vec<u64>,
     has_buckets: bool,
 }
 
 impl Times {
-    /// No times.
+    /// Makes one that has counted no time.
     pub(crate) fn new(alloc: Global, has_buckets: bool) -> Times {
         Times {
             alloc,
@@ -32,7 +32,7 @@ impl Times {
         }
     }
 
-    /// Whether there are none.
+    /// Whether no time was counted.
     pub(crate) fn is_empty(&self) -> bool {
         self.count == 0
     }
@@ -76,7 +76,7 @@ impl Times {
         Ok(())
     }
 
-    /// Counts all times of a row without buckets.
+    /// Adds all times of a row without buckets.
     pub(crate) fn join(&mut self, others: &Times) {
         if others.count == 0 {
             return;
@@ -92,8 +92,8 @@ impl Times {
         self.total = self.total.saturating_add(others.total);
     }
 
-    /// The time that so many of 100 don't exceed: the middle of its bucket, or the least or the greatest where it is that; None
-    /// without buckets.
+    /// The time that this percentage of the times don't exceed: the middle of its bucket, or the least or the greatest time
+    /// if it is that one. None without buckets.
     pub(crate) fn at(&self, percent: u64) -> Option<i128>
         requires { percent ≤ 100 }
     {
@@ -115,7 +115,7 @@ impl Times {
     }
 }
 
-/// How many of some things so many of 100 are, rounded up.
+/// How many a percentage of a count is, rounded up.
 fn rank(count: u64, percent: u64) -> u64
     requires { percent ≤ 100 }
     ensures { result ≡ (count * percent + 99) / 100 }
@@ -123,7 +123,7 @@ fn rank(count: u64, percent: u64) -> u64
     ((u128::from(count) * u128::from(percent) + 99) / 100) as u64
 }
 
-/// A number, or the nearer of the ends of a range where it is outside.
+/// A number, or the nearer end of a range if the number is outside.
 fn within(number: i128, least: i128, most: i128) -> i128 {
     number.max(least).min(most)
 }

@@ -1,9 +1,10 @@
-//! Which messages are counted, by their times.
+//! The messages that are counted, by their times.
 
 ghost use Rattle.std.specs.Prelude.{◌≡◌};
 ghost use Rattle.giop_stat_counts.specs.Windows.{has_day, compared, comes_before, is_from, is_up_to};
 
-/// Whether a word is a time: with its day, as `2026-11-23T08:13:25.58`, or of any day, as `08:13:25` or `08`. A `Z` may follow.
+/// Whether a word is a time: with its day, as `2026-11-23T08:13:25.58`, or without a day, as `08:13:25` or `08`. A `Z` may
+/// follow.
 pub fn is_time(word: &str) -> bool {
     let word = word.as_bytes();
     let word = match word {
@@ -16,7 +17,7 @@ pub fn is_time(word: &str) -> bool {
     is_time_of_day(word)
 }
 
-/// Whether a text is hours, or these with minutes, seconds, and one to nine digits of a second.
+/// Whether a text is hours, which may be followed by minutes, seconds, and one to nine digits of a second.
 fn is_time_of_day(text: &[u8]) -> bool {
     match text.len() {
         2 => fits(text, b"00"),
@@ -27,7 +28,7 @@ fn is_time_of_day(text: &[u8]) -> bool {
     }
 }
 
-/// Whether a text is like another, with any digit in the place of each `0`.
+/// Whether a text has this form. A `0` in the form stands for any digit.
 fn fits(text: &[u8], form: &[u8]) -> bool {
     text.len() == form.len()
         && text.iter().zip(form).all(|(b, like)| {
@@ -39,18 +40,18 @@ fn fits(text: &[u8], form: &[u8]) -> bool {
         })
 }
 
-/// The times from which and up to which messages are counted.
+/// The first and the last time of the messages that are counted.
 #[derive(Clone, Copy, Debug, Drop)]
 pub struct Window<'a> {
-    /// The first time; None where all are counted up to the last.
+    /// The first time. If it is None, all messages up to the last time are counted.
     pub first: Option<&'a str>,
-    /// The last time with all that begin with it; None where all are counted from the first on.
+    /// The last time, with all times that begin with it. If it is None, all messages from the first time on are counted.
     pub last: Option<&'a str>,
 }
 
 impl Window<'_> {
-    /// Whether a message of this time is counted. One whose time isn't known, which is empty then, is counted where no time is
-    /// given.
+    /// Whether a message of this time is counted. The time of a message is empty if it isn't known; then the message is
+    /// counted only if neither time is given.
     pub(crate) fn has(&self, time: &[u8]) -> bool {
         let is_late_enough = match self.first {
             None => true,
@@ -79,7 +80,7 @@ fn has_day(time: &[u8]) -> bool
     time.len() > 10 && time[10] == b'T'
 }
 
-/// The part of a time that is compared with another: without its day where the other has none.
+/// The part of a time that is compared with another time: without its day if the other one has no day.
 fn compared<'a>(time: &'a [u8], other: &[u8]) -> &'a [u8]
     ensures { result.now ≡ compared time.now other.now }
 {

@@ -1,5 +1,5 @@
--- The octets of a checkpoint: which fields of an engine they store, and of which streams they are
--- the checkpoint (docs/FORMATS.md, Checkpoints; state).
+-- The octets of a checkpoint: the fields of an engine that they store, and the streams that they
+-- are the checkpoint of (docs/FORMATS.md, Checkpoints; state).
 use Rattle.std.specs.Prelude.{◌≡◌, ◌≤◌, ◌⊎◌, ℕ, ◌+◌, ◌-◌, ◌*◌, List, [], ◌∷◌, ◌++◌, length, flat_map, replicate, nat_lt, Option, Some, None, Result, Ok, Err, IfOk, if◌then◌else◌, true}
 use Rattle.giop_cdr.specs.Numbers.{AreOctets}
 use Rattle.giop_print.specs.declared.sink.OutFault.{OutFault}
@@ -38,8 +38,8 @@ use Rattle.giop_stream.specs.ViewOfState.{Shows}
 
 -- ---- the fixed part
 
--- the version of the signature file that an engine reads by, and how many types, operations,
--- exceptions and requests there are
+-- the version of the signature file that an engine reads by, and the numbers of types, operations,
+-- exceptions and requests
 unfoldable pub counts_of : Table → RequestTable → Counts
 counts_of C l = record {
   version = C.version;
@@ -50,16 +50,16 @@ counts_of C l = record {
   ids = length l;
 }
 
--- where the next octet is: after a stream fault, in a header of which fewer than 12 octets are
--- held, or in a payload
+-- the place of the next octet: after a stream fault; in a header, if fewer than 12 octets are held;
+-- or in a payload
 abbrev pub place_of : Option StreamFault → List ℕ → ℕ → Place
 place_of (Some fault) header payload_count = Stopped fault
 place_of None header payload_count =
     if nat_lt (length header) 12 then Header (record { items = header }) else Payload header
     (size header - payload_count)
 
--- the record of the message that the payload belongs to, an open one at this index or the current
--- one, whose record stands after those of the open ones
+-- the index of the record of the message that the payload belongs to: an open message at this
+-- index, or the current one, whose record comes after those of the open ones
 abbrev pub owner_of : Option ℕ → Option Message → ℕ → Option ℕ
 owner_of (Some k) message many = if nat_lt k many then Some k else None
 owner_of None None many = None
@@ -88,13 +88,13 @@ abbrev pub standing_of : Option Message → ℕ → RecordKind
 standing_of None id = record_kinds.Over id
 standing_of (Some m) id = record_kinds.Open id
 
--- the entry stores a message that isn't over, in no more frames than the catalogue is deep whose
--- types it fits
+-- the entry stores a message that isn't over; if the message fits the types of a catalogue, it has
+-- at most as many frames as the catalogue's depth
 pub record IsHeld (m : Message) (e : Entry) : Type 0 where
   pub stored : Stored m e.message e.frames
   pub shallow : (C : Table) → IsTable C → Fits C m → e.record_is.frames ≤ catalogue_depth C
 
--- what an entry stores of a message; zeros of one that is over
+-- what an entry stores of a message; zeros if the message is over
 abbrev pub IsStored : Option Message → Entry → Type 0
 IsStored None e = (e.message ≡ replicate MESSAGE_SIZE 0) × (e.frames ≡ [])
 IsStored (Some m) e = IsHeld m e
@@ -116,7 +116,7 @@ pub record IsMessageRecord (record_kind : RecordKind) (number : ℕ) (header : L
   pub header_is : e.record_is.header ≡ header
   pub message : IsHeld m e
 
--- that of the current one, where it isn't open
+-- the record of the current message, if it isn't open
 abbrev pub IsCurrent : Message → Entry → Type 0
 IsCurrent m e = IsMessageRecord record_kinds.Current m.number m.header m e
 
@@ -126,13 +126,13 @@ IsLast None (e ∷ es) = ⊥
 IsLast (Some m) [] = ⊥
 IsLast (Some m) (e ∷ es) = IsCurrent m e × (es ≡ [])
 
--- the open messages in their order, and then the current one
+-- the entries are those of the open messages in their order, and then the entry of the current one
 abbrev pub AreEntries : List OpenEntry → Option Message → List Entry → Type 0
 AreEntries [] own es = IsLast own es
 AreEntries (slot ∷ slots) own [] = ⊥
 AreEntries (slot ∷ slots) own (e ∷ es) = IsOpen slot e × AreEntries slots own es
 
--- ---- what a call writes after these octets: an entry that has this property, or several
+-- ---- what a call writes after these octets: an entry that has this property, or several entries
 
 pub record IsPutOne (before after : List ℕ) (Is : Entry → Type 0) : Type 0 where
   pub entry : Entry
@@ -147,8 +147,8 @@ pub record IsPut (before after : List ℕ) (Are : List Entry → Type 0) : Type 
 abbrev pub AreOpen : List OpenEntry → List Entry → Type 0
 AreOpen slots entries = AreEntries slots None entries
 
--- ---- what a call puts: all of these octets, and their number is its result; or a front of them
--- before a put failed
+-- ---- what a call puts: all of these octets, and its result is how many they are; or, if a put
+-- failed, a front of them
 
 pub record Puts (result : Result ℕ OutFault) (before after : OutLog) (octets : List ℕ)
     : Type 0 where
@@ -168,7 +168,7 @@ unfoldable pub checkpoint_octets : Layout → Table → RequestTable → Framing
 checkpoint_octets layout C l m entries =
     fixed_octets layout (fixed_of C l m) ++ flat_map entry_octets entries
 
--- the checkpoint of an engine with these fields, in this layout
+-- the octets are the checkpoint of an engine with these fields, in this layout
 pub record IsPutWhole (layout : Layout) (C : Table) (l : RequestTable) (m : FramingView)
     (octets : List ℕ)
     : Type 0 where
@@ -176,8 +176,9 @@ pub record IsPutWhole (layout : Layout) (C : Table) (l : RequestTable) (m : Fram
   pub are : AreEntries m.slots.slots.entries (current_of m.slots.owner) entries
   pub put : octets ≡ checkpoint_octets layout C l m entries
 
--- These octets are the checkpoint of an engine that holds the stream p, by this table and list,
--- where so many messages may be open. In layout 2 they are 16; the others store how many.
+-- These octets are the checkpoint of an engine that holds the stream p, by this table and this
+-- list, and that allows this number of open messages. In layout 2 that number is 16; the other
+-- layouts store it.
 pub record Spells (octets : List ℕ) (C : Table) (l : RequestTable) (most : ℕ) (p : List ℕ) : Type 0
   where
     pub layout : Layout
@@ -192,19 +193,19 @@ pub record Spells (octets : List ℕ) (C : Table) (l : RequestTable) (most : ℕ
     pub shows : Shows C (by_list l) memory (state_of (rules C l most) p)
     pub ready : AreReady C (memory.totals.octets + 1) memory.slots
 
--- the size of the greatest checkpoint where so many messages may be open, for a catalogue of this
+-- the size of the greatest checkpoint, for this number of open messages and a catalogue of this
 -- depth
 unfoldable pub checkpoint_limit : ℕ → ℕ → ℕ
 checkpoint_limit most depth = FIXED_SIZE + (most + 1) * (RECORD_SIZE + FRAME_SIZE * depth)
 
--- how many octets records have with their frames
+-- how many octets records have, with their frames
 abbrev pub entries_size : List Entry → ℕ
 entries_size [] = 0
 entries_size (e ∷ es) = (RECORD_SIZE + FRAME_SIZE * e.record_is.frames) + entries_size es
 
--- What a save did: a checkpoint of p was written in the layout of the table's version, the fixed
--- part and each record with its frames, and its length is the result; or a front of it before a put
--- failed.
+-- What a save did: a checkpoint of p was written in the layout of the table's version, with the
+-- fixed part and each record with its frames, and the result is its length. If a put failed, a
+-- front of it was written.
 pub record Saves (result : Result ℕ Stop) (before after : OutLog)
     (C : Table) (l : RequestTable) (most : ℕ) (p : List ℕ) : Type 0 where
   pub octets : List ℕ
@@ -217,16 +218,17 @@ pub record Saves (result : Result ℕ Stop) (before after : OutLog)
 
 -- ---- octets that are refused
 
--- The octets pass the checks up to the records' lengths. What may be wrong then is a field of a
--- record, or totals that no stream has.
+-- The octets pass the checks up to the check of the records' lengths. After that, only a field of a
+-- record may be wrong, or the totals may be such that no stream has them.
 abbrev pub PassesLengths : Counts → List ℕ → Type 0
 PassesLengths c s = (f : Fixed) × HasState c f s × HasRecords f s
 
--- these fields allow so many open messages
+-- the fields in these octets allow this number of open messages
 abbrev pub Allows : Counts → List ℕ → ℕ → Type 0
 Allows c s n = (f : Fixed) × HasState c f s × (f.most_open ≡ n)
 
--- the first check that fails; or, after that of the lengths, no memory for the open messages
+-- the first check that fails; or, after the check of the lengths, that there is no memory for the
+-- open messages
 abbrev pub IsRefused : Counts → List ℕ → LoadFault → Type 0
 IsRefused c s refusals.Magic = IsNotOurs c s refusals.Magic
 IsRefused c s refusals.Version = IsNotOurs c s refusals.Version

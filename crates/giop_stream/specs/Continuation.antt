@@ -1,5 +1,5 @@
--- A Fragment of an open message, where the last octet of its header and its request id come
--- together (state, steps). Only private clauses cite these.
+-- A Fragment of an open message, if the last octet of its header and its request id come together
+-- (state, steps). Only private clauses cite these.
 use Rattle.std.specs.Prelude.{◌≡◌, ◌==◌, ◌<◌, ◌≤◌, ℕ, true, List, [], ◌∷◌, ◌++◌, length, Option, Some, None}
 use Rattle.std.specs.List.{position_from}
 use Rattle.giop_cdr.specs.Numbers.{num}
@@ -17,13 +17,13 @@ use Rattle.giop_stream.specs.OpenSlots.{Tracked}
 use Rattle.giop_stream.specs.SlotsRepresent.{SlotsRepresent}
 use Rattle.giop_stream.specs.PayloadOwner.{IsCurrent, IsBeforeOctet}
 
--- The index is that of the open message with this request id.
+-- The open message with this request id is at this index.
 pub record IsOpenAt (s : Slots) (found : Continuation) : Type 0 where
   pub within : found.index < length s.slots.entries
   pub here : position_from (λ slot. slot.key == found.id) 0 s.slots.entries ≡ Some found.index
 
--- These five octets, after the first eleven of a header, are its last one and the request id of a
--- Fragment of that open message.
+-- These five octets, after the first eleven of a header, are the header's last one and the request
+-- id of a Fragment that continues this open message.
 pub record IsContinuation (front octets : List ℕ) (s : Slots) (found : Continuation) : Type 0 where
   pub last : ℕ
   pub id : List ℕ
@@ -35,8 +35,8 @@ pub record IsContinuation (front octets : List ℕ) (s : Slots) (found : Continu
   pub spells : found.id ≡ num (order (front ++ last ∷ [])) id
   pub open_at : IsOpenAt s found
 
--- The slots represent what is tracked where the request id of a Fragment is complete, whoever owns
--- the octets so far.
+-- The slots represent what is tracked when the request id of a Fragment is complete, and it makes
+-- no difference which message owns the octets until then.
 pub record IsContinuing (C : Table) (l : Answers) (s : Slots) (c : Tracked)
     (owner : Option MessageKey) (m : Message) (now : Current) : Type 0 where
   pub keeps : SlotsRepresent C l s c owner
@@ -44,7 +44,7 @@ pub record IsContinuing (C : Table) (l : Answers) (s : Slots) (c : Tracked)
   pub current : IsCurrent now m
   pub alive : (xs : List ℕ) × (c.known m.number ≡ Some xs)
 
--- The slots represent what is tracked before the last octet x of a Fragment's request id, but for
+-- The slots represent what is tracked before the last octet x of a Fragment's request id, without
 -- the Fragment itself.
 pub record IsBeforeContinuation (C : Table) (l : Answers) (s : Slots) (c : Tracked) (m : Message)
     (now : Current) (x : ℕ) (found : Continuation) : Type 0 where
@@ -55,8 +55,8 @@ pub record IsBeforeContinuation (C : Table) (l : Answers) (s : Slots) (c : Track
   pub spells : id (with_octet m x) ≡ found.id
   pub open_at : IsOpenAt s found
 
--- what the last octet of its header and those of its request id do: the message starts, and the
--- last one does what its events do
+-- what the last octet of a Fragment's header and the octets of its request id do: the message
+-- starts, and the last octet does what its events do
 abbrev pub continuation_effect : Table → Answers → ℕ → Tracked → Message → ℕ → Effect
 continuation_effect C l most c m x =
     line_effect (starts (with_payload m []))

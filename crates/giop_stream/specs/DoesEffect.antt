@@ -1,5 +1,5 @@
 -- A call carries out the effect of events: the lines that it writes, the faults that it counts, and
--- what the slots keep afterwards (steps). Only private clauses cite these.
+-- what the slots keep after it (steps). Only private clauses cite these.
 use Rattle.std.specs.Prelude.{◌≡◌, ℕ, Bool, List, Option, Result, OnOk, IfOk, if◌then◌else◌}
 use Rattle.giop_print.specs.Output.{OutLog, Writes}
 use Rattle.giop_sig.specs.Table.{Table}
@@ -13,27 +13,27 @@ use Rattle.giop_stream.specs.Stream.{fault_count}
 use Rattle.giop_stream.specs.Effects.{Effect, Part}
 use Rattle.giop_stream.specs.SlotsRepresent.{RepresentsMessage, SlotsRepresent}
 
--- The call writes these lines; its result counts the faults among them; and where it doesn't fail,
--- `leaves` holds then.
+-- The call writes these lines, and its result counts the faults among them. If it doesn't fail,
+-- `leaves` holds after it.
 pub record WritesAndLeaves {A E : Type 0} (count : A → ℕ) (result : Result A E)
     (before after : OutLog) (ls : List Line) (leaves : Type 0) : Type 0 where
   pub text : Writes result before after (lines_text ls)
   pub faults : IfOk result (λ x. fault_count ls ≡ count x)
   pub kept : OnOk result leaves
 
--- how many faults the result of a call counts: of one that returns whether there is a fault,
+-- how many faults the result of a call counts, if it tells whether there is a fault
 abbrev pub one_if : Bool → ℕ
 one_if fault = if fault then 1 else 0
 
--- of one that returns how many,
+-- the same if it tells how many there are
 abbrev pub all : ℕ → ℕ
 all faults = faults
 
--- and of one that finds none
+-- the same if it finds none
 abbrev pub never : {A : Type 0} → A → ℕ
 never x = 0
 
--- The slots then represent what the effect leaves tracked, and the payload's next octets belong to
+-- The slots represent what the effect leaves tracked, and the next octets of the payload belong to
 -- this message.
 abbrev pub DoesEffect : {A E : Type 0} → Table → Answers → (A → ℕ) → Result A E → OutLog → OutLog →
     Slots → Effect → Option MessageKey → Type 0
@@ -41,14 +41,14 @@ DoesEffect C l count result before after slots effect owner_of_next =
     WritesAndLeaves count result before after effect.lines
     (SlotsRepresent C l slots effect.tracked owner_of_next)
 
--- The code's message of this number and header then represents what this part of an effect leaves.
+-- The code's message with this number and header represents what this part of an effect leaves.
 abbrev pub DoesPart : {A E : Type 0} → Table → Answers → (A → ℕ) → Result A E → OutLog → OutLog →
     Option CodeMessage → MessageKey → Part → Type 0
 DoesPart C l count result before after message w part =
     WritesAndLeaves count result before after part.lines
     (RepresentsMessage C l message w part.octets)
 
--- The lines alone: nothing is kept.
+-- The call writes only lines: nothing is kept.
 abbrev pub WritesLines : {A E : Type 0} → (A → ℕ) → Result A E → OutLog → OutLog → List Line →
     Type 0
 WritesLines count result before after ls = WritesAndLeaves count result before after ls (Unit {0})

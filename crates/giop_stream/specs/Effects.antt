@@ -1,5 +1,5 @@
--- What the events of an octet do, one after the other: to the open messages, to what is kept of
--- each message, and the lines that they give (steps).
+-- What the events of an octet do, one after another: to the open messages, to what is kept of each
+-- message, and the lines that they give (steps).
 use Rattle.std.specs.Prelude.{Bool, true, ◌≡◌, ℕ, ◌<◌, ◌≤◌, false, List, [], ◌∷◌, ◌++◌, length, Option, Some, None, if◌then◌else◌, option_map}
 use Rattle.std.specs.List.{list_any}
 use Rattle.giop_sig.specs.Table.{Table}
@@ -28,7 +28,7 @@ kept_with known es i = option_map (λ xs. xs ++ joined i es) (known i)
 unfoldable pub kept_after : OctetsByNumber → List Line → OctetsByNumber
 kept_after known ls i = if list_any (is_last_of i) ls then None else known i
 
--- one event: its lines up to the message's last one, and what is kept then
+-- what one event does: its lines up to the message's last line, and what is kept after it
 unfoldable pub lines_at : MessageReader → OctetsByNumber → Event → List Line
 lines_at R known e = up_to_last_line (λ i. false) (lines_for R e (known e.subject.number))
 
@@ -45,8 +45,8 @@ effects R c (e ∷ es) =
     let more = effects R (tracked_at R c e) es in
     record { tracked = more.tracked; lines = lines_at R c.known e ++ more.lines }
 
--- While its request id is read, a message has fewer octets kept than its payload has with this
--- octet.
+-- While the request id of a message is read, fewer octets are kept of the message than its payload
+-- has with this octet.
 abbrev pub IsBegun : OctetsByNumber → Message → Type 0
 IsBegun known m = 0 < length m.payload → length m.payload ≤ 4 → (xs : List ℕ) →
     known m.number ≡ Some xs → length xs < length m.payload
@@ -57,7 +57,7 @@ IsBegun known m = 0 < length m.payload → length m.payload ≤ 4 → (xs : List
 abbrev pub with_octet : Message → ℕ → Message
 with_octet m x = with_payload m (m.payload ++ x ∷ [])
 
--- ---- One message's part of an event: its lines, and its octets then, unless it is over.
+-- ---- One message's part of an event: its lines, and its octets after it, unless it is over.
 
 unfoldable pub lines_of : MessageReader → Event → Option (List ℕ) → List Line
 lines_of R e o = up_to_last_line (λ i. false) (lines_for R e o)
@@ -66,7 +66,7 @@ unfoldable pub octets_then : MessageReader → Event → Option (List ℕ) → O
 octets_then R e o = if list_any (is_last_of e.subject.number) (lines_of R e o) then None else
     option_map (λ xs. xs ++ octet e.what) o
 
--- the two together
+-- the octets and the lines together
 pub record Part : Type 0 where
   pub octets : Option (List ℕ)
   pub lines : List Line
@@ -84,7 +84,7 @@ then_part one more = record { octets = more.octets; lines = one.lines ++ more.li
 
 -- ---- What an event does to the slots.
 
--- the event opens nothing and closes nothing
+-- whether the event opens no message and closes none
 abbrev pub stays : EventKind → Bool
 stays Begins = true
 stays (Takes x) = true
@@ -94,7 +94,7 @@ stays (Cancelled j) = false
 stays (Faults fault) = true
 stays Closes = false
 
--- the event closes a message
+-- whether the event closes a message
 abbrev pub goes : EventKind → Bool
 goes Begins = false
 goes (Takes x) = false
@@ -104,7 +104,7 @@ goes (Cancelled j) = true
 goes (Faults fault) = false
 goes Closes = true
 
--- ---- The effects of one event, of none, and of more after some.
+-- ---- The effects of one event, of no event, and of more events after some.
 
 abbrev pub one_effect : MessageReader → Tracked → ℕ → MessageKey → EventKind → Effect
 one_effect R c at subject what =
@@ -121,7 +121,7 @@ then_effect one more = record { tracked = more.tracked; lines = one.lines ++ mor
 abbrev pub event : ℕ → MessageKey → EventKind → Event
 event at subject what = record { place = at; subject = subject; what = what }
 
--- its effect on what is tracked, and its lines; none where the octets belong to no message
+-- the effect of an event on what is tracked, and its lines; none if the octets belong to no message
 abbrev pub effect_to : Table → Answers → ℕ → Tracked → Option MessageKey → EventKind → Effect
 effect_to C l at c None what = no_effect c
 effect_to C l at c (Some w) what = one_effect (message_reader C l) c at w what

@@ -1,4 +1,4 @@
--- Which streams an engine holds: each of its fields is determined by the whole stream (state).
+-- The streams that an engine holds. The whole stream determines each of its fields (state).
 use Rattle.std.specs.Prelude.{◌≡◌, ℕ, List, length, drop, ◌++◌, true, false, Option, Some, None, Result, Ok, Err}
 use Rattle.giop_cdr.specs.Numbers.{AreOctets}
 use Rattle.giop_print.specs.Output.{OutLog, Wrote, WroteFront}
@@ -16,16 +16,16 @@ use Rattle.giop_stream.specs.EngineState.{state_of}
 use Rattle.giop_stream.specs.ViewOfState.{Shows}
 use Rattle.giop_stream.specs.EngineView.{EngineView}
 
--- the request table is of the operations of this table
+-- the request table is one for the operations of this table
 abbrev pub AreOf : Table → RequestTable → Type 0
 AreOf C l = messages.AreOf C l
 
 -- the rules that an engine reads by: its table, the operations that the ids of each message answer,
--- and how many messages may be open
+-- and the number of messages that may be open
 abbrev pub rules_with : EngineView → Answers → Rules
 rules_with e a = rules_by e.table a e.most
 
--- the same where its request table has the operations
+-- the rules that an engine reads by, if its request table gives the operations
 abbrev pub rules_of : EngineView → Rules
 rules_of e = rules e.table e.request_table e.most
 
@@ -33,14 +33,14 @@ rules_of e = rules e.table e.request_table e.most
 unfoldable pub added : Rules → List ℕ → List ℕ → List ℕ
 added R p more = drop (length (text R p)) (text R (p ++ more))
 
--- The engine holds the stream p, where the ids of each message answer these operations: its fields
+-- The engine holds the stream p, if the ids of each message answer these operations: its fields
 -- show the state of p.
 pub record HoldsBy (e : EngineView) (a : Answers) (p : List ℕ) : Type 0 where
   pub sound : e.failed ≡ false
   pub octets : AreOctets p
   pub shows : Shows e.table a e.stream (state_of (rules_with e a) p)
 
--- by its request table
+-- The engine holds the stream p, if its request table gives the operations.
 abbrev pub Holds : EngineView → List ℕ → Type 0
 Holds e p = HoldsBy e (by_list e.request_table) p
 
@@ -48,14 +48,14 @@ abbrev pub status_of : Option StreamFault → Status
 status_of None = Running
 status_of (Some fault) = Stopped fault
 
--- what was written: all that was due, a front of it before a put failed, or nothing by a failed
--- engine
+-- what was written: all that was due; or a front of it, if a put failed; or nothing, if the engine
+-- had failed before
 abbrev pub StopWrites : {A : Type 0} → Result A Stop → OutLog → OutLog → List ℕ → Type 0
 StopWrites (Ok x) before after due = Wrote before after due
 StopWrites (Err (stop.Out f)) before after due = WroteFront before after due
 StopWrites (Err stop.Failed) before after due = after ≡ before
 
--- how a call leaves the engine: whether it is failed, and with which totals
+-- how a call leaves the engine: whether it has failed, and with which totals
 abbrev pub Leaves : {A : Type 0} → Result A Stop → EngineView → EngineView → Type 0
 Leaves (Ok x) before after = (before.failed ≡ false) × (after.failed ≡ false)
 Leaves (Err (stop.Out f)) before after =

@@ -1,6 +1,6 @@
--- What an engine holds of a stream: one record, each field of which is determined by the whole
--- stream (state). Of the messages that are tracked a checkpoint stores the open ones, and the owner
--- of the next octets.
+-- What an engine holds of a stream: one record, each field of which the whole stream determines
+-- (state). Of the messages that are tracked, a checkpoint stores the open ones and the owner of the
+-- next octets.
 use Rattle.std.specs.Prelude.{ℕ, ◌-◌, List, [], length, Option, Some, None, if◌then◌else◌}
 use Rattle.giop_stream.specs.Rules.{Rules}
 use Rattle.giop_message.specs.Headers.{size}
@@ -15,10 +15,10 @@ use Rattle.giop_stream.specs.Octet.{header_of}
 pub record State : Type 0 where
   pub totals : Totals
   pub stop : Option StreamFault
-  pub held : List ℕ  -- the header octets read so far, all 12 within a payload; none after a stream fault
+  pub held : List ℕ  -- header octets read so far; all 12 in a payload; none after a stream fault
   pub left : ℕ  -- how many payload octets are still to come; 0 after a stream fault
   pub tracked : Tracked  -- the open messages, and what is kept of each message that isn't over
-  pub owner : Option MessageKey  -- the message, open or current, whose the next octets are
+  pub owner : Option MessageKey  -- the open or current message that the next octets belong to
 
 -- ---- The owner of the next octets.
 
@@ -27,8 +27,8 @@ abbrev pub opener_key : Option Open → Option MessageKey
 opener_key None = None
 opener_key (Some o) = Some o.opener
 
--- The owner of the next octet, where these messages are open: after a Fragment's request id, the
--- message that it continues.
+-- The owner of the next octet, if these messages are open. After the request id of a Fragment it is
+-- the message that the Fragment continues.
 unfoldable pub owner_of_next : List Open → Message → Option MessageKey
 owner_of_next still_open m = if has_named m then opener_key (opener_of still_open m) else Some
     (message_key m)

@@ -1,5 +1,5 @@
 -- What the next octet of a stream changes in what an engine holds, and its lines; and what is
--- written at the finish (steps).
+-- written at the end (steps).
 use Rattle.std.specs.Prelude.{ℕ, suc, ◌+◌, ◌-◌, Bool, ◌&&◌, ◌||◌, List, [], ◌∷◌, ◌++◌, length, flat_map, Option, Some, None, is_none, ◌==◌, nat_lt, nat_le, if◌then◌else◌}
 use Rattle.std.specs.List.{find}
 use Rattle.giop_cdr.specs.Numbers.{num}
@@ -21,7 +21,7 @@ pub record Step : Type 0 where
   pub state : State
   pub lines : List Line
 
--- before the first octet: no message is open, and of each no octet has come
+-- before the first octet: no message is open, and no octet of any message has come
 unfoldable pub fresh : State
 fresh = record {
   totals = record { messages = 0; faults = 0; octets = 0 };
@@ -37,7 +37,8 @@ octet_at s x = octet_in s.stop s.held s.totals.messages s.totals.octets (size s.
 
 -- ---- An octet of a message.
 
--- its request id, where the octet is the last of that, and these octets of it came before
+-- the request id of an octet's message, if the octet is the last one of it and these octets of it
+-- came before
 abbrev pub id_by : Now → Option (List ℕ) → ℕ
 id_by now None = 0
 id_by now (Some xs) = num (order now.subject.header) (xs ++ now.octet ∷ [])
@@ -50,7 +51,7 @@ abbrev pub numbered : List Open → Option MessageKey → Option Open
 numbered still_open None = None
 numbered still_open (Some w) = find (λ o. o.opener.number == w.number) still_open
 
--- at the last octet of a request id, the open message with that id; after it, the open message that
+-- at the last octet of a request id: the open message with that id; after it: the open message that
 -- the octet belongs to
 unfoldable pub other_of : State → Now → Option Open
 other_of s now = if now.payload_count == 4 then find (λ o. o.id == id_of s now) s.tracked.still_open
@@ -60,7 +61,7 @@ unfoldable pub events_at : ℕ → State → Now → List Event
 events_at most s now =
     events_with_id most s.tracked.still_open now (id_of s now) (other_of s now)
 
--- the header octets held after the octet
+-- the header octets that are held after the octet
 abbrev pub held_for : Now → List ℕ
 held_for now = if nat_lt now.payload_count (size now.subject.header) then now.subject.header else []
 
@@ -134,13 +135,14 @@ unfoldable pub run_state : Rules → State → List ℕ → State
 run_state R s [] = s
 run_state R s (x ∷ xs) = run_state R (step R s x).state xs
 
--- all that a run does
+-- all that a run of octets does
 abbrev pub runs : Rules → State → List ℕ → Step
 runs R s xs = record { state = run_state R s xs; lines = run R s xs }
 
 -- ---- The finish.
 
--- the owner of the next octets, where it is neither open nor a Fragment
+-- the number of the owner of the next octets, if octets of it are kept and it is neither open nor a
+-- Fragment
 unfoldable pub left_current : Tracked → Option MessageKey → List ℕ
 left_current c None = []
 left_current c (Some w) = if is_open c.still_open w.number || is_fragment w.header then [] else

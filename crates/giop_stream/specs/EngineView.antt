@@ -11,15 +11,15 @@ use Rattle.giop_stream.specs.declared.slots.Slots.{Slots}
 pub record FramingView : Type 0 where
   pub totals : Totals
   pub stopped : Option StreamFault
-  pub header : List ℕ  -- the header octets held; all 12 within a payload
+  pub header : List ℕ  -- the header octets that are held; all 12 within a payload
   pub payload_count : ℕ  -- how many payload octets were read
   pub slots : Slots  -- the messages that have begun and not ended
 
--- the whole engine: that, and what it reads by: the types of its catalogue, and what it knows of
--- requests
+-- the whole engine: what it keeps of the stream, and what it reads by, which is the types of its
+-- catalogue and what it knows of requests
 pub record EngineView : Type 0 where
   pub failed : Bool
   pub table : Table
   pub request_table : RequestTable
-  pub most : ℕ  -- so many messages may be open at once
+  pub most : ℕ  -- the number of messages that may be open at once
   pub stream : FramingView

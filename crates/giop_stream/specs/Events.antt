@@ -23,7 +23,7 @@ pub data EventKind : Type 0 where
   Faults : FramingFault → EventKind  -- it is faulted for its header, its request id or its size
   Closes : EventKind  -- the joined message is complete
 
--- which message: its number and its header
+-- the number and the header that name a message
 pub record MessageKey : Type 0 where
   pub number : ℕ
   pub header : List ℕ
@@ -48,10 +48,10 @@ place m = m.before + 12 + length m.payload
 pub record Now : Type 0 where
   pub subject : MessageKey
   pub place : ℕ  -- the octet's number in the stream, from 1
-  pub payload_count : ℕ  -- how many payload octets were read, this one included
+  pub payload_count : ℕ  -- how many payload octets were read, with this one
   pub octet : ℕ
 
--- a message at the octet of it that came last
+-- a message at its last octet that has come
 abbrev pub now_of : Message → Now
 now_of m = record {
   subject = message_key m;
@@ -60,14 +60,14 @@ now_of m = record {
   octet = get_or m.payload (length m.payload - 1) 0;
 }
 
--- The functions from here to `events_with_id` give the events of an octet of a message, where `id`
--- is the message's request id and `other` the message that was open under that id.
+-- The functions from here to `events_with_id` give the events of an octet of a message. In them
+-- `id` is the message's request id, and `other` is the message that was open under that id.
 
 -- an event of the message itself
 unfoldable pub own : Now → EventKind → List Event
 own now what = record { place = now.place; subject = now.subject; what = what } ∷ []
 
--- an event of the open message that has its request id
+-- an event of the open message that has the same request id
 unfoldable pub event_of_open : Now → Option Open → EventKind → List Event
 event_of_open now None what = []
 event_of_open now (Some o) what = record { place = now.place; subject = o.opener; what = what } ∷ []
@@ -81,24 +81,24 @@ fault_events now (Some fault) = own now (Faults fault)
 unfoldable pub header_events : Now → List Event
 header_events now = own now Begins ++ fault_events now (refused now.subject.header)
 
--- ---- An octet of the payload. Those of a Fragment after its request id belong to the message that
--- it continues.
+-- ---- An octet of the payload. After the request id of a Fragment, its octets belong to the
+-- message that it continues.
 
 unfoldable pub payload_events : Now → Option Open → List Event
 payload_events now other =
     if is_fragment now.subject.header && nat_lt 4 now.payload_count then event_of_open now other
     (Takes now.octet) else own now (Takes now.octet)
 
--- ---- The fourth octet of the payload, which completes the request id: of an opener,
+-- ---- The fourth octet of the payload, which completes the request id.
 
--- where so many messages may be open at once,
+-- the events at the request id of an opener, if this number of messages may be open at once
 
 abbrev pub opens : ℕ → List Open → Now → ℕ → Option Open → List Event
 opens most still_open now id (Some other) = own now (Faults IdOpen)
 opens most still_open now id None =
     if nat_le most (length still_open) then own now (Faults TooManyOpen) else own now (Opens id)
 
--- of a Fragment,
+-- the events at the request id of a Fragment
 
 abbrev pub same_order : Order → Order → Bool
 same_order Big Big = true
@@ -114,7 +114,7 @@ abbrev pub continues : Now → Option Open → List Event
 continues now None = own now (Faults NoOpen)
 continues now (Some o) = own now (Continues o.opener.number) ++ order_fault now o
 
--- of a CancelRequest.
+-- the events at the request id of a CancelRequest
 
 abbrev pub cancels : Now → Option Open → List Event
 cancels now None = []
@@ -147,8 +147,8 @@ events_with_id most still_open now id other =
     ++ ((if now.payload_count == 4 then request_id_events most still_open now id other else [])
     ++ (if now.payload_count == size now.subject.header then message_end_events now other else []))
 
--- ---- The same of a message at its last octet so far, where these messages were open before that
--- octet.
+-- ---- The same for a message at its last octet that has come, if these messages were open before
+-- that octet.
 
 unfoldable pub id : Message → ℕ
 id m = num (order m.header) (take 4 m.payload)
@@ -156,11 +156,11 @@ id m = num (order m.header) (take 4 m.payload)
 unfoldable pub opener_of : List Open → Message → Option Open
 opener_of still_open m = find (λ o. o.id == id m) still_open
 
--- a Fragment whose request id is complete
+-- whether a message is a Fragment with a complete request id
 unfoldable pub has_named : Message → Bool
 has_named m = is_fragment m.header && nat_le 4 (length m.payload)
 
--- and one that has more octets than that
+-- whether a message is a Fragment with octets after its request id
 unfoldable pub goes_past : Message → Bool
 goes_past m = is_fragment m.header && nat_lt 4 (length m.payload)
 
@@ -182,12 +182,12 @@ unfolding events_with_id
 events_of_octet most still_open m = events_with_id most still_open (now_of m) (id m)
     (opener_of still_open m)
 
--- All that the octets of m do, from its header's last one on
+-- all that the octets of m do, from the last octet of its header on
 unfoldable pub events_of : ℕ → List Open → Message → List Event
 events_of most still_open m =
     flat_map (λ front. events_of_octet most still_open (with_payload m front)) (fronts m.payload)
 
--- ---- The open messages after an event, and after these events.
+-- ---- The open messages after an event, and after several events.
 
 unfoldable pub changed : List Open → MessageKey → EventKind → List Open
 changed still_open subject (Opens i) = still_open ++ record { id = i; opener = subject } ∷ []
@@ -203,7 +203,7 @@ unfoldable pub opened : List Open → List Event → List Open
 opened still_open [] = still_open
 opened still_open (e ∷ es) = opened (changed still_open e.subject e.what) es
 
--- the events of these messages, before the first of which these were open
+-- the events of these messages, if these others were open before the first of them
 unfoldable pub events_from : ℕ → List Open → List Message → List Event
 events_from most still_open [] = []
 events_from most still_open (m ∷ ms) =
@@ -214,11 +214,11 @@ events_from most still_open (m ∷ ms) =
 unfoldable pub events : ℕ → List ℕ → List Event
 events most p = events_from most [] (messages (cut p))
 
--- the messages that are open after p
+-- the messages that are open after the stream p
 unfoldable pub open_after : ℕ → List ℕ → List Open
 open_after most p = opened [] (events most p)
 
--- the octet that an event adds to a joined message
+-- the octet that an event adds to a joined message, if it adds one
 unfoldable pub octet : EventKind → List ℕ
 octet (Takes x) = x ∷ []
 octet Begins = []

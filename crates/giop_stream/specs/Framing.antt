@@ -1,6 +1,5 @@
 -- How a stream is cut into messages, and which octet of it is a stream fault (GIOP Message Formats,
--- GIOP Message Header;
--- meaning). Places count stream octets from 1.
+-- GIOP Message Header; meaning). Places count the octets of the stream from 1.
 use Rattle.std.specs.Prelude.{ℕ, zero, suc, Bool, true, false, ◌+◌, ◌-◌, ◌^◌, List, [], ◌∷◌, ◌++◌, length, take, drop, Option, Some, None, nat_lt, if◌then◌else◌, option_to_list}
 use Rattle.giop_checkpoint.specs.declared.fault.StreamFault.{StreamFault}
 use Rattle.giop_checkpoint.specs.declared.fault.StreamFault.TheVariants.{StreamLimit}
@@ -9,25 +8,25 @@ use Rattle.giop_message.specs.Headers.{size}
 
 pub record Message : Type 0 where
   pub number : ℕ  -- from 1
-  pub before : ℕ  -- the stream octets before it
+  pub before : ℕ  -- how many octets of the stream come before it
   pub header : List ℕ  -- its 12 octets
-  pub payload : List ℕ  -- the octets of its payload so far
+  pub payload : List ℕ  -- the octets of its payload that have come
 
 abbrev pub with_payload : Message → List ℕ → Message
 with_payload m xs = record m { payload = xs }
 
 pub record Cut : Type 0 where
   pub whole : List Message  -- the messages that are complete
-  pub current : Option Message  -- the last one, where it is incomplete
-  pub held : List ℕ  -- the octets of the next header so far
+  pub current : Option Message  -- the last one, if it is incomplete
+  pub held : List ℕ  -- the octets of the next header that have come
   pub stop : Option (ℕ × StreamFault)  -- the stream fault, with the place of its octet
 
 unfoldable pub with_first : Message → Cut → Cut
 with_first m c = record c { whole = m ∷ c.whole }
 
--- The rest of the stream, cut, where the next message has this number and comes after so many
--- octets: at most `fuel` messages. The `elim` looks for a wrong header octet first, so that nothing
--- is cut after one.
+-- The rest of the stream, cut into at most `fuel` messages. The next message has the number
+-- `number`, and `before` octets of the stream come before it. The `elim` looks for a wrong octet in
+-- the header first, so that nothing is cut after such an octet.
 unfoldable pub cut_from : ℕ → ℕ → ℕ → List ℕ → Cut
 cut_from zero number before xs = record { whole = []; current = None; held = []; stop = None }
 cut_from (suc fuel) number before xs =
@@ -82,7 +81,7 @@ cut p = limited (nat_lt limit (length p)) (cut_from (suc (length p)) 1 0 (take l
 unfoldable pub messages : Cut → List Message
 messages c = c.whole ++ option_to_list c.current
 
--- how many octets are read, that of a stream fault included
+-- how many octets are read, with the octet of a stream fault
 unfoldable pub read_of : List ℕ → Option (ℕ × StreamFault) → ℕ
 read_of p None = length p
 read_of p (Some found) = found.0
@@ -91,15 +90,15 @@ abbrev pub fault_of : Option (ℕ × StreamFault) → Option StreamFault
 fault_of None = None
 fault_of (Some found) = Some found.1
 
--- how many octets the message lacks that a stream is in, by its stream fault, the last message and what
--- is held of the next header
+-- how many octets are missing until the end of the message that a stream is in, by the stream
+-- fault, the last message, and what is held of the next header
 abbrev pub lacking_by : Option (ℕ × StreamFault) → Option Message → List ℕ → Option ℕ
 lacking_by (Some found) current held = None
 lacking_by None (Some m) held = Some (size m.header - length m.payload)
 lacking_by None None [] = Some 0
 lacking_by None None (x ∷ xs) = None
 
--- how many octets the message that the stream is in lacks until its end, if its header is complete; 0
--- between two messages; none within a header, and after a stream fault
+-- how many octets are missing until the end of the message that the stream is in, if the message's
+-- header is complete; 0 between two messages; none within a header, and after a stream fault
 abbrev pub lacking : Cut → Option ℕ
 lacking c = lacking_by c.stop c.current c.held

@@ -5,7 +5,7 @@ use Rattle.giop_stream.specs.declared.status.Totals.{Totals}
 use Rattle.giop_stream.specs.Stream.{with_truncated}
 use Rattle.giop_stream.specs.EngineView.{FramingView}
 
--- one octet more is read, and held as one of a header
+-- one more octet is read, and held as one of a header
 unfoldable pub held_on : FramingView → ℕ → FramingView
 held_on m x = record m {
   totals = record m.totals { octets = suc m.totals.octets };
@@ -22,7 +22,7 @@ stop m fault place = record m {
   payload_count = 0;
 }
 
--- after a message's last octet the next header begins
+-- if the message's last octet has come, the next header begins
 unfoldable pub end_message : FramingView → ℕ → FramingView
 end_message m size = if m.payload_count == size then
     record m { header = []; payload_count = 0 } else m

@@ -3,7 +3,7 @@ use Rattle.std.specs.Prelude.{ℕ, ◌+◌, ◌-◌, ◌^◌, min}
 use Rattle.std.proofs.Math.Nat.{le_trans, le-add_right}
 use Rattle.giop_stream.specs.declared.current.Current.{Current}
 
--- after n more; their count stays at what a field of 32 bits holds
+-- after n more octets; `payload_count` stays at the greatest number of 32 bits
 abbrev pub further : Current → ℕ → Current
 further now n = record now {
   place = now.place + n;

@@ -13,9 +13,9 @@ abbrev pub unless : Bool → StreamFault → Option StreamFault
 unless true fault = None
 unless false fault = Some fault
 
--- What is wrong with the last octet of a header's front: `GIOP`, the major version 1, a minor
--- version up to 2, and in 1.0 a byte order of 0 or 1. The octets of size and type may have any
--- value.
+-- The fault at the last octet of a header's front, if that octet is wrong. Right are `GIOP`, the
+-- major version 1, a minor version up to 2, and in 1.0 a byte order of 0 or 1. The octets of the
+-- size and the type may have any value.
 unfoldable pub wrong : List ℕ → Option StreamFault
 wrong front =
     let at = length front - 1 in
@@ -30,12 +30,12 @@ wrong front =
     else (if at == 6 then unless (nat_lt octet 2 || nat_lt 0 (get_or front 5 0)) ByteOrder
     else None)))))))
 
--- a fault at the last of so many octets, or else what was found after it
+-- a fault at the last one of `size` octets, or, if there is none, what was found after it
 abbrev pub wrong_or : Option StreamFault → ℕ → Option (ℕ × StreamFault) → Option (ℕ × StreamFault)
 wrong_or (Some fault) size later = Some (size, fault)
 wrong_or None size later = later
 
--- the first wrong one of these fronts: how many octets it has, and the fault
+-- the first one of these fronts that is wrong: how many octets it has, and the fault
 unfoldable pub first_wrong : List (List ℕ) → Option (ℕ × StreamFault)
 first_wrong [] = None
 first_wrong (front ∷ more) = wrong_or (wrong front) (length front) (first_wrong more)

@@ -1,5 +1,5 @@
--- The lines of a stream, each stamped with the place of its octet and its class (docs/FORMATS.md,
--- Order; meaning).
+-- The lines of a stream, each with the place of its octet and its class (docs/FORMATS.md, Order;
+-- meaning).
 use Rattle.std.specs.Prelude.{ℕ, zero, suc, Bool, true, false, ◌&&◌, ◌||◌, List, [], ◌∷◌, ◌++◌, length, map, filter, flat_map, Option, Some, None, ◌==◌, if◌then◌else◌}
 use Rattle.giop_checkpoint.specs.declared.fault.StreamFault.{StreamFault}
 use Rattle.giop_stream.specs.declared.fault.FramingFault.{FramingFault}
@@ -8,8 +8,8 @@ use Rattle.giop_message.specs.MessageReader.{LineClass, Value, Call, Rest, Fault
 use Rattle.giop_stream.specs.Rules.{Rules}
 use Rattle.giop_stream.specs.Events.{Event, EventKind, Begins, Takes, Opens, Continues, Cancelled, Faults, Closes, events, joined}
 
--- The classes of lines. A framing fault stands before the rest, so that the rest, the end and the
--- other faults of its octet come after it.
+-- The classes of lines. A framing fault has its class before the rest, so that the rest, the end
+-- and the other faults of its octet come after it.
 pub data Class : Type 0 where
   Start ValueClass CallClass Continuing Cancelling FramingFaultClass RestClass FaultClass EndClass
       Stop : Class
@@ -36,9 +36,9 @@ classes = Start ∷ ValueClass ∷ CallClass ∷ Continuing ∷ Cancelling ∷ F
 
 pub data Content : Type 0 where
   Started : List ℕ → Content  -- with this header
-  Said : LineClass → List ℕ → Content  -- a line that the message's reader gives
-  ContinuesMessage : ℕ → Content  -- it continues this message
-  CancelledBy : ℕ → Content  -- this message cancels it
+  Said : LineClass → List ℕ → Content  -- a line that the reader of the message gives
+  ContinuesMessage : ℕ → Content  -- the message continues this message
+  CancelledBy : ℕ → Content  -- this message cancels the message
   Faulted : FramingFault → Content
   Stopped : StreamFault → Content
 
@@ -56,18 +56,18 @@ class_of (Stopped fault) = Stop
 
 pub record Line : Type 0 where
   pub place : ℕ
-  pub number : ℕ  -- the message; 0 for the stream
+  pub number : ℕ  -- the number of the message; 0 for the stream
   pub content : Content
 
 abbrev pub has_class : Class → Line → Bool
 has_class c l = is_of c (class_of l.content)
 
--- a line of this event
+-- a line of this event, with this content
 unfoldable pub line : Event → Content → Line
 line e content = record { place = e.place; number = e.subject.number; content = content }
 
--- The lines of one event, of a message that has the octets `so_far` before it and the octets `all`
--- in the whole stream.
+-- The lines of one event. Its message has the octets `so_far` before the event, and the octets
+-- `all` in the whole stream.
 unfoldable pub lines_of_event : MessageReader → Event → List ℕ → List ℕ → EventKind → List Line
 lines_of_event R e so_far all Begins = line e (Started e.subject.header) ∷ []
 lines_of_event R e so_far all (Takes x) =
@@ -80,16 +80,16 @@ lines_of_event R e so_far all (Faults fault) = line e (Faulted fault) ∷ []
 lines_of_event R e so_far all Closes = map (λ l. line e (Said l.0 l.1))
     (R.closes e.subject.number e.subject.header so_far)
 
--- The lines of these events, where `past` are the events before them, and `all` those of the whole
--- stream.
+-- The lines of these events. The events before them are `past`, and those of the whole stream are
+-- `all`.
 unfoldable pub lines_of_events : MessageReader → List Event → List Event → List Event → List Line
 lines_of_events R all past [] = []
 lines_of_events R all past (e ∷ es) =
     lines_of_event R e (joined e.subject.number past) (joined e.subject.number all) e.what
     ++ lines_of_events R all (past ++ e ∷ []) es
 
--- Lines in the order of their classes; and in the order of places, and at each of classes, up to
--- this place.
+-- Lines in the order of their classes; and lines up to this place in the order of places, and at
+-- each place in the order of classes.
 unfoldable pub by_class : List Line → List Line
 by_class ls = flat_map (λ class. filter (has_class class) ls) classes
 
@@ -97,7 +97,7 @@ unfoldable pub in_order : ℕ → List Line → List Line
 in_order zero ls = []
 in_order (suc n) ls = in_order n ls ++ by_class (filter (λ l. l.place == suc n) ls)
 
--- a fault, the cancelled line or the end
+-- whether a line ends its message: it is a fault, the cancelled line or the end
 abbrev pub ends : Content → Bool
 ends (Started header) = false
 ends (Said line_class text) = is_last line_class
@@ -109,8 +109,8 @@ ends (Stopped fault) = false
 unfoldable pub is_last_of : ℕ → Line → Bool
 is_last_of i l = (l.number == i) && ends l.content
 
--- Of each message the lines up to its first fault, cancelled line or end; none of a message that
--- `is_over` holds of.
+-- The lines of each message up to its first fault, cancelled line or end. There are none of a
+-- message for which `is_over` is true.
 unfoldable pub up_to_last_line : (ℕ → Bool) → List Line → List Line
 up_to_last_line is_over [] = []
 up_to_last_line is_over (l ∷ ls) =
@@ -127,7 +127,7 @@ unfoldable pub stop_line : Option (ℕ × StreamFault) → List Line
 stop_line None = []
 stop_line (Some found) = record { place = found.0; number = 0; content = Stopped found.1 } ∷ []
 
--- All lines of the stream. No octet after that of the stream fault belongs to a message, so its
--- line is the last.
+-- All lines of the stream. No octet after the octet of the stream fault belongs to a message, so
+-- the line of the stream fault is the last one.
 unfoldable pub lines : Rules → List ℕ → List Line
 lines R p = lines_of_messages R p ++ stop_line (cut p).stop

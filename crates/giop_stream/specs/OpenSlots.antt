@@ -1,4 +1,4 @@
--- The open messages of a stream, and what is kept of each message, determined by the whole stream
+-- The open messages of a stream, and what is kept of each message. The whole stream determines them
 -- (state).
 use Rattle.std.specs.Prelude.{◌≡◌, ℕ, Bool, List, [], ◌∷◌, map, Option, Some, None, ◌==◌, if◌then◌else◌}
 use Rattle.std.specs.List.{list_any, AllByRecursion as Each}
@@ -22,7 +22,7 @@ octets_of R p i = if is_over R p i then None else Some (joined i (events R.most 
 unfoldable pub is_open : List Open → ℕ → Bool
 is_open still_open i = list_any (λ o. o.opener.number == i) still_open
 
--- each open message with what is kept of it
+-- each open message, with what is kept of it
 unfoldable pub slots_of : OctetsByNumber → List Open → List Slot
 slots_of known still_open = map (λ o. record { open_as = o; octets = known o.opener.number })
     still_open
@@ -32,7 +32,7 @@ pub record Tracked : Type 0 where
   pub still_open : List Open
   pub known : OctetsByNumber
 
--- those of a stream
+-- what is tracked of a stream
 unfoldable pub tracked_after : Rules → List ℕ → Tracked
 tracked_after R p = record { still_open = open_after R.most p; known = octets_of R p }
 
@@ -46,7 +46,7 @@ IsNotOpen n still_open = Each (λ o. o.opener.number ≡ n → ⊥) still_open
 
 -- ---- The finish.
 
--- a message of which octets are kept has neither ended nor been faulted
+-- the number of a message, if octets of it are kept: then it has neither ended nor been faulted
 abbrev pub left_by : ℕ → Option (List ℕ) → List ℕ
 left_by number None = []
 left_by number (Some xs) = number ∷ []

@@ -17,23 +17,23 @@ use Rattle.giop_stream.specs.SlotsRepresent.{SlotsRepresent}
 use Rattle.giop_stream.specs.EngineState.{opener_key, owner_of_next}
 use Rattle.giop_stream.specs.PayloadRuns.{run_effect}
 
--- The owner of the next octet once the request id is complete: of a Fragment, the message that it
--- continues.
+-- The owner of the next octet after the request id is complete. For a Fragment it is the message
+-- that the Fragment continues.
 unfoldable pub owner_after_id : List Open → Message → Option MessageKey
 owner_after_id still_open m = if is_fragment m.header then opener_key (opener_of still_open m) else
     Some (message_key m)
 
--- what the code knows of a message, at the octet that came last
+-- the code knows this of a message, at its last octet that has come
 pub record IsCurrent (now : Current) (m : Message) : Type 0 where
   pub number : m.number ≡ now.number
   pub header : m.header ≡ now.header
   pub place : place m ≡ now.place
 
--- A message of this header begins with its request id.
+-- A message with this header begins with its request id.
 abbrev pub SaysId : List ℕ → Type 0
 SaysId header = (T : Ty) × (header_type (minor header) (kind header) ≡ Some T) × BeginsWithId T
 
--- The request id of a message is complete. Where the message begins with it, the message is neither
+-- The request id of a message is complete. If the message begins with it, the message is neither
 -- open nor over.
 pub record IsAtRequestId (C : Table) (l : Answers) (s : Slots) (c : Tracked) (m : Message)
     (now : Current) (i : ℕ) : Type 0 where
@@ -44,15 +44,15 @@ pub record IsAtRequestId (C : Table) (l : Answers) (s : Slots) (c : Tracked) (m 
   pub not_open : has_name m.header ≡ true → IsNotOpen m.number c.still_open
   pub alive : has_name m.header ≡ true → (xs : List ℕ) × (c.known m.number ≡ Some xs)
 
--- The slots represent what is tracked at an octet of a message, the last that came.
+-- The slots represent what is tracked at an octet of a message, the last one that has come.
 pub record IsAtOctet (C : Table) (l : Answers) (s : Slots) (c : Tracked) (m : Message)
     (now : Current) : Type 0 where
   pub keeps : SlotsRepresent C l s c (owner_of_next c.still_open m)
   pub rising : Rising c.still_open
   pub current : IsCurrent now m
 
--- ---- An octet that has come, part by part: its owner, its events at the request id, and those at
--- the end.
+-- ---- An octet that has come, part by part: its owner, its events at the request id, and its
+-- events at the end.
 
 unfoldable pub owner_of_octet : List Open → Message → Option MessageKey
 owner_of_octet still_open m = if goes_past m then opener_key (opener_of still_open m) else Some
@@ -66,16 +66,16 @@ unfoldable pub end_events : List Open → Message → List Event
 end_events still_open m = if length m.payload == size m.header then events_at_end still_open m else
     []
 
--- and the owner of the octets from then on
+-- the owner of the octets after it
 unfoldable pub owner_after : List Open → Message → Option MessageKey
 owner_after still_open m = if length m.payload == size m.header then None else owner_of_next
     still_open m
 
--- no open message has this number or a later one
+-- each open message has a smaller number than this
 abbrev pub IsNewest : ℕ → List Open → Type 0
 IsNewest n still_open = Each (λ o. o.opener.number < n) still_open
 
--- The slots represent what is tracked once the octet's owner has taken it.
+-- The slots represent what is tracked after the octet's owner has taken it.
 pub record IsAfterTake (C : Table) (l : Answers) (s : Slots) (c : Tracked) (m : Message)
     (now : Current) : Type 0 where
   pub keeps : SlotsRepresent C l s c (owner_of_octet c.still_open m)
@@ -87,7 +87,7 @@ pub record IsAfterTake (C : Table) (l : Answers) (s : Slots) (c : Tracked) (m : 
   pub says : has_name m.header ≡ true → SaysId m.header
 
 -- What is tracked before this octet of a message comes, and what the code knows of the message at
--- it.
+-- the octet.
 pub record IsBeforeOctet (c : Tracked) (m : Message) (now : Current) (x : ℕ) : Type 0 where
   pub rising : Rising c.still_open
   pub current : IsCurrent now (with_octet m x)
@@ -96,13 +96,14 @@ pub record IsBeforeOctet (c : Tracked) (m : Message) (now : Current) (x : ℕ) :
   pub alive : has_name m.header ≡ true → length m.payload < 4 → c.known m.number ≡ Some m.payload
   pub says : has_name m.header ≡ true → SaysId m.header
 
--- what the octets `q` of a message do that only add to contents, where one more comes after them
+-- what the octets `q` of a message do, which only add to its contents, if one more octet comes
+-- after them
 abbrev pub effect_before : Table → Answers → Tracked → Message → Current → List ℕ → Effect
 effect_before C l c m now q = run_effect C l (now.place - suc (length q)) c
     (owner_of_next c.still_open m) q
 
--- The slots represent what is tracked before octets of a message come: `q`, which only add to
--- contents, and x after them.
+-- The slots represent what is tracked before octets of a message come: first `q`, which only add to
+-- its contents, and then x.
 pub record IsBeforeOctets (C : Table) (l : Answers) (s : Slots) (c : Tracked) (m : Message)
     (now : Current) (q : List ℕ) (x : ℕ) : Type 0 where
   pub keeps : SlotsRepresent C l s c (owner_of_next c.still_open m)
@@ -112,7 +113,7 @@ pub record IsBeforeOctets (C : Table) (l : Answers) (s : Slots) (c : Tracked) (m
   pub last : IsBeforeOctet (effect_before C l c m now q).tracked (with_payload m (m.payload ++ q))
       now x
 
--- what all of them do: x does what its events do
+-- what all these octets do: `q` adds to the contents, and x does what its events do
 abbrev pub octets_effect : Table → Answers → ℕ → Tracked → Message → Current → List ℕ → ℕ → Effect
 octets_effect C l most c m now q x =
     let ran = effect_before C l c m now q in

@@ -1,5 +1,5 @@
--- What a run of octets does that only add to one message's contents: what its octets do, one after
--- the other (steps).
+-- What a run of octets does, if it only adds to one message's contents: what its octets do, one
+-- after another (steps).
 use Rattle.std.specs.Prelude.{ℕ, suc, List, [], ◌∷◌, Option}
 use Rattle.giop_sig.specs.Table.{Table}
 use Rattle.giop_message.specs.Signatures.{Answers}
@@ -8,14 +8,14 @@ use Rattle.giop_stream.specs.Events.{MessageKey, Takes}
 use Rattle.giop_stream.specs.Effects.{Effect, no_effect, then_effect, Part, no_part, then_part, part_of, event, effect_to}
 use Rattle.giop_stream.specs.OpenSlots.{Tracked}
 
--- The octets come after so many of the stream, and are contents of their owner.
+-- The octets come after `before` octets of the stream, and are contents of their owner.
 unfoldable pub run_effect : Table → Answers → ℕ → Tracked → Option MessageKey → List ℕ → Effect
 run_effect C l before c owner_of_next [] = no_effect c
 run_effect C l before c owner_of_next (x ∷ xs) =
     let one = effect_to C l (suc before) c owner_of_next (Takes x) in
     then_effect one (run_effect C l (suc before) one.tracked owner_of_next xs)
 
--- the same of the owner alone, which has read the octets `o`, unless it is over
+-- the same for the owner alone, which has read the octets `o`, unless it is over
 unfoldable pub run_part : Table → Answers → ℕ → MessageKey → Option (List ℕ) → List ℕ → Part
 run_part C l before w o [] = no_part o
 run_part C l before w o (x ∷ xs) =

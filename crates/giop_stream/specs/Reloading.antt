@@ -1,5 +1,5 @@
--- Which fields of an engine the parts of a checkpoint give; and what is known of its records while
--- they are read (state).
+-- The fields of an engine that the parts of a checkpoint give, and what is known of its records
+-- while they are read (state).
 use Rattle.std.specs.Prelude.{◌≡◌, ◌⊎◌, ℕ, ◌-◌, List, [], ◌∷◌, ◌++◌, length, flat_map, Option, Some, None, nat_lt, if◌then◌else◌}
 use Rattle.std.specs.List.{AllByRecursion as Each}
 use Rattle.giop_sig.specs.Table.{Table}
@@ -26,7 +26,7 @@ stop_in (Header held) = None
 stop_in (Payload header left) = None
 stop_in (Stopped fault) = Some fault
 
--- the header octets read so far
+-- the header octets that were read until now
 abbrev pub header_in : Place → List ℕ
 header_in (Header held) = held.items
 header_in (Payload header left) = header
@@ -38,13 +38,14 @@ payload_count_in (Header held) = 0
 payload_count_in (Payload header left) = size header - left
 payload_count_in (Stopped fault) = 0
 
--- the owner of the payload: the message of this record, where that is an open one, or else the
--- current message, which was loaded before
+-- the owner of the payload: the message of this record, if it is an open one; else the current
+-- message, which was loaded before
 abbrev pub owner_by : Option ℕ → ℕ → PayloadOwner → PayloadOwner
 owner_by None many current = current
 owner_by (Some k) many current = if nat_lt k many then Open (Some k) else current
 
--- It is the current message, which represents these octets of this message, or none.
+-- The owner is the current message, which represents these octets of this message, or there is
+-- none.
 abbrev pub IsCurrentOwner : Table → Answers → PayloadOwner → MessageKey → Option (List ℕ) → Type 0
 IsCurrentOwner C l of w xs = (index_of of ≡ None) × RepresentsMessage C l (current_of of) w xs
 
@@ -56,12 +57,12 @@ pub record IsEntry (first : FirstRecord) (e : Entry) : Type 0 where
   pub message : first.message ≡ e.message
   pub frames : first.frames.now ≡ e.frames
 
--- the open message that it gives
+-- the open message that a record gives
 abbrev pub pushed : FirstRecord → ℕ → Option Message → OpenEntry
 pushed first id message =
     open_entry id first.«record».number first.«record».header message
 
--- It is the entry of an open message with these octets.
+-- The record is the entry of an open message with these octets.
 pub record IsOpenEntry (C : Table) (l : Answers) (at : ℕ) (first : FirstRecord) (held : Held) : Type
     0 where
   pub kept : OpenEntry
@@ -71,7 +72,7 @@ pub record IsOpenEntry (C : Table) (l : Answers) (at : ℕ) (first : FirstRecord
   pub slot_is : IsSlot C l kept held
   pub ready : IsReady C at kept.value.message
 
--- It is the entry of the current message with these octets.
+-- The record is the entry of the current message with these octets.
 pub record IsCurrentEntry (C : Table) (l : Answers) (at : ℕ) (first : FirstRecord) (w : MessageKey)
     (xs : Option (List ℕ)) : Type 0 where
   pub message : Message
@@ -83,7 +84,7 @@ pub record IsCurrentEntry (C : Table) (l : Answers) (at : ℕ) (first : FirstRec
 
 -- ---- the records that are left
 
--- These octets are so many entries, of these open messages and this current one.
+-- These octets are this number of entries, of these open messages and this current one.
 pub record AreEntriesOf (C : Table) (l : Answers) (at count : ℕ) (octets : List ℕ)
     (kept : List OpenEntry) (held : List Held) (current : Option Message) (w : MessageKey)
     (xs : Option (List ℕ)) (entries : List Entry) : Type 0 where
@@ -95,7 +96,7 @@ pub record AreEntriesOf (C : Table) (l : Answers) (at count : ℕ) (octets : Lis
   pub each_ready : Each (λ slot. IsReady C at slot.value.message) kept
   pub own_ready : IsReady C at current
 
--- They are entries of open messages that represent these, and of a current one.
+-- These octets are entries of open messages that represent these, and of a current one.
 pub record AreLeft (C : Table) (l : Answers) (at count : ℕ) (octets : List ℕ) (held : List Held)
     (w : MessageKey) (xs : Option (List ℕ)) : Type 0 where
   pub kept : List OpenEntry
@@ -110,7 +111,8 @@ pub record HasAdded (C : Table) (l : Answers) (before after : Slots) (held : Lis
     pub are : AreSlots C l kept held
     pub put : after.slots.entries ≡ before.slots.entries ++ kept
 
--- The first of so many records was added, that of an open message; `rest` are the others.
+-- The first of this number of records was added. It is the record of an open message, and `rest`
+-- are the others.
 pub record HasAddedOpen (C : Table) (l : Answers) (at count : ℕ) (before after : Slots)
     (rest : List ℕ) (held : List Held) (w : MessageKey) (xs : Option (List ℕ)) : Type 0 where
   pub here : Held
@@ -120,7 +122,7 @@ pub record HasAddedOpen (C : Table) (l : Answers) (at count : ℕ) (before after
   pub same_owner : after.owner ≡ before.owner
   pub left : AreLeft C l at (count - 1) rest others w xs
 
--- It was that of the current message, which is the last.
+-- The first record was added. It is the record of the current message, which is the last one.
 pub record HasAddedOwn (C : Table) (l : Answers) (count : ℕ) (before after : Slots)
     (held : List Held) (w : MessageKey) (xs : Option (List ℕ)) : Type 0 where
   pub no_held : held ≡ []
@@ -128,7 +130,7 @@ pub record HasAddedOwn (C : Table) (l : Answers) (count : ℕ) (before after : S
   pub is : IsCurrentOwner C l after.owner w xs
   pub last : count - 1 ≡ 0
 
--- The first record was one or the other.
+-- The first record was added: the record of an open message, or the record of the current one.
 abbrev pub HasAddedFirst : Table → Answers → ℕ → ℕ → Slots → Slots → List ℕ → List Held → MessageKey
     → Option (List ℕ) → Type 0
 HasAddedFirst C l at count before after rest held w xs =

@@ -11,15 +11,15 @@ pub record Rules : Type 0 where
   pub reading : MessageReader
   pub most : ℕ
 
--- the rules of a table, of the operations that the ids of each message answer, and of so many open
--- messages
+-- the rules of a table, of the operations that the ids of each message answer, and of this number
+-- of open messages
 abbrev pub rules_by : Table → Answers → ℕ → Rules
 rules_by C a most = record { reading = message_reader C a; most = most }
 
--- the same where a request table has the operations, in each message alike
+-- the rules if a request table gives the operations, the same ones for each message
 abbrev pub rules : Table → RequestTable → ℕ → Rules
 rules C l most = rules_by C (by_list l) most
 
--- how many messages an engine may allow to be open at most
+-- the greatest number of open messages that an engine may allow
 abbrev pub most_open : ℕ
 most_open = MOST_OPEN

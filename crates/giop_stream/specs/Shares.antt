@@ -1,5 +1,5 @@
--- The joined message, defined without events: the octets of the message, then of each that
--- continues it those after the request id (meaning).
+-- The joined message, defined without events: the octets of the message itself, and then, of each
+-- message that continues it, those after the request id (meaning).
 use Rattle.std.specs.Prelude.{ℕ, List, [], ◌∷◌, ◌++◌, take, drop, Option, Some, None, ◌==◌, if◌then◌else◌}
 use Rattle.giop_stream.specs.Framing.{Message}
 use Rattle.giop_message.specs.Headers.{is_fragment}
@@ -9,8 +9,7 @@ unfoldable pub continued : ℕ → Option Open → List ℕ → List ℕ
 continued i None xs = []
 continued i (Some o) xs = if o.opener.number == i then xs else []
 
--- the octets of message m that belong to the joined message i, where these messages were open
--- before m
+-- the octets of message m that belong to the joined message i, if these messages were open before m
 unfoldable pub share : ℕ → List Open → Message → List ℕ
 share i still_open m =
     if is_fragment m.header

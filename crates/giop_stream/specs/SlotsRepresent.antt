@@ -26,7 +26,7 @@ open_entry id number header message =
 abbrev pub with_message : OpenEntry → Option CodeMessage → OpenEntry
 with_message slot message = open_entry slot.key slot.value.number slot.value.header message
 
--- The code's message has read these octets; there is none where the message is over.
+-- The code's message has read these octets. If the message is over, there is none.
 abbrev pub RepresentsMessage : Table → Answers → Option CodeMessage → MessageKey → Option (List ℕ) →
     Type 0
 RepresentsMessage C l (Some m) w (Some xs) = Follows C l w.number w.header m xs
@@ -35,7 +35,7 @@ RepresentsMessage C l (Some m) w None = ⊥
 RepresentsMessage C l None w (Some xs) = ⊥
 
 -- A message can take the octet at this place: it fits the table, and has fewer octets than the
--- stream has up to there.
+-- stream has up to this place.
 abbrev pub IsReady : Table → ℕ → Option CodeMessage → Type 0
 IsReady C at None = Unit {0}
 IsReady C at (Some m) = Fits C m × (reach m < at)
@@ -50,13 +50,13 @@ abbrev pub index_of : PayloadOwner → Option ℕ
 index_of (Current message is_over) = None
 index_of (Open k) = k
 
--- each message in the slots can
+-- each message in the slots can take the octet at this place
 pub record AreReady (C : Table) (at : ℕ) (s : Slots) : Type 0 where
   pub current_ready : IsReady C at (current_of s.owner)
   pub each_ready : Each (λ slot. IsReady C at slot.value.message) s.slots.entries
 
--- there is as much room as before: as many messages may be open, and if each message in the slots
--- could take the octet at a place, each still can
+-- there is as much room as before: the same number of messages may be open; and if each message in
+-- the slots could take the octet at a place, each of them still can
 pub record KeepsRoom (old new : Slots) : Type 0 where
   pub most : new.slots.most ≡ old.slots.most
   pub ready : (C : Table) (at : ℕ) → AreReady C at old → AreReady C at new
@@ -73,8 +73,8 @@ AreSlots C l (kept ∷ more) (slot ∷ slots) = IsSlot C l kept slot × AreSlots
 AreSlots C l [] (slot ∷ slots) = ⊥
 AreSlots C l (kept ∷ more) [] = ⊥
 
--- the owner of the payload's octets: the open message at this index; or one that isn't open, of
--- which this is kept, or none
+-- the owner of the payload's octets: the open message at this index; or a message that isn't open,
+-- and this is kept of it; or none
 abbrev pub PayloadBelongs : Table → Answers → Option ℕ → Option CodeMessage → Tracked →
     Option MessageKey → Type 0
 PayloadBelongs C l (Some k) message c None = ⊥
@@ -84,7 +84,8 @@ PayloadBelongs C l None message c None = message ≡ None
 PayloadBelongs C l None message c (Some w) =
     IsNotOpen w.number c.still_open × RepresentsMessage C l message w (c.known w.number)
 
--- the slots are those of the open messages, with what is kept of each; the owner is this message
+-- the slots are those of the open messages, with what is kept of each of them, and the owner is
+-- this message
 pub record SlotsRepresent (C : Table) (l : Answers) (s : Slots) (c : Tracked)
     (owner_of_next : Option MessageKey) : Type 0 where
   pub slots : AreSlots C l s.slots.entries (slots_at c)

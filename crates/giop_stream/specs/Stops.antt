@@ -4,7 +4,7 @@ use Rattle.std.specs.Prelude.{ℕ}
 use Rattle.giop_stream.specs.declared.fault.Stop.{Stop}
 use Rattle.giop_stream.specs.declared.fault.Stop.TheVariants as stop
 
--- a put failed, or the engine was failed before the call
+-- a put failed, or the engine had failed before the call
 abbrev pub stop_number : Stop → ℕ
 stop_number (stop.Out fault) = 1
 stop_number stop.Failed = 2

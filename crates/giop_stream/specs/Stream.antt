@@ -1,4 +1,4 @@
--- The text of a stream, its totals, and its closing: what is written at the finish
+-- The text of a stream, its totals, and its closing, which is what is written at its end
 -- (docs/FORMATS.md, Lines; meaning).
 use Rattle.std.specs.Prelude.{ℕ, ◌+◌, Bool, true, false, not, ◌&&◌, ◌||◌, List, [], ◌++◌, length, map, filter, flat_map, Option, is_some, is_none, nat_lt, if◌then◌else◌}
 use Rattle.std.specs.List.{list_any}
@@ -42,7 +42,7 @@ start_count ls = length (filter (λ l. is_start l.content) ls)
 unfoldable pub fault_count : List Line → ℕ
 fault_count ls = length (filter (λ l. is_fault l.content) ls)
 
--- the start lines, the fault lines, and the octets that are read
+-- the totals of a stream: its start lines, its fault lines, and the octets that are read
 unfoldable pub tally : Rules → List ℕ → Totals
 tally R p =
     record {
@@ -52,29 +52,29 @@ tally R p =
           read_of p (cut p).stop;
     }
 
--- The stream ends inside a message or a header.
+-- Whether a stream ends inside a message or a header.
 unfoldable pub is_inside : Option Message → List ℕ → Option (ℕ × StreamFault) → Bool
 is_inside current held stop = is_none stop && (is_some current || nat_lt 0 (length held))
 
 unfoldable pub is_truncated : Cut → Bool
 is_truncated c = is_inside c.current c.held c.stop
 
--- a message that has a last line
+-- whether a message has its last line
 unfoldable pub is_over : Rules → List ℕ → ℕ → Bool
 is_over R p i = list_any (is_last_of i) (lines_of_messages R p)
 
--- the numbers of the messages that are no 1.2 Fragments
+-- the numbers of the messages that aren't Fragments of GIOP 1.2
 unfoldable pub first_messages : List Message → List ℕ
 first_messages ms = map (λ m. m.number) (filter (λ m. not (is_fragment m.header)) ms)
 
--- those of them that have neither ended nor been faulted or cancelled
+-- the numbers of those that have neither ended nor been faulted or cancelled
 unfoldable pub unfinished : Rules → List ℕ → List ℕ
 unfinished R p = filter (λ i. not (is_over R p i)) (first_messages (messages (cut p)))
 
 abbrev pub with_truncated : Bool → Totals → Totals
 with_truncated truncated t = record t { faults = t.faults + (if truncated then 1 else 0) }
 
--- the totals with the truncated line counted
+-- the totals at the end, with a truncated end counted as a fault
 unfoldable pub final : Rules → List ℕ → Totals
 final R p = with_truncated (is_truncated (cut p)) (tally R p)
 

@@ -1,4 +1,5 @@
--- The text of each stamped line (docs/FORMATS.md, Lines; meaning).
+-- The text of each line, by its place, its number and its content (docs/FORMATS.md, Lines;
+-- meaning).
 use Rattle.std.specs.Prelude.{ℕ, List, flat_map, codes}
 use Rattle.giop_print.specs.Lines.{fault_line, stream_fault_line, continues_line, cancelled_line}
 use Rattle.giop_print.specs.Lines as print
@@ -16,7 +17,7 @@ stream_word Version = codes "version"
 stream_word ByteOrder = codes "byte-order"
 stream_word StreamLimit = codes "stream-limit"
 
--- the start of a message with this header
+-- the start line of a message with this header
 unfoldable pub start_line : ℕ → List ℕ → List ℕ
 start_line number header =
     print.start_line number (minor header) (order header) (kind header) (size header)

@@ -1,4 +1,4 @@
--- How the fields of the code show the state that an engine holds of a stream (state); and what a
+-- How the fields of the code show the state that an engine holds of a stream (state), and what a
 -- call does to them (steps).
 use Rattle.std.specs.Prelude.{◌≡◌, ◌-◌, ℕ, List, length, Result, OnOk, nat_lt, if◌then◌else◌}
 use Rattle.giop_print.specs.Output.{OutLog, Writes}
@@ -25,13 +25,13 @@ pub record Shows (C : Table) (l : Answers) (f : FramingView) (s : State) : Type 
   pub payload_count : f.payload_count ≡ payload_count_in s
   pub slots : SlotsRepresent C l f.slots s.tracked s.owner
 
--- An engine that has read some stream of octets holds this state.
+-- The state is the state of an engine that has read some stream of octets.
 pub record IsReached (C : Table) (l : Answers) (most : ℕ) (s : State) : Type 0 where
   pub stream : List ℕ
   pub octets : AreOctets stream
   pub held : s ≡ state_of (rules_by C l most) stream
 
--- a call writes the lines of this step, and leaves its state
+-- a call writes the lines of this step, and its fields then show the state of the step
 pub record Does {A E : Type 0} (C : Table) (l : Answers) (result : Result A E)
     (before after : OutLog) (f : FramingView) (one : Step) : Type 0 where
   pub text : Writes result before after (lines_text one.lines)

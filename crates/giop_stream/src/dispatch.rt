@@ -1,4 +1,4 @@
-//! What an octet of a message does: it feeds, opens, continues, cancels, faults or closes a message.
+//! What an octet of a message does: it adds to a message, or opens, continues, cancels, faults or closes one.
 
 ghost use Rattle.std.specs.Prelude.{Option, List, [], ◌∷◌, ◌++◌, ◌≡◌, ◌+◌, ◌-◌, ◌<◌, ◌≤◌, ◌^◌, ℕ, suc, length, take, true, false, Some, None, OnOk, IfOk, if◌then◌else◌, slice_get};
 ghost use Rattle.giop_sig.specs.Table.{Table};
@@ -33,7 +33,7 @@ use giop_message::{Correspondent, order_of};
 use giop_print::{Out, OutFault, continues_line};
 use giop_sig::Catalogue;
 
-/// At the request id of a message with fragments: it becomes open, or is faulted.
+/// Opens a message with fragments, at its request id, or faults it.
 fn opens<O: Out>(slots: &mut Slots, now: Current, id: u32, out: &mut O) -> Result<bool, OutFault>
     ensures does { (C : Table) (l : Answers) (c : Tracked) (m : Message) →
         IsAtRequestId C l slots.old c m now id →
@@ -53,7 +53,7 @@ fn opens<O: Out>(slots: &mut Slots, now: Current, id: u32, out: &mut O) -> Resul
     Ok(false)
 }
 
-/// At a CancelRequest's request id: closes the open message with that id.
+/// Closes the open message with this request id, at the request id of a CancelRequest.
 fn cancels<O: Out>(slots: &mut Slots, now: Current, id: u32, out: &mut O) -> Result<(), OutFault>
     ensures does { (C : Table) (l : Answers) (c : Tracked) (m : Message) →
         IsAtRequestId C l slots.old c m now id →
@@ -72,7 +72,7 @@ fn cancels<O: Out>(slots: &mut Slots, now: Current, id: u32, out: &mut O) -> Res
     Ok(())
 }
 
-/// Faults a Fragment of no open message; the rest of its payload belongs to no message.
+/// Faults a Fragment that continues no open message. The rest of its payload belongs to no message.
 fn fault_unopened<O: Out>(slots: &mut Slots, now: Current, out: &mut O) -> Result<bool, OutFault>
     ensures does { (C : Table) (l : Answers) (c : Tracked) (m : Message) (id : ℕ) →
         IsAtRequestId C l slots.old c m now id →
@@ -87,7 +87,7 @@ fn fault_unopened<O: Out>(slots: &mut Slots, now: Current, out: &mut O) -> Resul
     faulted
 }
 
-/// A Fragment continues the open message at this index.
+/// Makes a Fragment continue the open message at this index.
 #[tactic(auto, using(giop_print::proofs::Writing::writes_then, giop_print::proofs::Writing::writes_err))]
 pub fn passes<O: Out>(
     slots: &mut Slots,
@@ -116,7 +116,7 @@ pub fn passes<O: Out>(
     slots.fault_message(number, FramingFault::FragmentOrder, now.place, out)
 }
 
-/// At a Fragment's request id: the rest of its payload belongs to the open message with that id.
+/// Takes the request id of a Fragment: the rest of its payload belongs to the open message with this id.
 fn continues<O: Out>(
     slots: &mut Slots,
     now: Current,
@@ -136,7 +136,7 @@ fn continues<O: Out>(
     }
 }
 
-/// At the last octet of a message's request id; returns whether a message is faulted.
+/// Does what the last octet of a message's request id does. Returns whether a message is faulted.
 pub fn named<O: Out>(
     slots: &mut Slots,
     now: Current,
@@ -163,7 +163,8 @@ pub fn named<O: Out>(
     Ok(false)
 }
 
-/// At a message's last octet. A joined message is complete with its last Fragment, any other message with this octet.
+/// Does what the last octet of a message does. A joined message is complete with the last octet of its last Fragment, any
+/// other message with this octet. Returns whether a message is faulted.
 pub fn ends<O: Out>(
     slots: &mut Slots,
     catalogue: &Catalogue,
@@ -189,7 +190,7 @@ pub fn ends<O: Out>(
     slots.close(catalogue, now.place, out)
 }
 
-/// What an octet does where it is the last of a request id.
+/// Does what an octet does if it is the last one of a request id. Returns whether a message is faulted.
 fn at_fourth_octet<O: Out>(slots: &mut Slots, now: Current, out: &mut O) -> Result<bool, OutFault>
     ensures does { (C : Table) (l : Answers) (c : Tracked) (m : Message) →
         IsAfterTake C l slots.old c m now →
@@ -205,7 +206,7 @@ fn at_fourth_octet<O: Out>(slots: &mut Slots, now: Current, out: &mut O) -> Resu
     Ok(false)
 }
 
-/// What an octet does where it is the message's last.
+/// Does what an octet does if it is the last one of its message. Returns whether a message is faulted.
 #[inline(always)]
 pub fn at_last_octet<O: Out>(
     slots: &mut Slots,
@@ -228,7 +229,7 @@ pub fn at_last_octet<O: Out>(
     Ok(false)
 }
 
-/// How many messages an octet faults, in its three parts.
+/// How many messages an octet faults, by the three parts of what it does.
 pub fn fault_count(a: bool, b: bool, c: bool) -> u8
     ensures value { result ≡ (if a then 1 else 0) + ((if b then 1 else 0) + (if c then 1 else 0)) }
     ensures few { result ≤ 3 }
@@ -236,8 +237,8 @@ pub fn fault_count(a: bool, b: bool, c: bool) -> u8
     u8::from(a) + (u8::from(b) + u8::from(c))
 }
 
-/// Octets of a message's payload, of which those before the last only add to its contents, up to the first one after which
-/// the correspondent is due. Answers how many it took, and how many messages they fault.
+/// Takes octets of a message's payload, up to the first one after which the correspondent is due. Those before the last
+/// only add to the message's contents. Returns how many it took, and how many messages they fault.
 pub fn octets<O: Out, Q: Correspondent>(
     slots: &mut Slots,
     catalogue: &Catalogue,
@@ -287,7 +288,7 @@ pub fn octets<O: Out, Q: Correspondent>(
     Ok((count, fault_count(taken, named, ended)))
 }
 
-/// A message begins, and is faulted where its header alone is refused.
+/// Begins a message, and faults it if its header alone is refused. Returns whether it does.
 #[tactic(auto, using(giop_print::proofs::Writing::writes_then, giop_print::proofs::Writing::writes_err))]
 fn starts<O: Out>(
     slots: &mut Slots,
@@ -311,7 +312,7 @@ fn starts<O: Out>(
     }
 }
 
-/// A header's last octet; returns how many messages it faults.
+/// Takes the last octet of a header. Returns how many messages it faults.
 pub fn header<O: Out>(
     slots: &mut Slots,
     catalogue: &Catalogue,

@@ -1,4 +1,4 @@
-//! The engine: one direction of a connection in, its lines out.
+//! The engine: it reads one direction of a connection, and writes its lines.
 
 ghost use Rattle.std.specs.Prelude.{◌≡◌, ◌<◌, ◌≤◌, ◌++◌, ◌+◌, Err, ℕ, List, [], true, false, length, take, drop, IfOk, IfErr, OnOk, OnErr};
 ghost use Rattle.std.specs.List.{concat};
@@ -31,9 +31,9 @@ use giop_sig::{Catalogue, Requests};
 use std::alloc::Global;
 use std::marker::Model;
 
-/// Reads one direction of a connection in pieces of any size, and writes its lines, each at the octet that completes it:
-/// by the types of a catalogue, and by what is known of the requests that its replies answer. Once it is made or loaded it
-/// allocates nothing.
+/// Reads one direction of a connection in pieces of any size, and writes its lines. Each line is written at the octet that
+/// completes it. The engine reads by the types of a catalogue, and by what is known of the requests that its replies
+/// answer. After it is made or loaded it allocates nothing.
 #[derive(Drop)]
 pub struct Engine<'a> {
     catalogue: &'a Catalogue,
@@ -66,8 +66,8 @@ impl<'a> Model for Engine<'a> {
 }
 
 impl<'a> Engine<'a> {
-    /// An engine that has read nothing, with these types and the operations of these requests.
-    /// Room for so many open messages is made here, and refused only where there isn't enough memory.
+    /// Makes an engine that has read nothing, with these types and the operations of these requests. Room for this number
+    /// of open messages is made here. It is refused only if there isn't enough memory.
     pub fn new(
         alloc: Global,
         catalogue: &'a Catalogue,
@@ -92,9 +92,9 @@ impl<'a> Engine<'a> {
         })
     }
 
-    /// The engine that a checkpoint was saved of, with the same types and the same list; it reads on from there. From
-    /// other octets that pass the checks, an engine that is safe to use (docs/FORMATS.md, Checkpoints). Room for as
-    /// many open messages as it allows is made here, after the check of its length.
+    /// Loads the engine from its checkpoint, with the same types and the same list. It reads on from there. From other
+    /// octets that pass the checks comes an engine that is safe to use (docs/FORMATS.md, Checkpoints). Room for as many
+    /// open messages as it allows is made here, after its length was checked.
     pub fn load(
         alloc: Global,
         catalogue: &'a Catalogue,
@@ -102,13 +102,13 @@ impl<'a> Engine<'a> {
         octets: &[u8],
     ) -> Result<Engine<'a>, LoadFault>
         requires of { AreOf catalogue.now requests.now }
-        // It holds the stream that the octets are the checkpoint of, with as many open messages allowed,
+        // It holds the stream that the octets are the checkpoint of, with the same number of open messages allowed.
         ensures again { (n : ℕ) (p : List ℕ) → Spells octets.now catalogue.now requests.now n p →
             OrNoMemory result (λ e. (e.most ≡ n) × Holds e p) }
-        // which are those that the octets allow.
+        // That number is the one that the octets give.
         ensures most { IfOk result (λ e.
             Allows (counts_of catalogue.now requests.now) octets.now e.most) }
-        // They are refused by the first check that fails, or for lack of memory.
+        // The octets are refused by the first check that fails, or because there isn't enough memory.
         ensures refused { IfErr result (λ why.
             IsRefused (counts_of catalogue.now requests.now) octets.now why) }
         ensures ours { IfOk result (λ e. IsOurs (counts_of catalogue.now requests.now) octets.now) }
@@ -127,26 +127,26 @@ impl<'a> Engine<'a> {
         }
     }
 
-    /// Reads a piece of the stream up to the first octet after which the correspondent is due, and writes the lines that
-    /// it completes: the results of a reply have the type of the operation that the correspondent answers. After a stream
-    /// fault it reads nothing.
+    /// Reads a piece of the stream up to the first octet after which the correspondent is due, and writes the lines that it
+    /// completes. The results of a reply have the type of the operation that the correspondent answers. After a stream
+    /// fault nothing is read.
     pub fn feed_by<O: Out, Q: Correspondent>(
         &mut self,
         correspondent: &mut Q,
         piece: &[u8],
         out: &mut O,
     ) -> Result<Fed, Stop>
-        // Each operation that the correspondent answers is one of the types' table.
+        // Each operation that the correspondent answers is in the table of the types.
         requires known { AreKnown self.old.table (Q.answer (Q.state correspondent.old)) }
         ensures known { AreKnown self.old.table (Q.answer (Q.state correspondent.new)) }
-        // Let `a` give the operations that the ids of each message answer, and agree with the correspondent at each header
-        // that ends in the piece, as it stands after it was told of the headers before. The engine then holds the stream
-        // that it held, with the octets added that it took.
+        // Let `a` give the operations that the ids of each message answer. Let it agree with the correspondent at each
+        // header that ends in the piece, in the state in which the correspondent is after it was told of the headers
+        // before. Then the engine holds the stream that it held, with the octets that it took added.
         ensures held { (a : Answers) (p : List ℕ) → HoldsBy self.old a p →
             AgreesOver Q.answer Q.notified (Q.state correspondent.old) self.old a p piece.now →
             IfOk result (λ fed. HoldsBy self.new a (p ++ take fed.count piece.now)) }
-        // What they add to the text is written, or a front of that. If the correspondent wasn't due, it is due after none
-        // of them but the last,
+        // What these octets add to the text is written, or, after a failed put, a front of that. If the correspondent
+        // wasn't due, it is due at most after the last of them.
         ensures text { (a : Answers) (p : List ℕ) → HoldsBy self.old a p →
             AgreesOver Q.answer Q.notified (Q.state correspondent.old) self.old a p piece.now →
             TakesFront (λ fed. fed.count) (λ octets. Q.due (Q.state correspondent.old) ≡ false →
@@ -154,23 +154,23 @@ impl<'a> Engine<'a> {
             (Q.state correspondent.old) (rules_with self.old a) p octets ≡ false)
             (λ octets. StopWrites result (O.log out.old) (O.log out.new)
             (added (rules_with self.old a) p octets)) result piece.now }
-        // and then if octets of the piece are left.
+        // It is due after the last of them, if octets of the piece are left.
         ensures last { (a : Answers) (p : List ℕ) → HoldsBy self.old a p →
             AgreesOver Q.answer Q.notified (Q.state correspondent.old) self.old a p piece.now →
             IfOk result (λ fed. fed.count < length piece.now →
             is_due_after Q.due Q.notified Q.awaits_messages self.old.table
             (Q.state correspondent.old) (rules_with self.old a) p
             (take fed.count piece.now) ≡ true) }
-        // The correspondent was told of the headers that end in them, in their order.
+        // The correspondent was told of the headers that end in these octets, in their order.
         ensures told { (a : Answers) (p : List ℕ) → HoldsBy self.old a p →
             AgreesOver Q.answer Q.notified (Q.state correspondent.old) self.old a p piece.now →
             IfOk result (λ fed. Q.state correspondent.new ≡ after_ends Q.notified self.old.table
             (Q.state correspondent.old)
             (header_ends_from (rules_with self.old a) p (take fed.count piece.now))) }
-        // There is one at least, if the piece has one.
+        // At least one octet was taken, if the piece has one.
         ensures some { 0 < length piece.now → IfOk result (λ fed. 0 < fed.count) }
         ensures within { IfOk result (λ fed. fed.count ≤ length piece.now) }
-        // It gives the last message that begins in them, and whether the stream has a fault.
+        // The result gives the last message that begins in the octets, and whether the stream has a fault.
         ensures begun { (a : Answers) (p : List ℕ) → HoldsBy self.old a p →
             AgreesOver Q.answer Q.notified (Q.state correspondent.old) self.old a p piece.now →
             IfOk result (λ fed. fed.begun ≡ begun_in p (take fed.count piece.now)) }
@@ -178,11 +178,12 @@ impl<'a> Engine<'a> {
             AgreesOver Q.answer Q.notified (Q.state correspondent.old) self.old a p piece.now →
             IfOk result (λ fed. fed.status
             ≡ status_of (fault_of (cut (p ++ take fed.count piece.now)).stop)) }
-        // After a failed put the engine is failed, with the totals from before the call.
+        // After a failed put the engine has failed, and has the totals from before the call.
         ensures leaves { Leaves result self.old self.new }
-        // A failed engine writes nothing.
+        // An engine that has failed writes nothing.
         ensures failed { self.old.failed ≡ true → O.log out.new ≡ O.log out.old }
-        // Of one that holds a stream, by whatever answers, it is refused only where a put fails, and no put fails else.
+        // If the engine holds a stream by any answers, the call fails only if a put fails. If it doesn't fail, no put has
+        // failed.
         ensures cause { (a : Answers) (p : List ℕ) → HoldsBy self.old a p →
             OnErr result ((O.log out.new).failures ≡ counted (O.log out.old).failures)
             × OnOk result ((O.log out.new).failures ≡ (O.log out.old).failures) }
@@ -212,10 +213,10 @@ impl<'a> Engine<'a> {
         }
     }
 
-    /// Reads a piece of the stream, and writes the lines that it completes. After a stream fault it reads nothing.
+    /// Reads a piece of the stream, and writes the lines that it completes. After a stream fault nothing is read.
     #[tactic(auto, unfolding(crate::specs::EngineHolds::added))]
     pub fn feed<O: Out>(&mut self, piece: &[u8], out: &mut O) -> Result<Status, Stop>
-        // It then holds the stream that it held, with the piece added.
+        // Then the engine holds the stream that it held, with the piece added.
         ensures held { (p : List ℕ) → Holds self.old p →
             OnOk result (Holds self.new (p ++ piece.now)) }
         // What the piece adds to the text is written.
@@ -223,12 +224,12 @@ impl<'a> Engine<'a> {
             → StopWrites result (O.log out.old) (O.log out.new)
             (drop (length (text (rules_of self.old) p))
             (text (rules_of self.old) (p ++ piece.now))) }
-        // The status gives whether the stream has a fault.
+        // The status tells whether the stream has a fault.
         ensures status { (p : List ℕ) → Holds self.old p
             → IfOk result (λ s. s ≡ status_of (fault_of (cut (p ++ piece.now)).stop)) }
-        // After a failed put the engine is failed, with the totals from before the call.
+        // After a failed put the engine has failed, and has the totals from before the call.
         ensures leaves { Leaves result self.old self.new }
-        // A failed engine writes nothing.
+        // An engine that has failed writes nothing.
         ensures failed { self.old.failed ≡ true → O.log out.new ≡ O.log out.old }
         // The types, the requests and the limit of open messages stay the same.
         ensures same { (self.new.table ≡ self.old.table)
@@ -242,8 +243,8 @@ impl<'a> Engine<'a> {
         }
     }
 
-    /// Forgets its stream, and that a put failed: it then holds the empty stream, as when it was made, whatever the ids of
-    /// messages answer. The room for open messages stays, so nothing is allocated.
+    /// Forgets the stream, and that a put failed. Then the engine holds the empty stream by any answers, as when it was
+    /// made. The room for open messages stays, so nothing is allocated.
     pub fn restart(&mut self)
         ensures holds { (a : Answers) → HoldsBy self.new a [] }
         // The types, the requests and the limit of open messages stay the same.
@@ -255,16 +256,17 @@ impl<'a> Engine<'a> {
         self.failed = false;
     }
 
-    /// Writes the closing of the stream, and returns its totals, with a truncated end counted as a fault. The engine stays
-    /// as it is; `restart` makes it ready for another stream.
+    /// Writes the closing of the stream, and returns its totals. A truncated end counts as a fault in them. The engine
+    /// stays as it is; `restart` makes it ready for another stream.
     pub fn close<O: Out>(&self, out: &mut O) -> Result<Totals, Stop>
-        // The closing of what it holds is written, whatever operations the ids of messages answered.
+        // The closing of the stream that the engine holds is written. By which answers it holds the stream makes no
+        // difference.
         ensures text { (a : Answers) (p : List ℕ) → HoldsBy self.now a p
             → StopWrites result (O.log out.old) (O.log out.new)
             (closing (rules_with self.now a) p) }
         ensures totals { (a : Answers) (p : List ℕ) → HoldsBy self.now a p →
             IfOk result (λ t. t ≡ final (rules_with self.now a) p) }
-        // A failed engine writes nothing, and only a failed one returns `Failed`.
+        // An engine that has failed writes nothing and returns `Failed`. No other engine returns it.
         ensures failed { self.now.failed ≡ true →
             (result ≡ Err Stop.Failed) × (O.log out.new ≡ O.log out.old) }
         ensures sound { result ≡ Err Stop.Failed → self.now.failed ≡ true }
@@ -278,20 +280,20 @@ impl<'a> Engine<'a> {
         }
     }
 
-    /// Ends the stream: writes its closing, and returns its totals, with a truncated end counted as a fault.
+    /// Ends the stream: writes its closing, and returns its totals. A truncated end counts as a fault in them.
     pub fn finish<O: Out>(self, out: &mut O) -> Result<Totals, Stop>
-        // The closing of what it holds is written.
+        // The closing of the stream that it holds is written.
         ensures text { (p : List ℕ) → Holds self.entry p
             → StopWrites result (O.log out.old) (O.log out.new) (closing (rules_of self.entry) p) }
         ensures totals { (p : List ℕ) → Holds self.entry p →
             IfOk result (λ t. t ≡ final (rules_of self.entry) p) }
-        // The same whatever operations the ids of messages answered.
+        // The same, if the engine holds the stream by any answers.
         ensures text_by { (a : Answers) (p : List ℕ) → HoldsBy self.entry a p
             → StopWrites result (O.log out.old) (O.log out.new)
             (closing (rules_with self.entry a) p) }
         ensures totals_by { (a : Answers) (p : List ℕ) → HoldsBy self.entry a p →
             IfOk result (λ t. t ≡ final (rules_with self.entry a) p) }
-        // A failed engine writes nothing, and only a failed one returns `Failed`.
+        // An engine that has failed writes nothing and returns `Failed`. No other engine returns it.
         ensures failed { self.entry.failed ≡ true →
             (result ≡ Err Stop.Failed) × (O.log out.new ≡ O.log out.old) }
         ensures sound { result ≡ Err Stop.Failed → self.entry.failed ≡ true }
@@ -299,18 +301,18 @@ impl<'a> Engine<'a> {
         self.close(out)
     }
 
-    /// Writes the checkpoint of what was read, and returns how many octets it has (docs/FORMATS.md, Checkpoints). A
-    /// failed put leaves the engine as it was.
+    /// Writes the checkpoint of what was read, and returns how many octets it has (docs/FORMATS.md, Checkpoints). If a put
+    /// fails, the engine stays as it was.
     pub fn save<O: Out>(&self, out: &mut O) -> Result<u64, Stop>
-        // It is a checkpoint of each stream that the engine holds; if a put fails, a front of it was written.
+        // What is written is a checkpoint of each stream that the engine holds. If a put fails, a front of it was written.
         ensures saves { (p : List ℕ) → Holds self.now p →
             Saves result (O.log out.old) (O.log out.new)
             self.now.table self.now.request_table self.now.most p }
-        // It is refused where the engine was failed, and nothing is written then,
+        // If the engine has failed, nothing is written and `Failed` is returned. No other engine returns it.
         ensures failed { self.now.failed ≡ true →
             (result ≡ Err Stop.Failed) × (O.log out.new ≡ O.log out.old) }
         ensures sound { result ≡ Err Stop.Failed → self.now.failed ≡ true }
-        // and otherwise only where a put fails.
+        // If the engine hasn't failed, the call fails only if a put fails.
         ensures cause { self.now.failed ≡ false →
             OnErr result ((O.log out.new).failures ≡ counted (O.log out.old).failures) }
     {
@@ -324,24 +326,25 @@ impl<'a> Engine<'a> {
         }
     }
 
-    /// The totals of what was read; after a failed put those from before that call.
+    /// The totals of what was read. After a failed put they are those from before that call.
     pub fn totals(&self) -> Totals
         ensures value { result ≡ self.now.stream.totals }
-        // The messages are those whose header of 12 octets is complete.
+        // The messages are those with a complete header of 12 octets.
         ensures messages { (a : Answers) (p : List ℕ) → HoldsBy self.now a p →
             result.messages ≡ length (messages (cut p)) }
     {
         self.framing.totals
     }
 
-    /// How many octets the message that the stream is in lacks until its end, if its header is complete; 0 between two messages.
+    /// How many octets are missing until the end of the message that the stream is in, if the message's header is complete.
+    /// It is 0 between two messages.
     pub fn lacking(&self) -> Option<u32>
         ensures { (a : Answers) (p : List ℕ) → HoldsBy self.now a p → result ≡ lacking (cut p) }
     {
         self.framing.lacking()
     }
 
-    /// Whether a put failed.
+    /// Whether a put has failed.
     pub fn is_failed(&self) -> bool
         ensures { result ≡ self.now.failed }
     {
@@ -349,33 +352,35 @@ impl<'a> Engine<'a> {
     }
 }
 
-/// The text of a stream is a front of the text of each longer one, so that the cutting of a stream into pieces makes
-/// no difference.
+/// The text of a stream is a front of the text of each longer stream. So it makes no difference how a stream is cut into
+/// pieces.
 pub fn text_begins()
     ensures { (C : Table) (l : RequestTable) (n : ℕ) (p q : List ℕ) → (more : List ℕ)
         × (text (rules C l n) (p ++ q) ≡ text (rules C l n) p ++ more) }
 {}
 
-/// However a stream is cut into pieces, the same is written of it.
+/// However a stream is cut into pieces, the same text is written of it.
 pub fn any_pieces()
-    // What is written of pieces, one after the other, is what all their octets add,
+    // What is written of pieces, one after another, is what all their octets add together.
     ensures whole { (C : Table) (l : RequestTable) (n : ℕ) (p : List ℕ) (pieces : List (List ℕ)) →
         fed (rules C l n) p pieces ≡ added (rules C l n) p (concat pieces) }
-    // so that any two ways to cut the same octets write the same.
+    // So two ways to cut the same octets write the same.
     ensures same { (C : Table) (l : RequestTable) (n : ℕ) (p : List ℕ)
         (pieces others : List (List ℕ)) →
         concat pieces ≡ concat others →
         fed (rules C l n) p pieces ≡ fed (rules C l n) p others }
 {}
 
-/// A stream is read on from a checkpoint of its front as if the reading had never ended, and each checkpoint is small.
+/// If a stream is read on from a checkpoint of its front, it is as if the reading had never stopped; and each checkpoint is
+/// small.
 pub fn remaining()
-    // The text of the front, and what is written of the octets after it and at their end, are all that is written.
+    // The text of the front, and then what is written of the octets after it and at their end, are together all that is
+    // written of the whole.
     ensures text { (C : Table) (l : RequestTable) (n : ℕ) (octets p q : List ℕ) →
         Spells octets C l n p →
         text (rules C l n) p ++ remaining (rules C l n) p q
         ≡ whole_text (rules C l n) (p ++ q) }
-    // However long the front is, its checkpoint by a catalogue's table has at most so many octets.
+    // However long the front is, its checkpoint by the table of a catalogue has at most this number of octets.
     ensures within { (C : Table) (l : RequestTable) (n : ℕ) (octets p : List ℕ) →
         IsTable C → Spells octets C l n p →
         length octets ≤ checkpoint_limit n (catalogue_depth C) }

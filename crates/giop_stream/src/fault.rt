@@ -1,4 +1,4 @@
-//! The faults that framing gives a message, and why a call of an engine fails. Stream faults, which end a stream, are
+//! The faults that framing gives to a message, and why a call of an engine fails. Stream faults, which end a stream, are
 //! defined beside the checkpoint that stores them.
 
 ghost use Rattle.std.specs.Prelude.{◌≡◌};
@@ -8,36 +8,37 @@ pub use giop_checkpoint::{LoadFault, StreamFault};
 use giop_print::OutFault;
 use thiserror::Error;
 
-/// Why framing faults a message: for its header, its request id or its size alone. `Display` is the word of its line.
+/// Why framing faults a message: because of its header, its request id or its size alone. `Display` is the word of its
+/// line.
 #[derive(Clone, Copy, Debug, PartialEq, Eq, Error)]
 pub enum FramingFault {
-    /// A message type above 7, or a Fragment of 1.0.
+    /// The message type is above 7, or is a Fragment in GIOP 1.0.
     #[error("message-type")]
     MessageType,
-    /// A message of 1.1 that is a Fragment, or has fragments.
+    /// A message of GIOP 1.1 is a Fragment, or has fragments.
     #[error("fragment-1.1")]
     OldFragment,
-    /// No room for the request id, in a message that has fragments or in a Fragment.
+    /// A Fragment, or a message that has fragments, is too short for its request id.
     #[error("short")]
     Short,
-    /// A Fragment with the request id of no open message.
+    /// A Fragment has a request id that no open message has.
     #[error("no-open")]
     NoOpen,
-    /// A message that has fragments, with the request id of an open one.
+    /// A message that has fragments has the request id of an open message.
     #[error("id-open")]
     IdOpen,
-    /// A message that has fragments, where as many are open as may be.
+    /// A message has fragments, and as many messages are open as may be.
     #[error("too-many-open")]
     TooManyOpen,
-    /// A Fragment of another byte order than the message that it continues.
+    /// A Fragment has another byte order than the message that it continues.
     #[error("fragment-order")]
     FragmentOrder,
 }
 
-/// Why there is no new engine.
+/// Why no new engine is made.
 #[derive(Clone, Copy, Debug, PartialEq, Eq, Error)]
 pub enum NewFault {
-    /// There wasn't enough memory for its open messages.
+    /// There wasn't enough memory for the open messages.
     #[error("out of memory")]
     OutOfMemory = 1,
 }
@@ -45,10 +46,11 @@ pub enum NewFault {
 /// Why a call wrote less than was due.
 #[derive(Clone, Copy, Debug, PartialEq, Eq, Error)]
 pub enum Stop {
-    /// A put failed in this call; a front of what was due is written. A feed leaves the engine failed, a save as it was.
+    /// A put failed in this call, and a front of what was due is written. After a feed the engine has failed; after a save
+    /// it is as it was.
     #[error("{0}")]
     Out(OutFault),
-    /// The engine was failed before the call; nothing is written.
+    /// The engine had failed before the call, and nothing is written.
     #[error("the engine was failed")]
     Failed,
 }

@@ -1,4 +1,4 @@
-//! The finish of a stream: its totals, and the lines of what is left.
+//! The end of a stream: its totals, and the lines of what is left.
 
 ghost use Rattle.std.specs.Prelude.{◌≡◌, ◌++◌, [], Some, None, flat_map, nat_lt, if◌then◌else◌};
 
@@ -21,7 +21,7 @@ impl Framing {
     ghost use Rattle.giop_stream.specs.EngineHolds.{status_of};
     ghost use Rattle.giop_stream.specs.FramingSteps.{is_cut_short, final_totals};
 
-    /// Whether the stream goes on.
+    /// Whether the stream goes on, or which fault it has.
     pub fn status(&self) -> Status
         ensures { result ≡ status_of self.now.stopped }
     {
@@ -31,7 +31,7 @@ impl Framing {
         }
     }
 
-    /// The number of the last message that has begun, if it is above this one.
+    /// The number of the last message that has begun, if it is greater than this number.
     pub fn begun_since(&self, number: u64) -> Option<u64>
         ensures { result ≡ (if nat_lt number self.now.totals.messages
             then Some self.now.totals.messages else None) }
@@ -48,7 +48,7 @@ impl Framing {
         self.stopped.is_none() && !self.header.is_empty()
     }
 
-    /// The totals at the finish.
+    /// The totals at the end of the stream.
     #[tactic(auto, unfolding(crate::specs::FramingSteps::final_totals))]
     pub fn final_totals(&self) -> Totals
         ensures state { result ≡ final_totals (framing_view self.now) }
@@ -63,7 +63,7 @@ impl Framing {
         totals
     }
 
-    /// The line of a stream that ends inside a message or a header.
+    /// Writes the line that says that the stream ends inside a message or a header, if it does.
     fn truncation<O: Out>(&self, out: &mut O) -> Result<(), OutFault>
         ensures { (C : Table) (l : Answers) (s : State) → Shows C l (framing_view self.now) s →
             Writes result (O.log out.old) (O.log out.new)
@@ -75,7 +75,7 @@ impl Framing {
         Ok(())
     }
 
-    /// The line of the current message where it isn't open, unless it is a Fragment.
+    /// Writes the line of the current message if it is unfinished, unless it is open or a Fragment.
     fn own_unfinished<O: Out>(&self, out: &mut O) -> Result<(), OutFault>
         ensures { (C : Table) (l : Answers) (s : State) → Shows C l (framing_view self.now) s →
             Writes result (O.log out.old) (O.log out.new)
@@ -90,7 +90,7 @@ impl Framing {
         unfinished_line(out, message.number())
     }
 
-    /// The lines of the messages that have neither ended nor been faulted, by number.
+    /// Writes the lines of the messages that have neither ended nor been faulted, in the order of their numbers.
     fn unfinished<O: Out>(&self, out: &mut O) -> Result<(), OutFault>
         ensures { (C : Table) (l : Answers) (s : State) → Shows C l (framing_view self.now) s →
             Writes result (O.log out.old) (O.log out.new)
@@ -100,7 +100,7 @@ impl Framing {
         self.own_unfinished(out)
     }
 
-    /// What follows the line of a truncation.
+    /// Writes what follows the line of a truncated end.
     #[tactic(auto, using(giop_print::proofs::Writing::writes_then, giop_print::proofs::Writing::writes_err))]
     fn ending<O: Out>(&self, out: &mut O) -> Result<(), OutFault>
         ensures { (C : Table) (l : Answers) (s : State) → Shows C l (framing_view self.now) s →
@@ -114,7 +114,7 @@ impl Framing {
         total_line(out, totals.messages, totals.faults, totals.octets)
     }
 
-    /// The lines of the finish.
+    /// Writes the lines of the end of the stream.
     #[tactic(auto, using(giop_print::proofs::Writing::writes_then, giop_print::proofs::Writing::writes_err))]
     pub fn finish<O: Out>(&self, out: &mut O) -> Result<(), OutFault>
         ensures { (C : Table) (l : Answers) (s : State) → Shows C l (framing_view self.now) s →

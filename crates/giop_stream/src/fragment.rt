@@ -1,5 +1,5 @@
-//! A Fragment of an open message, where the last octet of its header and its request id come together: then no message of
-//! its own is begun.
+//! A Fragment of an open message, if the last octet of its header and its request id come together. Then no message of its
+//! own is begun.
 
 ghost use Rattle.std.specs.Prelude.{◌≡◌, ◌+◌, ◌≤◌, ◌<◌, ◌^◌, ℕ, List, [], ◌∷◌, length, take, None, Some, IfSome, IfOk, OnOk};
 ghost use Rattle.giop_cdr.specs.Numbers.{num};
@@ -32,7 +32,7 @@ pub struct Continuation {
     pub index: usize,
 }
 
-/// A Fragment starts whose request id is that of an open message; returns how many messages are faulted.
+/// Starts a Fragment that has the same request id as an open message. Returns how many messages are faulted.
 fn continues<O: Out>(
     slots: &mut Slots,
     catalogue: &Catalogue,
@@ -98,7 +98,7 @@ impl Framing {
         }
     }
 
-    /// Takes the last octet of a Fragment's header and its request id, which is that of this open message.
+    /// Takes the last octet of a Fragment's header and its request id, which is the id of this open message.
     pub fn take_continuation<O: Out>(
         &mut self,
         catalogue: &Catalogue,

@@ -1,4 +1,4 @@
-//! The state that is kept of a stream, and what an octet does to it: headers, payloads and stream faults.
+//! The state that is kept of a stream, and what an octet does to it, for headers, payloads and stream faults.
 
 ghost use Rattle.std.specs.Prelude.{◌≡◌, ◌+◌, ◌*◌, ◌++◌, ◌∷◌, ◌^◌, ◌≤◌, ◌<◌, ℕ, List, [], length, take, true, None, IfOk, OnOk, if◌then◌else◌};
 ghost use Rattle.arrayvec.specs.ArrayVec.{array_vec_len};
@@ -17,7 +17,7 @@ use giop_print::{Out, OutFault};
 use giop_sig::Catalogue;
 use std::alloc::{AllocError, Global};
 
-/// How many octets are read of a stream at most.
+/// The greatest number of octets that are read of a stream.
 pub const LIMIT: u64 = 281_474_976_710_656;
 
 /// The totals before the first octet.
@@ -32,7 +32,7 @@ const NOTHING_READ: Totals = Totals {
 pub struct Framing {
     pub totals: Totals,
     pub stopped: Option<StreamFault>,
-    /// The header octets read so far; all 12 within a payload.
+    /// The octets of a header that were read until now; all 12 within a payload.
     pub header: ArrayVec<u8, 12>,
     /// How many octets of the payload were read.
     pub payload_count: u32,
@@ -67,7 +67,7 @@ impl Framing {
     ghost use Rattle.giop_message.specs.HeaderEnds.{AgreesAtEnds, after_ends};
     ghost use Rattle.giop_message.specs.DueOctets.{TakesFront, StaysUndue};
 
-    /// The state before the first octet, where so many messages may be open.
+    /// Makes the state before the first octet, for this number of open messages.
     pub fn new(alloc: Global, most: usize) -> Result<Framing, AllocError>
         requires room { most ≤ most_open }
         requires some { 1 ≤ most }
@@ -86,7 +86,7 @@ impl Framing {
         })
     }
 
-    /// The state before the first octet, in the same room.
+    /// Goes back to the state before the first octet, in the same room.
     pub fn restart(&mut self)
         ensures shows { (C : Table) (l : Answers) → Shows C l (framing_view self.new) one.fresh }
         ensures ready { (C : Table) → AreReady C (self.new.totals.octets + 1) self.new.slots }
@@ -95,7 +95,7 @@ impl Framing {
         self.clear(NOTHING_READ, None);
     }
 
-    /// Drops all messages and what has come of a header: only these totals and this stream fault are kept.
+    /// Drops all messages and the octets of a header. Only these totals and this stream fault are kept.
     pub fn clear(&mut self, totals: Totals, stopped: Option<StreamFault>)
         requires read { totals.octets ≤ 2 ^ 48 + 1 }
         requires running { stopped ≡ None → totals.octets ≤ 2 ^ 48 }
@@ -116,7 +116,7 @@ impl Framing {
         self.slots.clear();
     }
 
-    /// A stream fault at the octet of this place ends the reading: no header and no payload is held from then on.
+    /// Ends the reading with a stream fault at the octet of this place. No header and no payload is held after that.
     #[tactic(auto, unfolding(crate::specs::FramingSteps::stop))]
     fn stop<O: Out>(&mut self, fault: StreamFault, place: u64, out: &mut O) -> Result<(), OutFault>
         requires place { self.old.totals.octets ≤ place }
@@ -135,7 +135,7 @@ impl Framing {
         stream_fault_line(out, fault, place)
     }
 
-    /// After a message's last octet: the next octet is the first of a header.
+    /// Ends a message after its last octet, if this was its last: the next octet is then the first one of a header.
     #[tactic(auto, unfolding(crate::specs::FramingSteps::end_message))]
     pub fn end_message(&mut self, size: u32)
         ensures state { framing_view self.new ≡ end_message (framing_view self.old) size }
@@ -165,7 +165,8 @@ impl Framing {
         }
     }
 
-    /// How many octets the message lacks that the stream is in, if its header is complete; 0 between two messages.
+    /// How many octets are missing until the end of the message that the stream is in, if the message's header is complete.
+    /// It is 0 between two messages.
     pub fn lacking(&self) -> Option<u32>
         ensures { (C : Table) (l : Answers) (most : ℕ) (s : State) (r : IsReached C l most s) →
             Shows C l (framing_view self.now) s → result ≡ lacking (cut r.stream) }
@@ -183,7 +184,7 @@ impl Framing {
         Some(size_of(&now.header).saturating_sub(now.payload_count))
     }
 
-    /// At a header's last octet a message begins.
+    /// Begins a message at the last octet of its header.
     fn begin<O: Out>(&mut self, catalogue: &Catalogue, out: &mut O) -> Result<(), OutFault>
         requires full { length self.old.header.items ≡ 12 }
         requires right { wrong self.old.header.items ≡ None }
@@ -209,7 +210,7 @@ impl Framing {
         Ok(())
     }
 
-    /// An octet of a header.
+    /// Takes an octet of a header.
     fn header_octet<O: Out>(
         &mut self,
         catalogue: &Catalogue,
@@ -240,8 +241,8 @@ impl Framing {
         Ok(())
     }
 
-    /// Octets of a payload, of which at most the last one is the last of a request id or of the message, up to the first one
-    /// after which the correspondent is due. Answers how many it took.
+    /// Takes octets of a payload, up to the first one after which the correspondent is due. At most the last of them ends a
+    /// request id or the message. Returns how many it took.
     pub fn payload_octets<O: Out, Q: Correspondent>(
         &mut self,
         catalogue: &Catalogue,
@@ -308,7 +309,7 @@ impl Framing {
         Ok(count)
     }
 
-    /// An octet of the stream.
+    /// Takes an octet of the stream.
     pub fn step<O: Out, Q: Correspondent>(
         &mut self,
         catalogue: &Catalogue,

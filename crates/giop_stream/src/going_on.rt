@@ -1,4 +1,4 @@
-//! Reads a stream on from a checkpoint to its end; and that each stream that an engine holds has a checkpoint.
+//! How a stream is read on from a checkpoint to its end. Each stream that an engine holds has a checkpoint.
 
 ghost use Rattle.std.specs.Prelude.{◌≡◌, ◌≢◌, ◌≤◌, ◌++◌, false, ℕ, List, length, IfOk, IfErr};
 ghost use Rattle.giop_sig.specs.Trees.{catalogue_depth};
@@ -15,8 +15,8 @@ use giop_print::{Out, Sheet};
 use giop_sig::{Catalogue, Requests};
 use std::alloc::Global;
 
-/// Reads a stream on from a checkpoint of its front, with the same types and the same list: the octets that follow,
-/// and their end. Returns its totals, or that a put failed; or why the checkpoint is refused.
+/// Reads a stream on from a checkpoint of its front, with the same types and the same list: the octets that follow, and
+/// their end. Returns the totals of the stream, or that a put failed; or why the checkpoint is refused.
 pub fn go_on<O: Out>(
     alloc: Global,
     catalogue: &Catalogue,
@@ -26,16 +26,17 @@ pub fn go_on<O: Out>(
     out: &mut O,
 ) -> Result<Result<Totals, Stop>, LoadFault>
     requires of { AreOf catalogue.now requests.now }
-    // What is written after the front that the octets are the checkpoint of is what remains of its text and its closing.
+    // What is written is what remains of the stream's text, after the front that the octets are the checkpoint of, and the
+    // closing.
     ensures text { (n : ℕ) (p : List ℕ) → Spells octets.now catalogue.now requests.now n p →
         OrNoMemory result (λ ended. StopWrites ended (O.log out.old) (O.log out.new)
         (remaining (rules catalogue.now requests.now n) p rest.now)) }
     ensures totals { (n : ℕ) (p : List ℕ) → Spells octets.now catalogue.now requests.now n p →
         OrNoMemory result (λ ended. IfOk ended (λ t.
         t ≡ final (rules catalogue.now requests.now n) (p ++ rest.now))) }
-    // The engine that is loaded isn't failed.
+    // The engine that is loaded hasn't failed.
     ensures sound { IfOk result (λ ended. IfErr ended (λ stop. stop ≢ Stop.Failed)) }
-    // Where the octets are refused, nothing is written.
+    // If the octets are refused, nothing is written.
     ensures refused { IfErr result (λ why. (O.log out.new ≡ O.log out.old)
         × IsRefused (counts_of catalogue.now requests.now) octets.now why) }
 {
@@ -62,7 +63,7 @@ fn feed_to_end<O: Out>(engine: Engine, rest: &[u8], out: &mut O) -> Result<Total
     }
 }
 
-/// Each stream that an engine holds has a checkpoint, with at most so many octets.
+/// Each stream that an engine holds has a checkpoint, and the checkpoint has at most this number of octets.
 pub fn has_checkpoint(engine: &Engine)
     ensures { (p : List ℕ) → Holds engine.now p → (octets : List ℕ)
         × Spells octets engine.now.table engine.now.request_table engine.now.most p

@@ -1,4 +1,4 @@
-//! The fields of a message header, and the octets that it may have (GIOP Message Formats, GIOP Message Header).
+//! The fields of a message header, and the octets that the header may have (GIOP Message Formats, GIOP Message Header).
 
 ghost use Rattle.std.specs.Prelude.{◌≡◌, ◌≤◌, ◌<◌, ◌+◌, ℕ, List, [], ◌∷◌, length, take, None, IsTrue};
 ghost use Rattle.giop_cdr.specs.Numbers.{little, num};
@@ -9,14 +9,14 @@ use crate::fault::StreamFault;
 use giop_cdr::Order;
 use giop_message::order_of;
 
-/// The number that four octets spell, the first the lightest.
+/// The number that four octets are, the least significant octet first.
 fn lightest_first(a: u8, b: u8, c: u8, d: u8) -> u32
     ensures { result ≡ little (a ∷ b ∷ c ∷ d ∷ []) }
 {
     u32::from(a) + 256 * (u32::from(b) + 256 * (u32::from(c) + 256 * u32::from(d)))
 }
 
-/// The number that four octets spell in a byte order.
+/// The number that four octets are in this byte order.
 #[tactic(auto, unfolding(giop_cdr::specs::Numbers::num))]
 pub fn number_of(order: Order, a: u8, b: u8, c: u8, d: u8) -> u32
     ensures { result ≡ num order (a ∷ b ∷ c ∷ d ∷ []) }
@@ -50,7 +50,7 @@ pub fn size_of(header: &[u8]) -> u32
     )
 }
 
-/// What is wrong with the last octet of a header's front.
+/// The fault at the last octet of a header's front, if that octet is wrong.
 #[tactic(auto, unfolding(crate::specs::HeaderOctets::wrong))]
 pub fn wrong_in(front: &[u8]) -> Option<StreamFault>
     requires { length front.now ≤ 12 }
@@ -73,7 +73,7 @@ pub fn wrong_in(front: &[u8]) -> Option<StreamFault>
     if is_right { None } else { Some(fault) }
 }
 
-/// Whether no octet of a header's front is wrong; those after the first seven may have any value.
+/// Whether no octet of a header's front is wrong. The octets after the first seven may have any value.
 #[tactic(auto, unfolding(crate::specs::HeaderOctets::wrong))]
 pub fn begins_right(front: &[u8]) -> bool
     requires { 7 ≤ length front.now }

@@ -1,4 +1,5 @@
-//! What kind of message a header begins, and what a header alone is faulted for (GIOP Message Formats, Fragment Message).
+//! The kind of message that a header begins, and what a header alone is faulted for (GIOP Message Formats, Fragment
+//! Message).
 
 ghost use Rattle.std.specs.Prelude.{◌≡◌, length};
 ghost use Rattle.giop_message.specs.Headers.{may_be_fragmented, is_opener, is_fragment, is_cancel};
@@ -20,7 +21,7 @@ pub fn may_be_fragmented(header: &[u8]) -> bool
     kind == 0 || kind == 1 || kind == 3 || kind == 4
 }
 
-/// Whether 1.2 Fragments follow a message.
+/// Whether Fragments of GIOP 1.2 follow a message.
 #[tactic(auto, unfolding(giop_message::specs::Headers::is_opener))]
 pub fn is_opener(header: &[u8]) -> bool
     requires { length header.now ≡ 12 }
@@ -29,7 +30,7 @@ pub fn is_opener(header: &[u8]) -> bool
     minor_of(header) == 2 && more_of(header) && may_be_fragmented(header)
 }
 
-/// Whether a message is a 1.2 Fragment.
+/// Whether a message is a Fragment of GIOP 1.2.
 #[tactic(auto, unfolding(giop_message::specs::Headers::is_fragment))]
 pub fn is_fragment(header: &[u8]) -> bool
     requires { length header.now ≡ 12 }
@@ -56,7 +57,7 @@ pub fn is_short(header: &[u8]) -> bool
     size_of(header) < 4 && (is_opener(header) || is_fragment(header))
 }
 
-/// Whether 1.2 Fragments of the same joined message follow.
+/// Whether Fragments of GIOP 1.2 of the same joined message follow.
 #[tactic(auto, unfolding(crate::specs::Kinds::is_followed))]
 pub fn is_followed(header: &[u8]) -> bool
     requires { length header.now ≡ 12 }
@@ -74,7 +75,7 @@ pub fn may_be_cancelled(header: &[u8]) -> bool
     kind_of(header) == 0 || kind_of(header) == 3
 }
 
-/// What a message is faulted for by its header alone.
+/// The fault that a message has by its header alone, if it has one.
 #[tactic(auto, unfolding(crate::specs::Kinds::refused))]
 pub fn refused(header: &[u8]) -> Option<FramingFault>
     requires { length header.now ≡ 12 }

@@ -1,4 +1,4 @@
-//! The laws of a stream whose messages are joined from their fragments, for any reading of one message.
+//! Laws of a stream whose messages are joined from their fragments. They hold for any reading of a single message.
 
 ghost use Rattle.std.specs.Prelude.{◌≡◌, ◌≤◌, ◌<◌, ◌==◌, ◌&&◌, ℕ, suc, List, [], ◌∷◌, ◌++◌, ◌*◌, length, filter, true, Some, None, slice_get, slice_set};
 ghost use Rattle.std.specs.List.{remove};
@@ -25,27 +25,27 @@ ghost use Rattle.giop_stream.specs.EngineStep.{fresh, step, run, run_state, fini
 
 use giop_message::Correspondent;
 
-// The functions here have no body, and are called for their contracts.
+// The functions here have no body; they are called for their contracts.
 
-/// What an event does to the slots of the open messages, each at its index.
+/// What an event does to the slots of the open messages, each slot at its index.
 pub fn each_slot()
-    // An octet or a fault changes the slot of its message,
+    // An octet or a fault changes the slot of its message.
     ensures stays { (R : MessageReader) (c : Tracked) (e : Event) (k : ℕ) (o : Open) →
         stays e.what ≡ true → Rising c.still_open → slice_get c.still_open k ≡ Some o →
         e.subject ≡ o.opener →
         slots_at (tracked_at R c e)
         ≡ slice_set (slots_at c) k
         (record { open_as = o; octets = octets_then R e (c.known o.opener.number) }) }
-    // and none where that isn't open.
+    // If the message isn't open, no slot changes.
     ensures own { (R : MessageReader) (c : Tracked) (e : Event) →
         stays e.what ≡ true → IsNotOpen e.subject.number c.still_open →
         slots_at (tracked_at R c e) ≡ slots_at c }
-    // A close or a cancel takes the slot away,
+    // A close or a cancel takes the slot of its message away.
     ensures goes { (R : MessageReader) (c : Tracked) (e : Event) (k : ℕ) (o : Open) →
         goes e.what ≡ true → Rising c.still_open → slice_get c.still_open k ≡ Some o →
         e.subject ≡ o.opener →
         slots_at (tracked_at R c e) ≡ remove (slots_at c) k }
-    // and none where the message isn't open.
+    // If the message isn't open, no slot goes.
     ensures closes { (R : MessageReader) (c : Tracked) (e : Event) →
         goes e.what ≡ true → IsNotOpen e.subject.number c.still_open →
         slots_at (tracked_at R c e) ≡ slots_at c }
@@ -58,7 +58,7 @@ pub fn each_slot()
     // A Fragment that continues a message changes nothing.
     ensures continues { (R : MessageReader) (c : Tracked) (e : Event) (n : ℕ) →
         e.what ≡ Continues n → tracked_at R c e ≡ c }
-    // The octets kept of the event's message change as `octets_then` gives; those of no other message change.
+    // The octets that are kept of the event's message change as `octets_then` says. Those of other messages stay.
     ensures kept { (R : MessageReader) (c : Tracked) (e : Event) →
         (tracked_at R c e).known e.subject.number ≡ octets_then R e (c.known e.subject.number) }
     ensures others { (R : MessageReader) (c : Tracked) (e : Event) (i : ℕ) →
@@ -68,18 +68,18 @@ pub fn each_slot()
     ensures rising { (most : ℕ) (p : List ℕ) → Rising (open_after most p) }
 {}
 
-/// The octets of a joined message are its own, then of each message that continues it those after the request id.
+/// The octets of a joined message are its own, and then, of each message that continues it, those after the request id.
 pub fn each_joined()
     ensures { (most : ℕ) (p : List ℕ) (i : ℕ) →
         joined i (events most p) ≡ shares most i [] (messages (cut p)) }
 {}
 
-/// No more messages are open than may be.
+/// At most as many messages are open as may be.
 pub fn open_messages()
     ensures { (most : ℕ) (p : List ℕ) → length (open_after most p) ≤ most }
 {}
 
-/// After a stream fault no octet adds a line, and none is counted.
+/// After a stream fault no octet adds a line, and no octet is counted.
 pub fn after_a_stop()
     ensures text { (R : Rules) → IsCausal R.reading → (p q : List ℕ) (found : ℕ × StreamFault) →
         (cut p).stop ≡ Some found →
@@ -89,14 +89,14 @@ pub fn after_a_stop()
         tally R (p ++ q) ≡ tally R p }
 {}
 
-/// No octet has two lines of one class.
+/// No octet has two lines of the same class.
 pub fn one_of_each()
     ensures { (R : Rules) → IsCausal R.reading → IsStreamable R.reading →
         (p : List ℕ) (k : ℕ) (c : Class) →
         length (filter (λ l. (l.place == k) && has_class c l) (lines R p)) ≤ 1 }
 {}
 
-/// What an engine holds of a stream changes by one step for each octet.
+/// What an engine holds of a stream changes by one step at each octet.
 pub fn each_step()
     ensures start { (R : Rules) → state_of R [] ≡ fresh }
     ensures state { (R : Rules) → IsCausal R.reading → IsStreamable R.reading →
@@ -117,26 +117,27 @@ pub fn each_step()
         final R p ≡ final_totals (state_of R p) }
 {}
 
-/// How many octets, messages and faults a stream can count.
+/// How many octets, messages and faults of a stream can be counted.
 pub fn counts_are_bounded()
-    // At most one octet is read beyond the limit, that of the stream fault;
+    // At most one octet is read beyond the limit, the octet of the stream fault.
     ensures octets { (R : Rules) (p : List ℕ) → (tally R p).octets ≤ suc limit }
-    // and none where the stream has no fault.
+    // If the stream has no fault, no octet is read beyond the limit.
     ensures free { (R : Rules) (p : List ℕ) → (cut p).stop ≡ None → (tally R p).octets ≤ limit }
     // Each message has a header of 12 octets.
     ensures messages { (R : Rules) → IsCausal R.reading → IsStreamable R.reading → (p : List ℕ) →
         12 * (tally R p).messages ≤ (tally R p).octets }
-    // Each message has one fault at most,
+    // Each message has at most one fault.
     ensures faults { (R : Rules) → IsCausal R.reading → IsStreamable R.reading →
         (p : List ℕ) → (cut p).stop ≡ None →
         (tally R p).faults ≤ (tally R p).messages }
-    // and the stream one, its stream fault or the truncated end.
+    // The stream itself has at most one: its stream fault, or its truncated end.
     ensures all_faults { (R : Rules) → IsCausal R.reading → IsStreamable R.reading → (p : List ℕ) →
         (final R p).faults ≤ suc (final R p).messages }
 {}
 
-/// What the ids of a message answer makes no difference before its header ends. By answers that agree for the others, a
-/// stream has the same text and the same state, and an engine that holds it by the ones holds it by the others.
+/// What the ids of a message answer makes no difference before the message's header ends. If two `Answers` agree for all
+/// messages whose header has ended, a stream has the same text and the same state by both, and an engine that holds the
+/// stream by one of them holds it by the other.
 pub fn answers_agree()
     ensures text { (C : Table) (a b : Answers) (n : ℕ) (p : List ℕ) → AnswersAgree n p a b →
         text (rules_by C a n) p ≡ text (rules_by C b n) p }
@@ -146,27 +147,29 @@ pub fn answers_agree()
         HoldsBy e a p → HoldsBy e b p }
 {}
 
-/// For each correspondent, and any octets after a stream, there are answers that agree with it at each header that ends in
-/// them, and with those by which the stream was read. So what an engine does of a piece is known whatever the correspondent
-/// answers, and an engine that holds a stream by the ones goes on by the others, piece by piece.
+/// For any correspondent, and any octets after a stream, there are answers that agree with the correspondent at each header
+/// that ends in these octets, and with the answers by which the stream was read. So it is known what an engine does with a
+/// piece, whatever the correspondent answers. And an engine that holds a stream by the old answers holds it by the new
+/// ones, piece by piece.
 pub fn answers_go_on<Q: Correspondent>()
     ensures { (C : Table) (a : Answers) (n : ℕ) (p q : List ℕ) (st : Q.State) → (b : Answers)
         × AnswersAgree n p a b
         × AgreesAtEnds Q.answer Q.notified C st b (header_ends_from (rules_by C b n) p q) }
 {}
 
-/// What the ids of a message answer makes a difference only if its header ends before the message is over. So whatever a
-/// correspondent answers, two readings of a stream whose answers agree with it have one text: each goes on from answers
-/// by which the octets before were read, and both agree at each header that ends.
+/// What the ids of a message answer makes a difference only if the message's header ends before the message is over. So
+/// whatever a correspondent answers, two readings of a stream have the same text if the answers of both agree with it. Each
+/// reading goes on from answers by which the octets before were read, and both agree at each header that ends.
 pub fn answers_at_headers<Q: Correspondent>()
     ensures text { (C : Table) (a b : Answers) (n : ℕ) (p : List ℕ) → AgreeAtHeaders C n p a b →
         text (rules_by C a n) p ≡ text (rules_by C b n) p }
     ensures state { (C : Table) (a b : Answers) (n : ℕ) (p : List ℕ) → AgreeAtHeaders C n p a b →
         state_of (rules_by C a n) p ≡ state_of (rules_by C b n) p }
-    // Answers that agree for each message whose header has ended agree there,
+    // Answers that agree for each message whose header has ended agree at the headers.
     ensures agree { (C : Table) (a b : Answers) (n : ℕ) (p : List ℕ) → AnswersAgree n p a b →
         AgreeAtHeaders C n p a b }
-    // and so do those that agree with one correspondent, once more octets have come.
+    // Answers that agree at the headers, and both agree with one correspondent, agree at the headers after more octets have
+    // come.
     ensures one { (C : Table) (a b : Answers) (n : ℕ) (p q : List ℕ) (st : Q.State) →
         AgreeAtHeaders C n p a b →
         AgreesAtEnds Q.answer Q.notified C st a (header_ends_from (rules_by C a n) p q) →

@@ -1,4 +1,4 @@
-//! Streams of GIOP messages, joined from their fragments: octets in, lines out.
+//! Streams of GIOP messages, joined from their fragments: it reads octets, and writes lines.
 #![tactic(auto)]
 
 mod current;

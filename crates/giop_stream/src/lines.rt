@@ -1,4 +1,4 @@
-//! Writes the lines of framing: starts of messages, their framing faults, stream faults (docs/FORMATS.md, Lines).
+//! Writes the lines of framing: the starts of messages, their framing faults, and stream faults (docs/FORMATS.md, Lines).
 
 ghost use Rattle.std.specs.Prelude.{◌≡◌, length};
 ghost use Rattle.giop_print.specs.Output.{Writes};
@@ -22,7 +22,7 @@ fn stream_word(fault: StreamFault) -> &'static str
     }
 }
 
-/// The start line of a message.
+/// Writes the start line of a message.
 #[tactic(auto, unfolding(crate::specs::Text::start_line))]
 #[inline(always)]
 pub fn start_line<O: Out>(out: &mut O, number: u64, header: &[u8]) -> Result<(), OutFault>
@@ -39,7 +39,7 @@ pub fn start_line<O: Out>(out: &mut O, number: u64, header: &[u8]) -> Result<(),
     giop_print::start_line(out, number, header)
 }
 
-/// The word of a fault that framing gives a message.
+/// The word of a fault that framing gives to a message.
 fn framing_fault_word(fault: FramingFault) -> &'static str
     ensures { result.now ≡ framing_fault_word fault }
 {
@@ -54,7 +54,7 @@ fn framing_fault_word(fault: FramingFault) -> &'static str
     }
 }
 
-/// The line of a framing fault of a message, at a place.
+/// Writes the line of a message's framing fault, at a place.
 pub fn framing_fault_line<O: Out>(
     out: &mut O,
     number: u64,
@@ -67,7 +67,7 @@ pub fn framing_fault_line<O: Out>(
     giop_print::fault_line(out, number, framing_fault_word(fault), place)
 }
 
-/// The line of a stream fault, at a place.
+/// Writes the line of a stream fault, at a place.
 pub fn stream_fault_line<O: Out>(
     out: &mut O,
     fault: StreamFault,
@@ -78,7 +78,7 @@ pub fn stream_fault_line<O: Out>(
     giop_print::stream_fault_line(out, stream_word(fault), place)
 }
 
-/// The line of a stream that ends inside a message or a header.
+/// Writes the line of a stream that ends inside a message or a header.
 pub fn truncated_line<O: Out>(out: &mut O, place: u64) -> Result<(), OutFault>
     ensures { Writes result (O.log out.old) (O.log out.new) (truncated_line place) }
 {

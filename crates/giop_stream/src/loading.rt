@@ -1,4 +1,5 @@
-//! Reads the checkpoint of an engine: its fixed part and its records, each checked (docs/FORMATS.md, Checkpoints).
+//! Reads the checkpoint of an engine: its fixed part and its records. Each of them is checked (docs/FORMATS.md,
+//! Checkpoints).
 
 ghost use Rattle.std.specs.Prelude.{◌≡◌, ℕ, List, ◌+◌, ◌<◌, ◌≤◌, ◌^◌, ◌*◌, length, drop, true, false, Option, Some, None, IfOk, IfErr, IfSome, IsSome, IsSomeAnd, [], ◌∷◌, ◌++◌, flat_map, replicate};
 ghost use Rattle.giop_sig.specs.Table.{Table};
@@ -33,7 +34,7 @@ use giop_message::Message;
 use giop_sig::{Catalogue, Requests};
 use std::alloc::Global;
 
-/// The state of a stream, from its checkpoint.
+/// The state of a stream, read from its checkpoint.
 pub fn read(
     alloc: Global,
     catalogue: &Catalogue,
@@ -65,7 +66,7 @@ pub fn read(
     }
 }
 
-/// The state that these fields and records give, where a stream can have it.
+/// The state that these fields and records give, if a stream can have it.
 fn framing_of(catalogue: &Catalogue, fixed: Fixed, records: &[u8], slots: Slots) -> Option<Framing>
     requires octets { fixed.octets ≤ 2 ^ 48 + 1 }
     requires open { (1 ≤ fixed.most_open) × (fixed.most_open ≤ most_open) }
@@ -105,7 +106,7 @@ fn framing_of(catalogue: &Catalogue, fixed: Fixed, records: &[u8], slots: Slots)
     })
 }
 
-/// Whether a stream can have these totals, with this stream fault and so many header octets held.
+/// Whether a stream can have these totals, with this stream fault and this number of header octets held.
 fn may_be(totals: Totals, stopped: Option<StreamFault>, held: usize) -> bool
     requires { totals.octets ≤ 2 ^ 48 + 1 }
     ensures running { result ≡ true → stopped ≡ None → totals.octets ≤ 2 ^ 48 }
@@ -121,7 +122,7 @@ fn may_be(totals: Totals, stopped: Option<StreamFault>, held: usize) -> bool
         && (stopped.is_some() || totals.octets <= 1 << 48)
 }
 
-/// The stream fault, where the stream has stopped.
+/// The stream fault, if the stream has stopped.
 fn stop_of(place: &Place) -> Option<StreamFault>
     ensures { result ≡ stop_in place.now }
 {
@@ -131,7 +132,7 @@ fn stop_of(place: &Place) -> Option<StreamFault>
     }
 }
 
-/// The header octets read so far, and how many payload octets were read.
+/// The octets of a header that were read until now, and how many octets of the payload were read.
 fn header_of(place: Place) -> (ArrayVec<u8, 12>, u32)
     ensures header { result.0.items ≡ header_in place }
     ensures payload_count { result.1 ≡ payload_count_in place }
@@ -158,8 +159,8 @@ fn held_of(octets: &[u8]) -> ArrayVec<u8, 12>
     held
 }
 
-/// Makes the message of this record the owner of the payload, where it is an open one; else the current message stays it,
-/// where there is one.
+/// Makes the message of this record the owner of the payload, if it is an open one. Else the current message stays the
+/// owner, if there is one.
 fn set_owner(slots: &mut Slots, owner: Option<u32>)
     ensures owner { slots.new.owner ≡ owner_by owner (length slots.old.slots.entries)
         slots.old.owner }
@@ -173,7 +174,7 @@ fn set_owner(slots: &mut Slots, owner: Option<u32>)
     }
 }
 
-/// Adds the messages of so many records; returns whether each is in its range.
+/// Adds the messages of this number of records. Returns whether each of them is in its range.
 fn add_all(
     slots: &mut Slots,
     catalogue: &Catalogue,
@@ -203,8 +204,8 @@ fn add_all(
     true
 }
 
-/// Adds the message of the first of these records, where it is in its range, and returns the records after it. None is
-/// added after that of the current message.
+/// Adds the message of the first of these records, if it is in its range, and returns the records after it. After the
+/// record of the current message none is added.
 fn add_first<'a>(
     slots: &mut Slots,
     catalogue: &Catalogue,
@@ -238,7 +239,7 @@ fn add_first<'a>(
     Some(first.rest)
 }
 
-/// Adds the message of a record; returns whether it is in its range.
+/// Adds the message of a record. Returns whether it is in its range.
 fn add(slots: &mut Slots, catalogue: &Catalogue, octets: u64, first: &FirstRecord<'_>) -> bool
     requires range { octets ≤ 2 ^ 48 + 1 }
     requires ready { AreReady catalogue.now (octets + 1) slots.old }
@@ -319,7 +320,7 @@ fn add_over(slots: &mut Slots, first: &FirstRecord<'_>, id: u32) -> bool
     is_zero(first) && push(slots, first, id, None)
 }
 
-/// Adds an open message, where there is room for it.
+/// Adds an open message, if there is room for it. Returns whether there is.
 fn push(slots: &mut Slots, first: &FirstRecord<'_>, id: u32, message: Option<Message>) -> bool
     ensures ready { (C : Table) (n : ℕ) → AreReady C n slots.old → IsReady C n message →
         AreReady C n slots.new }
@@ -340,7 +341,7 @@ fn push(slots: &mut Slots, first: &FirstRecord<'_>, id: u32, message: Option<Mes
     true
 }
 
-/// The message that a record stores, where its fields are valid and it has no more octets than the stream.
+/// The message that a record stores, if its fields are valid and it has no more octets than the stream.
 fn message_of(catalogue: &Catalogue, octets: u64, first: &FirstRecord<'_>) -> Option<Message>
     ensures ready { IsReady catalogue.now (octets + 1) result }
     ensures again { (m : CodeMessage) (l : Answers) (n : ℕ) (h xs : List ℕ) →
@@ -365,7 +366,7 @@ fn message_of(catalogue: &Catalogue, octets: u64, first: &FirstRecord<'_>) -> Op
     }
 }
 
-/// Whether a record stores nothing of its message: no frames, and zeros.
+/// Whether a record stores nothing of its message: it has no frames, and only zeros.
 fn is_zero(first: &FirstRecord<'_>) -> bool
     ensures { first.now.frames.now ≡ [] → first.now.message ≡ replicate 224 0 → result ≡ true }
 {

@@ -1,4 +1,5 @@
-//! What is done to one message that has begun and not ended; it is `None` once it is over (faulted or ended).
+//! What is done to a single message that has begun and not ended. It is `None` after it is over, which means faulted or
+//! ended.
 
 ghost use Rattle.std.specs.Prelude.{◌≡◌, ◌+◌, ◌<◌, ◌≤◌, ◌^◌, ℕ, List, length, take, true, Option, None, OnOk, IfOk, if◌then◌else◌};
 ghost use Rattle.giop_sig.specs.Table.{Table};
@@ -20,15 +21,17 @@ use giop_message::{Correspondent, Message, kind_of};
 use giop_print::{Out, OutFault};
 use giop_sig::Catalogue;
 
-/// Drops a message that is over. It is a function of its own, so that what runs at every octet needs no stack for it.
+/// Drops a message that is over. This is a function of its own, so that the code that runs at every octet needs no stack
+/// for it.
 fn forget(message: &mut Option<Message>)
     ensures { message.new ≡ None }
 {
     *message = None;
 }
 
-/// Feeds octets to a message, after n octets of the stream, up to the first one after which the correspondent is due: to
-/// one that is over, or that one of them faults, all. Answers how many, and whether one faults it.
+/// Feeds octets to a message, after `before` octets of the stream, up to the first one after which the correspondent is
+/// due. If the message is over, or one of the octets faults it, all octets are taken. Returns how many were taken, and
+/// whether one of them faults the message.
 pub fn take_octets<O: Out, Q: Correspondent>(
     message: &mut Option<Message>,
     catalogue: &Catalogue,
@@ -72,7 +75,7 @@ pub fn take_octets<O: Out, Q: Correspondent>(
     Ok((octets.len(), true))
 }
 
-/// Faults a message of this number, unless it is over; returns whether it does.
+/// Faults a message of this number, unless it is over. Returns whether it does.
 pub fn fault_message<O: Out>(
     message: &mut Option<Message>,
     number: u64,
@@ -94,7 +97,7 @@ pub fn fault_message<O: Out>(
     Ok(true)
 }
 
-/// Closes a message, unless it is over; returns whether that faults it.
+/// Closes a message, unless it is over. Returns whether that faults it.
 pub fn close_message<O: Out>(
     message: &Option<Message>,
     catalogue: &Catalogue,

@@ -1,4 +1,4 @@
-//! Takes a piece of a stream in runs: octets that only add to a header, or only to the contents of a message.
+//! Takes a piece of a stream in runs of octets. A run only adds to a header, or only to the contents of a message.
 
 ghost use Rattle.std.specs.Prelude.{◌≡◌, ◌+◌, ◌*◌, ◌++◌, ◌^◌, ◌≤◌, ◌<◌, ℕ, List, length, take, [], true, false, None, OnOk, IfOk, IfSome, nat_lt, ◌&&◌, ◌||◌, if◌then◌else◌};
 
@@ -30,7 +30,8 @@ impl Framing {
     ghost use Rattle.giop_stream.specs.ViewOfState.{Shows, IsReached, Does};
     ghost use Rattle.giop_message.specs.MessageState.{AreKnown};
 
-    /// How many of the next octets are of the payload, up to its fourth, where a request id may end, or to its last.
+    /// How many of the next octets are of the payload, up to its fourth one, where a request id may end, or to its last
+    /// one.
     fn payload_run(&self, room: usize) -> usize
         ensures within { result ≤ room }
         ensures full { 0 < result → length self.now.header.items ≡ 12 }
@@ -50,7 +51,7 @@ impl Framing {
             .min(unread as usize)
     }
 
-    /// How many of these octets only add to a header: they are right, and none is its last.
+    /// How many of these octets only add to a header: they are right, and none of them is the header's last one.
     fn header_run(&self, octets: &[u8]) -> usize
         ensures within { result ≤ length octets.now }
         ensures before_last { 0 < result → length self.now.header.items + result < 12 }
@@ -105,7 +106,8 @@ impl Framing {
         self.header.try_extend_from_slice(octets).unwrap();
     }
 
-    /// The open message that these octets continue, unless the reading stops where their message begins.
+    /// The open message that these octets continue. There is none if the correspondent awaits messages, since the reading
+    /// must stop then at the start of the Fragment.
     fn continuation_for<Q: Correspondent>(
         &self,
         correspondent: &Q,
@@ -124,9 +126,9 @@ impl Framing {
         self.continuation(octets)
     }
 
-    /// Takes the first of the next octets, of which there is one at least: those that only add to a header, the end of a
-    /// Fragment's header with its request id, those that are of one message's payload up to the first one after which the
-    /// correspondent is due, or one. Answers how many it took.
+    /// Takes the first of the next octets. There is at least one. It takes those that only add to a header; or the end of a
+    /// Fragment's header with its request id; or those of one message's payload, up to the first one after which the
+    /// correspondent is due; or a single octet. Returns how many it took.
     #[inline]
     fn take_some<O: Out, Q: Correspondent>(
         &mut self,
@@ -186,7 +188,7 @@ impl Framing {
         Ok(1)
     }
 
-    /// Whether the correspondent is due, by itself or since messages have begun after so many.
+    /// Whether the correspondent is due, either by itself or because more than `begun` messages have begun.
     #[inline]
     fn is_due<Q: Correspondent>(&self, correspondent: &Q, begun: u64) -> bool
         ensures { result ≡ (Q.due (Q.state correspondent.now)
@@ -195,8 +197,8 @@ impl Framing {
         correspondent.is_due() || (correspondent.awaits_messages() && begun < self.totals.messages)
     }
 
-    /// Takes the octets of a piece, in runs where that is possible, up to the first one after which the correspondent is
-    /// due. Answers how many it took.
+    /// Takes the octets of a piece, in runs if that is possible, up to the first one after which the correspondent is due.
+    /// Returns how many it took.
     pub fn steps<O: Out, Q: Correspondent>(
         &mut self,
         catalogue: &Catalogue,
@@ -259,8 +261,8 @@ impl Framing {
     }
 }
 
-/// How many of the next octets of a payload, after so many others, come up to the last one of its request id: all of them
-/// where the request id is complete.
+/// How many of the next octets of a payload come up to the last one of its request id, after `payload_count` octets of it.
+/// If the request id is complete, it is all of them.
 fn up_to_id(payload_count: u32, room: usize) -> usize
     ensures within { result ≤ room }
     ensures apart { payload_count < 4 → payload_count + result ≤ 4 }

@@ -1,4 +1,4 @@
-//! Writes the checkpoint of an engine: the fixed part, a record of each open message, and one of the current message
+//! Writes the checkpoint of an engine: the fixed part, a record for each open message, and a record for the current message
 //! (docs/FORMATS.md, Checkpoints).
 
 ghost use Rattle.std.specs.Prelude.{◌≡◌, ℕ, List, ◌+◌, ◌*◌, ◌^◌, ◌<◌, ◌≤◌, ◌++◌, length, IfOk};
@@ -24,7 +24,7 @@ use giop_octets::{put_octets, put_zeros};
 use giop_print::{Out, OutFault, put_all};
 use giop_sig::{Catalogue, Requests};
 
-/// Writes the checkpoint of a stream that was read by this catalogue and this list; returns how many octets it has.
+/// Writes the checkpoint of a stream that was read by this catalogue and this list. Returns how many octets it has.
 #[tactic(auto, using(crate::proofs::Restored::Saved::written_fixed))]
 pub fn write<O: Out>(
     framing: &Framing,
@@ -53,7 +53,7 @@ pub fn write<O: Out>(
     put_next(written, record.as_slice(), out)
 }
 
-/// Puts octets after those that were written, unless a put failed; returns how many there are then.
+/// Puts octets after those that were written, unless a put has failed. Returns how many octets were written then.
 fn put_next<O: Out>(
     written: Result<u64, OutFault>,
     octets: &[u8],
@@ -71,7 +71,7 @@ fn put_next<O: Out>(
     Ok(count + octets.len() as u64)
 }
 
-/// The fixed part.
+/// The fixed part of a checkpoint.
 #[tactic(auto, unfolding(crate::specs::Checkpoint::fixed_of))]
 fn fixed_part(framing: &Framing, catalogue: &Catalogue, requests: &Requests) -> Fixed
     ensures { result ≡ fixed_of catalogue.now requests.now (framing_view framing.now) }
@@ -88,7 +88,8 @@ fn fixed_part(framing: &Framing, catalogue: &Catalogue, requests: &Requests) -> 
     }
 }
 
-/// The version of the catalogue, and how many types, operations, exceptions and request ids it and the list have.
+/// The version of the catalogue, and the numbers of types, operations, exceptions and request ids of the catalogue and the
+/// list.
 #[tactic(auto, unfolding(crate::specs::Checkpoint::counts_of))]
 pub fn counts_of(catalogue: &Catalogue, requests: &Requests) -> Counts
     ensures { result ≡ counts_of catalogue.now requests.now }
@@ -103,7 +104,7 @@ pub fn counts_of(catalogue: &Catalogue, requests: &Requests) -> Counts
     }
 }
 
-/// How many records there are.
+/// The number of records.
 fn records_of(slots: &Slots) -> u32
     requires { slots.now.slots.most ≤ most_open }
     ensures { result ≡ length slots.now.slots.entries + count_own (current_of slots.now.owner) }
@@ -111,7 +112,7 @@ fn records_of(slots: &Slots) -> u32
     slots.slots.len() as u32 + u32::from(slots.current().is_some())
 }
 
-/// Where the next octet is: in a header, in a payload, or after a stream fault.
+/// The place of the next octet: in a header, in a payload, or after a stream fault.
 fn place_of(framing: &Framing) -> Place
     ensures { result ≡ place_of framing.now.stopped framing.now.header.items
         framing.now.payload_count }
@@ -130,7 +131,7 @@ fn place_of(framing: &Framing) -> Place
     }
 }
 
-/// The header octets that are held.
+/// The octets of a header that are held.
 fn held(octets: &[u8]) -> ArrayVec<u8, 11>
     requires { length octets.now < 12 }
     ensures { result.items ≡ octets.now }
@@ -142,7 +143,7 @@ fn held(octets: &[u8]) -> ArrayVec<u8, 11>
     held
 }
 
-/// The record of the message that the payload belongs to.
+/// The index of the record of the message that the payload belongs to.
 fn owner_of(slots: &Slots) -> Option<u32>
     requires { slots.now.slots.most ≤ most_open }
     ensures { result ≡ owner_of (index_of slots.now.owner) (current_of slots.now.owner)
@@ -156,7 +157,7 @@ fn owner_of(slots: &Slots) -> Option<u32>
     }
 }
 
-/// Writes the records of the open messages after what was written. Each is composed by itself, also after a failed put.
+/// Writes the records of the open messages after what was written. Each record is composed, even after a failed put.
 fn write_open<O: Out>(
     slots: &Slots,
     begun: Result<u64, OutFault>,

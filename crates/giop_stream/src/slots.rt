@@ -18,7 +18,7 @@ use giop_print::{Out, OutFault, cancelled_line, unfinished_line};
 use giop_sig::Catalogue;
 use std::alloc::{AllocError, Global};
 
-/// How many messages may be open at once, at most.
+/// The greatest number of messages that may be open at once.
 pub const MOST_OPEN: u32 = 4_096;
 
 /// An open message, kept under its request id.
@@ -33,15 +33,15 @@ pub struct Slot {
 /// The message that the payload's octets belong to.
 #[derive(Drop)]
 pub enum PayloadOwner {
-    /// The current message itself, which isn't open, or None once it is faulted; and whether it is over: then the next
-    /// one begins in its place.
+    /// The current message itself, which isn't open, or None after it was faulted. The second field tells whether it is
+    /// over; then the next message begins in its place.
     Current(Option<Message>, bool),
-    /// The open message at this index; None where the octets belong to no message.
+    /// The open message at this index, or None if the octets belong to no message.
     Open(Option<usize>),
 }
 
 impl PayloadOwner {
-    /// The current message, unless it is open or over; it is kept no longer.
+    /// Takes the current message away, unless it is open or over.
     fn take_current(&mut self) -> Option<Message>
         ensures { result ≡ current_of self.old }
     {
@@ -77,7 +77,7 @@ impl Slots {
     ghost use Rattle.giop_message.specs.HeaderEnds.{AgreesAtEnds, after_ends};
     ghost use Rattle.giop_message.specs.DueOctets.{TakesFront, StaysUndue};
 
-    /// No message, where so many may be open.
+    /// Makes slots without a message, for this number of open messages.
     pub fn new(alloc: Global, most: usize) -> Result<Slots, AllocError>
         requires { most ≤ most_open }
         ensures most { IfOk result (λ slots. slots.slots.most ≡ most) }
@@ -135,7 +135,7 @@ impl Slots {
         }
     }
 
-    /// The lines of the open messages that have neither ended nor been faulted, by number.
+    /// Writes the lines of the open messages that have neither ended nor been faulted, in the order of their numbers.
     pub fn unfinished<O: Out>(&self, out: &mut O) -> Result<(), OutFault>
         ensures { (C : Table) (l : Answers) (slots : List Held) →
             AreSlots C l self.now.slots.entries slots →
@@ -151,8 +151,8 @@ impl Slots {
         Ok(())
     }
 
-    /// Feeds octets of the payload, after n octets of the stream, to their owner, up to the first one after which the
-    /// correspondent is due. Answers how many it took, and whether one of them faults it.
+    /// Feeds octets of the payload to their owner, after `before` octets of the stream, up to the first one after which the
+    /// correspondent is due. Returns how many it took, and whether one of them faults the owner.
     pub fn take<O: Out, Q: Correspondent>(
         &mut self,
         catalogue: &Catalogue,
@@ -214,7 +214,7 @@ impl Slots {
         }
     }
 
-    /// Faults the owner of the payload, unless it is over; returns whether it does.
+    /// Faults the owner of the payload, unless it is over. Returns whether it does.
     pub fn fault_message<O: Out>(
         &mut self,
         number: u64,
@@ -243,7 +243,7 @@ impl Slots {
         }
     }
 
-    /// Closes the owner of the payload, unless it is over; returns whether that faults it.
+    /// Closes the owner of the payload, unless it is over. Returns whether that faults it.
     pub fn close<O: Out>(
         &mut self,
         catalogue: &Catalogue,
@@ -269,8 +269,8 @@ impl Slots {
         }
     }
 
-    /// The same where the owner isn't the current message. It is a function of its own, so that what runs at the end of every
-    /// message needs no stack for an open one.
+    /// Closes the owner of the payload if it isn't the current message. This is a function of its own, so that the code
+    /// that runs at the end of every message needs no stack for an open one.
     #[inline(never)]
     fn close_open<O: Out>(
         &mut self,
@@ -326,7 +326,7 @@ impl Slots {
         self.slots.add(id, slot);
     }
 
-    /// From now on the payload belongs to the open message at this index.
+    /// Makes the open message at this index the owner of the payload.
     pub fn set_open_owner(&mut self, k: usize)
         ensures kept { (C : Table) (l : Answers) (c : Tracked) (owner_of_next : Option MessageKey)
             (o : Open) →
@@ -337,7 +337,7 @@ impl Slots {
         self.owner = PayloadOwner::Open(Some(k));
     }
 
-    /// From now on the payload belongs to no message.
+    /// Notes that the payload belongs to no message from now on.
     pub fn set_no_owner(&mut self)
         ensures kept { (C : Table) (l : Answers) (c : Tracked) (owner_of_next : Option MessageKey) →
             SlotsRepresent C l self.old c owner_of_next → SlotsRepresent C l self.new c None }
@@ -349,7 +349,7 @@ impl Slots {
         }
     }
 
-    /// A message begins: it is the current one, and not open.
+    /// Begins a message. It is the current one, and isn't open.
     pub fn begin(&mut self, catalogue: &Catalogue, number: u64, header: [u8; 12])
         ensures kept { (l : Answers) (c : Tracked) (owner_of_next : Option MessageKey)
             (w : MessageKey) →
@@ -376,7 +376,7 @@ impl Slots {
         }
     }
 
-    /// The request id of the current message, once its own octets have completed it.
+    /// The request id of the current message, after the message's own octets have completed it.
     pub fn request_id(&self) -> u32
         ensures { (C : Table) (l : Answers) (w : MessageKey) (xs : List ℕ) (i : ℕ) →
             RepresentsMessage C l (current_of self.now.owner) w (Some xs) →
@@ -397,7 +397,7 @@ impl Slots {
         self.slots.find(id)
     }
 
-    /// Closes the open message at this index, which the message of this number cancels.
+    /// Closes the open message at this index. The message with the number `by` cancels it.
     pub fn cancel<O: Out>(
         &mut self,
         k: usize,

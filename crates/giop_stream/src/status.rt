@@ -1,4 +1,4 @@
-//! What an engine reports of its stream: its status and its totals, and what it read of a piece.
+//! What an engine reports about its stream: its status and its totals, and what it read of a piece.
 
 use crate::fault::StreamFault;
 
@@ -10,8 +10,8 @@ pub enum Status {
     Stopped(StreamFault),
 }
 
-/// What was read so far: the messages with a complete header, the faults of messages and of the stream, and the octets,
-/// that of a stream fault included.
+/// What was read until now: the messages with a complete header, the faults of messages and of the stream, and the octets,
+/// with the octet of a stream fault.
 #[derive(Clone, Copy, Debug, PartialEq, Eq)]
 pub struct Totals {
     pub messages: u64,
@@ -24,7 +24,8 @@ pub struct Totals {
 pub struct Fed {
     /// How many of its octets were read.
     pub count: usize,
-    /// The number of the last message that begins in them, from 1: its header of 12 octets is complete.
+    /// The number of the last message that begins in these octets, from 1: the message's header of 12 octets becomes
+    /// complete in them.
     pub begun: Option<u64>,
     /// Whether the stream has a fault.
     pub status: Status,

@@ -1,4 +1,4 @@
--- Digits, and the number that they spell.
+-- Digits, and the number that they are.
 use Rattle.std.proofs.Common.{◌≡◌, ℕ, zero, suc, ◌-◌, ◌^◌, ◌<◌, ◌≤◌, Bool, true, false, cond, List, [], ◌∷◌, length, get_or, take, refl, sym, ap, subst, ◌∙◌, arith}
 use Rattle.std.proofs.Math.Nat.{pow-le-pow_right}
 use Rattle.std.specs.Prelude.{◌&&◌, ◌||◌, not, ◌==◌, Some, None, decimal, slice_index}
@@ -22,7 +22,7 @@ digit_is b e = search (arith, digit_bounds, digit_value_digit)
 pub digit_small : (b : ℕ) → is_digit b ≡ true → digit_value b < 10
 digit_small b e = search (arith, digit_bounds, digit_is)
 
--- each of the octets passes
+-- if all octets are digits, each of them is one
 pub digit_at : (ds : List ℕ) (i : ℕ) → list_all is_digit ds ≡ true → i < length ds →
     is_digit (get_or ds i 0) ≡ true
 digit_at [] i h lt = absurd (omega arith)
@@ -35,12 +35,12 @@ all_digits [] h = tt
 all_digits (d ∷ ds) h = let k = and_parts (is_digit d) (list_all is_digit ds) h in
     (digit_small d k.0, all_digits ds k.1)
 
--- the digits before the last of at most twenty
+-- the number of the first digits, without the last, of at most twenty
 pub value_small : (ds : List ℕ) (i : ℕ) → i < length ds → length ds ≤ 20 →
     AllDigits 10 (take i ds) → digits_value 10 (take i ds) < 10 ^ 19
 value_small ds i lt most h = search (arith, take, length-take, digits_value-lt, pow-le-pow_right)
 
--- ---- The number that a word is, and its decimal spelling.
+-- ---- The number that a word is, and how the number is written in decimal.
 
 some_is : (x y : ℕ) → Some x ≡ Some y → x ≡ y
 some_is x y e = cc
@@ -55,7 +55,7 @@ are_digits_from : (ds : List ℕ) → AllDigits 10 ds → list_all is_digit ds �
 are_digits_from [] h = refl
 are_digits_from (d ∷ ds) h = rw (is_digit_from d h.0, are_digits_from ds h.1) refl
 
--- the parts of the test
+-- the conditions under which a word is a number
 pub record IsNumber (w : List ℕ) : Type 0 where
   pub some : 1 ≤ length w
   pub few : length w ≤ 20
@@ -108,12 +108,12 @@ decimal_is_number n lt =
       value = omega (arith, k.1);
     }
 
--- a number is written in one way
+-- there is only one way to write a number
 pub number_is_decimal : (w : List ℕ) → IsNumber w → decimal (digits_value 10 w) ≡ w
 number_is_decimal w n = decimal-digits_value own w (all_digits w n.digits) n.some
     (leading_from (length w) (slice_index w 0) n.leading) n.value
 
--- the number of its spelling
+-- a number that is written in decimal is read again
 pub number_of_decimal : (n : ℕ) → n < 2 ^ 64 → number_of (decimal n) ≡ Some n
 number_of_decimal n lt = search (arith, number_true, decimal_is_number, decimal_value)
 
@@ -125,7 +125,7 @@ number_by w true n e h =
     let same : digits_value 10 w ≡ n = some_is (digits_value 10 w) n h in
     (k, sym (number_is_decimal w k) ∙ ap decimal same, subst (λ m. m < 2 ^ 64) same k.value)
 
--- a word that is a number is its decimal spelling
+-- a word that is a number is that number, written in decimal
 pub number_of_is : (w : List ℕ) (n : ℕ) → number_of w ≡ Some n → IsNumber w × (w ≡ decimal n)
     × (n < 2 ^ 64)
 number_of_is w n h = number_by w (is_number w) n refl h

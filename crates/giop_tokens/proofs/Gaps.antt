@@ -1,4 +1,4 @@
--- White space and comments, an octet at a time.
+-- White space and comments, octet by octet.
 use Rattle.std.proofs.Common.{◌≡◌, ℕ, zero, suc, ◌+◌, ◌-◌, ◌<◌, Bool, List, [], ◌∷◌, length, get_or, take, drop, refl, take_all, suc-add, arith}
 use Rattle.std.proofs.lemmas.List.{length-drop}
 use Rattle.giop_tokens.specs.Tokens.{gap, gap_step, or_stop}

@@ -1,4 +1,4 @@
--- A text in which tokens are written by the rules of layout has exactly these tokens.
+-- If tokens are written in a text by the rules of layout, the text has exactly these tokens.
 use Rattle.std.proofs.Common.{◌≡◌, ℕ, ◌<◌, ◌^◌, Bool, true, false, eqb, List, [], ◌∷◌, ◌++◌, inl, inr, length, map, Option, Some, None, Result, Ok, append_assoc, refl, arith}
 use Rattle.std.specs.Prelude.{decimal, slice_index}
 use Rattle.std.specs.List.{AllByRecursion, prefix_len}
@@ -85,7 +85,7 @@ Lexed = Result (Option Token × List ℕ) Refusal
 abbrev lexed : Token → List ℕ → Lexed
 lexed t bs = Ok (Some t, bs)
 
--- a text that begins with a word octet
+-- the token of a text that begins with a word octet
 first_word : (b : ℕ) (w after : List ℕ) (t : Token) →
     AllByRecursion (λ b. is_word b ≡ true) (b ∷ w) → is_word (slice_index after 0) ≡ false →
     word_token (b ∷ w) ≡ Some t → first (b ∷ (w ++ after)) ≡ lexed t after
@@ -124,7 +124,7 @@ unfolding first mark_of
 first_mark marks.OpenBrace after = refl
 first_mark _ after = refl
 
--- a text that begins with a run of word octets
+-- the token of a text that begins with a run of word octets
 first_run : (w after : List ℕ) (t : Token) → 0 < length w →
     AllByRecursion (λ b. is_word b ≡ true) w → is_word (slice_index after 0) ≡ false →
     word_token w ≡ Some t → first (w ++ after) ≡ lexed t after

@@ -1,5 +1,5 @@
--- The readers of one token, both ways: what they give of a text of known tokens, and which tokens a
--- text that they read has.
+-- The readers of one token, in both directions: what they read from a text whose tokens are known,
+-- and which tokens a text has, if they read it.
 use Rattle.std.proofs.Common.{arith, ◌≡◌, ℕ, ◌≤◌, ◌<◌, Bool, true, false, cond, eqb, ltb, List, [], ◌∷◌, length, Option, Some, None, Result, Ok, Err, refl, ap}
 use Rattle.std.specs.Prelude.{option_and_then}
 use Rattle.std.specs.Str.{bytes_eq}
@@ -155,7 +155,7 @@ operation_name_long text w ts h long = let k : ltb 128 (length w) ≡ true =
 
 -- ---- What a reader took is the text's first token.
 
--- the text is this token, and then what the rest is
+-- the text is this token, and then the tokens of the rest
 abbrev pub Takes : List ℕ → Token → List ℕ → Type 0
 Takes text t rest = (ts : List Token) → AreTokens rest ts → AreTokens text (t ∷ ts)
 
@@ -177,7 +177,7 @@ wanted_by : {X : Type 0} (tells : Token → Option X) (text : List ℕ) (t : Opt
 wanted_by tells text None rest x n e = absurd cc
 wanted_by tells text (Some t) rest x n e = search (arith, told_by)
 
--- what is read follows from the first token
+-- the value that a reader gives is the value of the first token
 pub as_takes : {X : Type 0} (tells : Token → Option X) (text : List ℕ) (x : X × List ℕ) →
     next_as tells text ≡ Ok x → (t : Token) × (tells t ≡ Some x.0) × (next text ≡ Ok (Some t, x.1))
 unfolding next_as
@@ -239,7 +239,7 @@ keyword_told : (w : List ℕ) (t : Token) → is_the_word w t ≡ true → t ≡
 keyword_told w (word v) e = search (arith, bytes_eq-Decides)
 keyword_told w _ e = absurd cc
 
--- the first token, where it is known to be another
+-- the first token, if it is known to be equal to another one
 first_is : (text : List ℕ) (s t : Token) (rest : List ℕ) → next text ≡ Ok (Some s, rest) → s ≡ t →
     next text ≡ Ok (Some t, rest)
 first_is text s t rest n e = search (arith)
@@ -272,7 +272,7 @@ pub keyword_if_next : (w text rest : List ℕ) → keyword_if w text ≡ Ok (Som
     next text ≡ Ok (Some (word w), rest)
 keyword_if_next w text rest e = search (arith, if_takes, first_is, keyword_told)
 
--- the text has the token that was read, and then what the rest has
+-- the tokens of the text are the one that was read, and then those of the rest
 pub word_takes : (text : List ℕ) (x : List ℕ × List ℕ) → word_at text ≡ Ok x →
     Takes text (word x.0) x.1
 word_takes text x e = search (arith, next_takes, word_next)
@@ -300,13 +300,13 @@ pub keyword_if_takes : (w text rest : List ℕ) → keyword_if w text ≡ Ok (So
     Takes text (word w) rest
 keyword_if_takes w text rest e = search (arith, next_takes, keyword_if_next)
 
--- a repository id that was read is not too long, since a longer one is no token
+-- a repository id that was read isn't too long, because a longer one is no token
 pub repository_few : (text : List ℕ) (x : List ℕ × List ℕ) → repository_at text ≡ Ok x →
     length x.0 ≤ 128
 repository_few text x e = (next_first text (repository x.0) x.1
     (repository_next text x e)).token.few
 
--- a name that was read: a word that isn't reserved and is not too long
+-- a name that was read is a word that isn't reserved and isn't too long
 name_by : (third : Bool) (text : List ℕ) (w x : List ℕ × List ℕ) (b c : Bool)
     → is_reserved third w.0 ≡ b → ltb 64 (length w.0) ≡ c → word_at text ≡ Ok w
     → cond b (Err (misplaced text)) (cond c (Err (too_long text)) (done (w.0, w.1))) ≡ Ok x →

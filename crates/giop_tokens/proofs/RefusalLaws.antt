@@ -1,4 +1,5 @@
--- The place where a text goes on with no token, and that such a text has no list of tokens.
+-- The place at which a text goes on with something that is no token. Such a text has no list of
+-- tokens.
 use Rattle.std.proofs.Common.{arith, ◌≡◌, ℕ, Bool, true, false, cond, eqb, List, [], ◌∷◌, length, drop, Option, Some, None, Result, Ok, Err}
 use Rattle.std.specs.Prelude.{option_map}
 use Rattle.giop_tokens.specs.declared.fault.Refusal.{Refusal}
@@ -13,7 +14,7 @@ failed e = Err e
 err_is : {A : Type 0} (d e : Refusal) → failed {A = A} d ≡ failed e → d ≡ e
 err_is d e h = cc
 
--- reading does not both give and refuse
+-- reading doesn't both give something and refuse
 not_both : {A : Type 0} (x : A) (e : Refusal) → Ok x ≡ failed e → ⊥
 not_both x e h = cc
 
@@ -40,12 +41,12 @@ unfolding first
 first_refused [] r e = search (arith, not_both)
 first_refused (b ∷ bs) r e = search (arith, first_refused_by, eqb)
 
--- where no token is found, the refusal is Token at that place
+-- if no token is found, the refusal is Token at that place
 pub next_refused : (text : List ℕ) (r : Refusal) → next text ≡ Err r → r ≡ no_token text
 unfolding next
 next_refused text r e = search (arith, first_refused)
 
--- a text that goes on with no token has no list of tokens
+-- if a text goes on with something that is no token, it has no list of tokens
 pub no_tokens : (text : List ℕ) (r : Refusal) → next text ≡ Err r → (ts : List Token) →
     AreTokens text ts → ⊥
 no_tokens text r e [] h = search (arith, not_both)

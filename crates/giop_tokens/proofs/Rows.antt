@@ -1,4 +1,4 @@
--- Example texts, computed (docs/FORMATS.md, Signature file).
+-- Example texts, and their tokens by computation (docs/FORMATS.md, Signature file).
 use Rattle.std.proofs.Common.{◌≡◌, [], ◌∷◌, Some, Ok, Err, refl}
 use Rattle.std.specs.Prelude.{codes}
 use Rattle.giop_tokens.specs.declared.fault.SigFaultKind.TheVariants as kinds

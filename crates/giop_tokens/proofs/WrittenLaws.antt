@@ -1,4 +1,4 @@
--- The tokens of a text are written in it, with white space and comments between them.
+-- The tokens that are read of a text are written in it, with white space and comments between them.
 use Rattle.std.proofs.Common.{◌≡◌, ℕ, ◌<◌, ◌^◌, Bool, true, false, cond, eqb, List, [], ◌∷◌, ◌++◌, ◌⊎◌, inl, inr, length, drop, Option, Some, None, Result, Ok, append_assoc, refl, sym, ap, subst, ◌∙◌, arith}
 use Rattle.std.specs.Prelude.{nat_le, decimal, option_map, slice_index}
 use Rattle.std.specs.List.{AllByRecursion}
@@ -14,7 +14,7 @@ use Rattle.giop_tokens.specs.Layout.{IsId, IsToken, written, is_run, Space, whit
 
 -- ---- White space and comments before the first token.
 
--- spaces, and then the first token or the last comment
+-- white space and comments, and then the first token or the last comment
 pub record Split (text : List ℕ) : Type 0 where
   pub front : List Space
   pub tail : List ℕ
@@ -22,7 +22,7 @@ pub record Split (text : List ℕ) : Type 0 where
   pub parts : text ≡ spaces front ++ tail
   pub gaps : (gap false text ≡ tail) ⊎ ((gap false text ≡ []) × IsTail tail)
 
--- the end of a comment, and what follows it; or a comment up to the end of the text
+-- the end of a comment and what follows it, or a comment that goes on to the end of the text
 pub record Ends (text c rest : List ℕ) : Type 0 where
   pub parts : text ≡ c ++ 10 ∷ rest
   pub gaps : gap true text ≡ gap false rest
@@ -75,7 +75,7 @@ white_on b bs g w s = record {
 stop_here : (b : ℕ) (bs : List ℕ) → gap false (b ∷ bs) ≡ b ∷ bs → Split (b ∷ bs)
 stop_here b bs g = search (arith)
 
--- the second slash is the first octet of what the line holds
+-- a comment begins after two slashes
 slashes_by : (b : ℕ) (bs c : List ℕ) → eqb b 47 ≡ true → eqb (slice_index bs 0) 47 ≡ true →
     gap false (b ∷ bs) ≡ gap true bs → IsLine c
     → (((rest : List ℕ) × Ends bs c rest) ⊎ ((bs ≡ c) × (gap true bs ≡ []))) → Split (b ∷ bs)
@@ -135,7 +135,7 @@ split text = (split_from text).0
 
 -- ---- A token that was read is written there.
 
--- the token's octets, and then what follows it
+-- the text is the token's octets, and then what follows it
 pub record Begins (text : List ℕ) (t : Token) (rest : List ℕ) : Type 0 where
   pub token : IsToken t
   pub parts : text ≡ written t ++ rest
@@ -190,7 +190,7 @@ ok_same x y e = cc
 lexed_same : (s t : Token) (front bs : List ℕ) → lexed s front ≡ lexed t bs → (s ≡ t) × (front ≡ bs)
 lexed_same s t front bs e = search (arith, ok_same, some_same)
 
--- the end of a text is no token
+-- the end of a text isn't read as a token
 no_end : (t : Token) (rest : List ℕ) → Ok (None, []) ≡ lexed t rest → ⊥
 no_end t rest e = search (arith, ok_same)
 
@@ -199,7 +199,7 @@ as_token_is : (text : List ℕ) (o : Option Token) (t : Token) (bs rest : List �
 as_token_is text None t bs rest e = absurd cc
 as_token_is text (Some s) t bs rest e = search (arith, lexed_same)
 
--- what a run of word octets is
+-- the token that a run of word octets is
 run_token : (w : List ℕ) (t : Token) (v : Bool) → 0 < length w →
     AllByRecursion (λ b. is_word b ≡ true) w → is_digit (slice_index w 0) ≡ v →
     word_token w ≡ Some t → IsToken t × (w ≡ written t)
@@ -252,7 +252,7 @@ begins_negative b bs rest t m e =
     begins_by (b ∷ bs) (45 ∷ run is_word bs) (past is_word bs) rest t h p k.1
     (λ u. past_ends is_word bs refl)
 
--- a list that begins with an octet other than 0
+-- a list whose first octet is a quotation mark is that mark and the rest
 head_is : (after : List ℕ) → slice_index after 0 ≡ 34 → after ≡ 34 ∷ drop 1 after
 head_is [] e = absurd (omega (arith, e))
 head_is (b ∷ bs) e = ap (λ (x : ℕ). x ∷ bs) e

@@ -3,10 +3,10 @@ use Rattle.giop_tokens.specs.declared.fault.SigFault.{SigFault}
 use Rattle.giop_tokens.specs.declared.fault.Refusal.{Refusal}
 use Rattle.giop_tokens.specs.declared.fault.SigFaultKind.TheVariants.{OutOfMemory}
 
--- memory was refused; it has no line
+-- memory was refused; this fault has no line
 abbrev pub no_memory : SigFault
 no_memory = record { line = 0; kind = OutOfMemory }
 
--- the refusal for memory, at the place 0
+-- the refusal if memory was refused, at place 0
 abbrev pub out_of_memory : Refusal
 out_of_memory = record { kind = OutOfMemory; left = 0 }

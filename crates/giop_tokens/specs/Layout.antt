@@ -25,7 +25,7 @@ IsToken (negative n) = (0 < n) × (n < 2 ^ 64)
 IsToken (repository r) = IsId r
 IsToken (mark m) = ⊤
 
--- its octets; a number is written as its decimal digits
+-- the octets of a token; a number is written as its decimal digits
 abbrev pub written : Token → List ℕ
 written (word w) = w
 written (number n) = decimal n
@@ -33,7 +33,7 @@ written (negative n) = 45 ∷ decimal n
 written (repository r) = 34 ∷ (r ++ 34 ∷ [])
 written (mark m) = octet_of m ∷ []
 
--- whether it ends in a longest run of word octets
+-- whether a token ends in a run of word octets
 abbrev pub is_run : Token → Bool
 is_run (word w) = true
 is_run (number n) = true
@@ -47,7 +47,7 @@ pub data Space : Type 0 where
   white : ℕ → Space
   comment : List ℕ → Space
 
--- octets of one line: no line feed among them
+-- octets of one line: none of them is a line feed
 abbrev pub IsLine : List ℕ → Type 0
 IsLine c = AllByRecursion (λ b. b ≢ 10) c
 
@@ -55,7 +55,7 @@ abbrev pub IsSpace : Space → Type 0
 IsSpace (white b) = is_white b ≡ true
 IsSpace (comment c) = IsLine c
 
--- its octets; a comment goes to the end of its line
+-- the octets of white space or a comment; a comment goes on to the end of its line
 abbrev pub space : Space → List ℕ
 space (white b) = b ∷ []
 space (comment c) = 47 ∷ 47 ∷ (c ++ 10 ∷ [])
@@ -64,13 +64,13 @@ abbrev pub spaces : List Space → List ℕ
 spaces [] = []
 spaces (s ∷ ss) = space s ++ spaces ss
 
--- the last comment of a text may lack the end of its line
+-- the last comment of a text may be without the end of its line
 abbrev pub IsTail : List ℕ → Type 0
 IsTail tail = (tail ≡ []) ⊎ ((c : List ℕ) × IsLine c × (tail ≡ 47 ∷ 47 ∷ c))
 
 -- ---- A text.
 
--- a token, and the white space and comments between it and the next
+-- a token, and the white space and comments between it and the next one
 pub record Laid : Type 0 where
   pub token : Token
   pub after : List Space
@@ -79,7 +79,7 @@ abbrev pub printed : List Laid → List ℕ → List ℕ
 printed [] tail = tail
 printed (l ∷ ls) tail = written l.token ++ (spaces l.after ++ printed ls tail)
 
--- No word octet follows a word or a number. So two of them have a space between them, and all else
+-- No word octet follows a word or a number. So there is something between two of them; other tokens
 -- may touch.
 abbrev pub AreLaid : List Laid → List ℕ → Type 0
 AreLaid [] tail = IsTail tail
@@ -87,7 +87,7 @@ AreLaid (l ∷ ls) tail = IsToken l.token × AllByRecursion IsSpace l.after
     × (is_run l.token ≡ true → is_word (slice_index (spaces l.after ++ printed ls tail) 0) ≡ false)
     × AreLaid ls tail
 
--- this token is the text's first, after white space and comments, and this follows it
+-- this token is the first one of the text, after white space and comments, and this text follows it
 pub record IsFirst (text : List ℕ) (t : Token) (rest : List ℕ) : Type 0 where
   pub front : List Space
   pub fronts : AllByRecursion IsSpace front
@@ -95,7 +95,7 @@ pub record IsFirst (text : List ℕ) (t : Token) (rest : List ℕ) : Type 0 wher
   pub apart : is_run t ≡ true → is_word (slice_index rest 0) ≡ false
   pub octets : text ≡ spaces front ++ (written t ++ rest)
 
--- the text is these tokens, as they may be written
+-- the text is these tokens, written as they may be written
 pub record IsLayout (text : List ℕ) (ts : List Token) : Type 0 where
   pub front : List Space
   pub laid : List Laid

@@ -5,12 +5,12 @@ use Rattle.giop_tokens.specs.declared.fault.SigFault.{SigFault}
 use Rattle.giop_tokens.specs.declared.fault.SigFaultKind.{SigFaultKind}
 use Rattle.giop_tokens.specs.declared.fault.SigFaultKind.TheVariants as kinds
 
--- The line, from 1, of the octet from which on so many are left; of the last octet where none is
--- left. A line feed belongs to the line that it ends.
+-- The line, from 1, of the octet with which the last `left` octets of the text begin, or of the
+-- last octet if `left` is 0. A line feed belongs to the line that it ends.
 abbrev pub line_at : List ℕ → ℕ → ℕ
 line_at text left = 1 + count_by (λ b. b == 10) (take (length text - max 1 left) text)
 
--- want of memory has no line
+-- a refusal of memory has no line, each other one has the line of its place
 abbrev pub line_by : SigFaultKind → ℕ → ℕ
 line_by kinds.OutOfMemory line = 0
 line_by kinds.Token line = line
@@ -22,6 +22,6 @@ line_by kinds.Depth line = line
 line_by kinds.Label line = line
 line_by kinds.Empty line = line
 
--- the fault that a caller gets of a refusal
+-- the fault that the caller gets for a refusal
 abbrev pub fault_of : List ℕ → Refusal → SigFault
 fault_of text r = record { line = line_by r.kind (line_at text r.left); kind = r.kind }

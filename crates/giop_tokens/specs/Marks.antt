@@ -1,9 +1,9 @@
--- The marks, each an octet (docs/FORMATS.md, Signature file; meaning).
+-- The marks, each of one octet (docs/FORMATS.md, Signature file; meaning).
 use Rattle.std.specs.Prelude.{ℕ, Option, Some, None, ◌==◌, if◌then◌else◌}
 use Rattle.giop_tokens.specs.declared.marks.Mark.{Mark}
 use Rattle.giop_tokens.specs.declared.marks.Mark.TheVariants as marks
 
--- the octet that writes it
+-- the octet that a mark is written as
 abbrev pub octet_of : Mark → ℕ
 octet_of marks.OpenBrace = 123
 octet_of marks.CloseBrace = 125
@@ -17,7 +17,7 @@ octet_of marks.Comma = 44
 octet_of marks.Semicolon = 59
 octet_of marks.Colon = 58
 
--- the mark that an octet writes
+-- the mark that is written as this octet, if there is one
 unfoldable pub mark_of : ℕ → Option Mark
 mark_of b =
     if b == 123 then Some marks.OpenBrace else

@@ -1,4 +1,4 @@
--- Names: which words are reserved, and how long a name may be (docs/FORMATS.md, Signature file;
+-- Names: the words that are reserved, and how long a name may be (docs/FORMATS.md, Signature file;
 -- meaning).
 use Rattle.std.specs.Prelude.{ℕ, Bool, ◌&&◌, ◌||◌, List, [], ◌∷◌, length, Result, Ok, Err, nat_lt, if◌then◌else◌, codes}
 use Rattle.std.specs.List.{list_any}
@@ -9,7 +9,7 @@ use Rattle.giop_tokens.specs.Tokens.{left_of}
 use Rattle.giop_tokens.specs.Reading.{◌>>=◌}
 use Rattle.giop_tokens.specs.Readers.{misplaced, word_at}
 
--- the words that are no names in any file
+-- the words that are reserved in every file
 abbrev pub reserved_words : List (List ℕ)
 reserved_words =
     codes "signatures" ∷ codes "enum" ∷ codes "struct" ∷ codes "union" ∷ codes "switch" ∷ codes
@@ -22,19 +22,19 @@ reserved_words =
     ∷ codes "longlong" ∷ codes "ulonglong" ∷ codes "float" ∷ codes "double"
     ∷ codes "return" ∷ codes "encapsulation" ∷ []
 
--- the words that are no names in files of version 3 alone
+-- the words that are reserved only in files of version 3
 abbrev pub later_reserved_words : List (List ℕ)
 later_reserved_words =
     codes "any" ∷ codes "TypeCode" ∷ codes "wchar" ∷ codes "wstring" ∷ codes "fixed"
     ∷ codes "longdouble" ∷ []
 
--- whether a word is no name; the flag is whether the file has version 3
+-- whether a word is reserved; the flag tells whether the file has version 3
 unfoldable pub is_reserved : Bool → List ℕ → Bool
 is_reserved third w =
     list_any (bytes_eq w) reserved_words
     || (third && list_any (bytes_eq w) later_reserved_words)
 
--- a refusal of the first token of a text as too long
+-- the refusal of the first token of a text, because it is too long
 abbrev pub too_long : List ℕ → Refusal
 too_long text = record { kind = kinds.Limit; left = left_of text }
 

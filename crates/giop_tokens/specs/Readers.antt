@@ -1,5 +1,5 @@
--- Readers of one token: its value, and what follows it (meaning). Each refuses with Token where
--- there is no token, and with Syntax, at the token, where it is another one or the text ends
+-- Readers of one token: its value, and what follows it (meaning). Each refuses with Token if there
+-- is no token, and with Syntax, at the token, if that is another one or the text ends
 -- (docs/FORMATS.md, Signature file).
 use Rattle.std.specs.Prelude.{ℕ, Bool, true, false, List, Option, Some, None, Result, Ok, Err, ◌==◌, if◌then◌else◌, option_and_then}
 use Rattle.std.specs.Str.{bytes_eq}
@@ -10,11 +10,11 @@ use Rattle.giop_tokens.specs.Marks.{octet_of}
 use Rattle.giop_tokens.specs.Tokens.{Token, word, number, negative, repository, mark, left_of, next}
 use Rattle.giop_tokens.specs.Reading.{◌>>=◌}
 
--- a refusal of the first token of a text, or of its end
+-- the refusal of the first token of a text that can't stand there, or of the end of the text
 abbrev pub misplaced : List ℕ → Refusal
 misplaced text = record { kind = kinds.Syntax; left = left_of text }
 
--- the refusal where a text goes on with no token
+-- the refusal if a text goes on with something that is no token
 abbrev pub no_token : List ℕ → Refusal
 no_token text = record { kind = kinds.Token; left = left_of text }
 
@@ -77,8 +77,8 @@ next_is is text = do
   t ← next text
   if passes is t.0 then Ok t.1 else Err (misplaced text)
 
--- what follows the next token where it passes the test; nothing where it is another one, or the
--- text ends
+-- what follows the next token, if that passes the test; nothing if it is another token, or the text
+-- ends
 unfoldable pub next_if : (Token → Bool) → List ℕ → Result (Option (List ℕ)) Refusal
 next_if is text = do
   t ← next text
@@ -112,7 +112,7 @@ abbrev pub is_end : Option Token → Bool
 is_end None = true
 is_end (Some t) = false
 
--- whether the text ends
+-- whether the text ends: only white space and comments are left
 unfoldable pub end_at : List ℕ → Result Bool Refusal
 end_at text = do
   t ← next text

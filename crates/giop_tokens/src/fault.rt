@@ -1,4 +1,4 @@
-//! Why a signature file is refused, and where (docs/FORMATS.md).
+//! Why a signature file is refused, and in which line (docs/FORMATS.md).
 
 use std::alloc::{AllocError, AllocFailed};
 use thiserror::Error;
@@ -10,22 +10,22 @@ pub enum SigFaultKind {
     /// Octets that are no token.
     #[error("token")]
     Token = 1,
-    /// A token that can't stand in its place.
+    /// A token that can't stand here.
     #[error("syntax")]
     Syntax = 2,
-    /// A type that isn't declared above its use.
+    /// A type that isn't declared before its use.
     #[error("unknown-type")]
     UnknownType = 3,
-    /// A name or a label that stands twice.
+    /// A name or a label that is used twice.
     #[error("duplicate")]
     Duplicate = 4,
     /// Too many of something, or too long a name or text.
     #[error("limit")]
     Limit = 5,
-    /// A type of more than 24 levels.
+    /// A type with more than 24 levels.
     #[error("depth")]
     Depth = 6,
-    /// A label that is no value of its discriminator.
+    /// A label that is no value of its union's discriminator.
     #[error("label")]
     Label = 7,
     /// An empty enum, struct or union, or a length or bound of 0.
@@ -40,7 +40,7 @@ pub enum SigFaultKind {
 #[derive(Clone, Copy, Debug, PartialEq, Eq, Drop, Error)]
 #[error("{kind}")]
 pub struct SigFault {
-    /// The line of the offending token, from 1; 0 for want of memory.
+    /// The line of the token that breaks the rule, from 1; 0 if memory was refused.
     pub line: u32,
     /// The rule that is broken.
     pub kind: SigFaultKind,
@@ -74,13 +74,13 @@ impl<T: Drop> From<AllocFailed<T>> for SigFault {
     }
 }
 
-/// A refusal of a text that is being read from the front.
+/// A refusal of a text that is read from its front.
 #[derive(Clone, Copy, Debug, PartialEq, Eq, Drop)]
 pub struct Refusal {
     /// The rule that is broken.
     pub kind: SigFaultKind,
-    /// How many octets of the text are left, from the first octet of the offending token on; 0 at
-    /// the end of the text and for want of memory.
+    /// How many octets of the text are left, counted from the first octet of the token that breaks the rule. It is 0 at the
+    /// end of the text, and if memory was refused.
     pub left: usize,
 }
 

@@ -9,13 +9,13 @@ use crate::fault::{Refusal, SigFaultKind};
 use crate::marks::{Mark, mark_of};
 use crate::numbers::{is_digit, number_of};
 
-/// The most octets of a repository id.
+/// The greatest length of a repository id, in octets.
 const ID_MAX: usize = 128;
 
 /// A token of a text.
 #[derive(Clone, Copy, Debug, PartialEq, Eq, Drop)]
 pub enum Token<'a> {
-    /// A longest run of letters, digits and `_` that doesn't begin with a digit.
+    /// A run of letters, digits and `_`, as long as it can be, that doesn't begin with a digit.
     Word(&'a [u8]),
     /// A decimal number.
     Number(u64),
@@ -27,35 +27,35 @@ pub enum Token<'a> {
     Mark(Mark),
 }
 
-/// White space: space, tab, CR and LF.
+/// Whether an octet is white space: a space, a tab, CR or LF.
 fn is_white(b: u8) -> bool
     ensures { result ≡ is_white b }
 {
     b == b' ' || b == b'\t' || b == b'\r' || b == b'\n'
 }
 
-/// An octet of a word: a letter, a digit or `_`.
+/// Whether an octet may stand in a word: it is a letter, a digit or `_`.
 fn is_word(b: u8) -> bool
     ensures { result ≡ is_word b }
 {
     b.is_ascii_lowercase() || b.is_ascii_uppercase() || is_digit(b) || b == b'_'
 }
 
-/// An octet of a repository id: printed ASCII but for space and the quotation mark.
+/// Whether an octet may stand in a repository id: printed ASCII, but neither a space nor a quotation mark.
 fn is_id(b: u8) -> bool
     ensures { result ≡ is_id b }
 {
     b >= 0x21 && b <= 0x7e && b != b'"'
 }
 
-/// The octet at a place, 0 past the end.
+/// The octet at this index, or 0 after the end.
 fn octet_at(text: &[u8], i: usize) -> u8
     ensures { result ≡ slice_index text.now i }
 {
     if i < text.len() { text[i] } else { 0 }
 }
 
-/// Whether a comment goes on after an octet, or nothing where a token begins there.
+/// Whether a comment goes on after an octet. There is no answer if a token begins at the octet.
 fn gap_step(comment: bool, octet: u8, after: u8) -> Option<bool>
     ensures { result ≡ gap_step comment octet after }
 {
@@ -68,7 +68,7 @@ fn gap_step(comment: bool, octet: u8, after: u8) -> Option<bool>
     if is_white(octet) { Some(false) } else { None }
 }
 
-/// What follows white space and comments.
+/// What follows after white space and comments.
 fn after_gap(text: &[u8]) -> &[u8]
     ensures { result.now ≡ gap false text.now }
 {
@@ -82,7 +82,7 @@ fn after_gap(text: &[u8]) -> &[u8]
     &text[text.len()..]
 }
 
-/// How many of the first octets are a word's.
+/// How many octets at the front belong to a word.
 fn word_len(text: &[u8]) -> usize
     ensures len { result ≡ prefix_len is_word text.now }
     ensures bound { result ≤ length text.now }
@@ -95,7 +95,7 @@ fn word_len(text: &[u8]) -> usize
     text.len()
 }
 
-/// How many of the first octets are a repository id's.
+/// How many octets at the front belong to a repository id.
 fn id_len(text: &[u8]) -> usize
     ensures len { result ≡ prefix_len is_id text.now }
     ensures bound { result ≤ length text.now }
@@ -108,7 +108,7 @@ fn id_len(text: &[u8]) -> usize
     text.len()
 }
 
-/// The token that a word is: a number where it begins with a digit.
+/// The token that a run of word octets is: a number if it begins with a digit, else a word.
 fn word_token(word: &[u8]) -> Option<Token<'_>>
     ensures { option_map token_view result ≡ word_token word.now }
 {
@@ -118,7 +118,7 @@ fn word_token(word: &[u8]) -> Option<Token<'_>>
     Some(Token::Word(word))
 }
 
-/// The number below zero that a word after `-` is.
+/// The number below zero that the word octets after a `-` are.
 fn negative_token(word: &[u8]) -> Option<Token<'_>>
     ensures { option_map token_view result ≡ below_zero (number_of word.now) }
 {
@@ -128,7 +128,7 @@ fn negative_token(word: &[u8]) -> Option<Token<'_>>
     }
 }
 
-/// The repository id before a quotation mark.
+/// The repository id that ends before a quotation mark.
 fn repository_token<'a>(id: &'a [u8], after: &[u8]) -> Option<Token<'a>>
     ensures { option_map token_view result ≡ repository_token id.now after.now }
 {
@@ -139,7 +139,7 @@ fn repository_token<'a>(id: &'a [u8], after: &[u8]) -> Option<Token<'a>>
     }
 }
 
-/// A token and what follows it; or no token, at this place.
+/// A token and what follows it, or the refusal at this place if there is no token.
 fn as_token<'a>(
     text: &[u8],
     token: Option<Token<'a>>,
@@ -159,7 +159,7 @@ fn as_token<'a>(
     }
 }
 
-/// The first token of a text that begins with no white space and no comment.
+/// The first token of a text that begins with neither white space nor a comment.
 #[tactic(auto, unfolding(crate::specs::Tokens::first))]
 fn first(text: &[u8]) -> Result<(Option<Token<'_>>, &[u8]), Refusal>
     ensures { Gives (λ x. (option_map token_view x.0, x.1.now)) result (first text.now) }
@@ -184,14 +184,14 @@ fn first(text: &[u8]) -> Result<(Option<Token<'_>>, &[u8]), Refusal>
     }
 }
 
-/// The mark that an octet writes.
+/// The mark that is written as this octet.
 fn mark_token(octet: u8) -> Option<Token<'static>>
     ensures { option_map token_view result ≡ option_map mark (mark_of octet) }
 {
     Some(Token::Mark(mark_of(octet)?))
 }
 
-/// What follows the first octet.
+/// What follows after the first octet.
 fn past_mark(text: &[u8]) -> &[u8]
     ensures { result.now ≡ drop 1 text.now }
 {
@@ -201,8 +201,7 @@ fn past_mark(text: &[u8]) -> &[u8]
     }
 }
 
-/// The first token of a text, after white space and comments, and what follows it; none at the
-/// end of the text.
+/// The first token of a text, after white space and comments, and what follows it. At the end of the text there is none.
 #[tactic(auto, unfolding(crate::specs::Tokens::next))]
 pub fn next(text: &[u8]) -> Result<(Option<Token<'_>>, &[u8]), Refusal>
     ensures { Gives (λ x. (option_map token_view x.0, x.1.now)) result (next text.now) }
@@ -210,8 +209,7 @@ pub fn next(text: &[u8]) -> Result<(Option<Token<'_>>, &[u8]), Refusal>
     first(after_gap(text))
 }
 
-/// The place of the first token of a text: how many octets are left from it on, 0 at the end of
-/// the text.
+/// The place of the first token of a text: how many octets are left from the token on. It is 0 at the end of the text.
 pub fn left_of(text: &[u8]) -> usize
     ensures { result ≡ left_of text.now }
 {

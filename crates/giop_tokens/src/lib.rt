@@ -1,4 +1,4 @@
-//! The tokens of a signature file, and why one is refused (docs/FORMATS.md).
+//! The tokens of a signature file, and why a file is refused (docs/FORMATS.md).
 #![tactic(auto)]
 
 mod fault;

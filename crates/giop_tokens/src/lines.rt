@@ -4,15 +4,14 @@ ghost use Rattle.giop_tokens.specs.Lines.{line_at, fault_of};
 
 use crate::fault::{Refusal, SigFault, SigFaultKind};
 
-/// How many line feeds there are.
+/// How many line feeds a text has.
 fn line_feeds(text: &[u8]) -> usize
     ensures { result ≡ count_by (λ b. b == 10) text.now }
 {
     text.iter().filter(|b| **b == b'\n').count()
 }
 
-/// The line, from 1, of the octet from which on so many are left, or of the last octet where none
-/// is left.
+/// The line, from 1, of the octet with which the last `left` octets of the text begin, or of the last octet if `left` is 0.
 pub fn line_of(text: &[u8], left: usize) -> u32
     requires { length text.now < 2 ^ 32 }
     ensures { result ≡ line_at text.now left }
@@ -21,7 +20,7 @@ pub fn line_of(text: &[u8], left: usize) -> u32
     1 + line_feeds(&text[..before]) as u32
 }
 
-/// The fault that a caller gets of a refusal: its kind and its line.
+/// The fault that the caller gets for a refusal: its kind and its line.
 pub fn fault_in(text: &[u8], refusal: Refusal) -> SigFault
     requires { length text.now < 2 ^ 32 }
     ensures { result ≡ fault_of text.now refusal }

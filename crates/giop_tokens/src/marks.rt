@@ -30,7 +30,7 @@ pub enum Mark {
 }
 
 impl Mark {
-    /// The octet that writes it.
+    /// The octet that the mark is written as.
     pub fn octet(self) -> u8
         ensures { result ≡ octet_of self }
     {
@@ -50,7 +50,7 @@ impl Mark {
     }
 }
 
-/// The mark that an octet writes.
+/// The mark that is written as this octet.
 #[tactic(auto, unfolding(crate::specs::Marks::mark_of))]
 pub fn mark_of(octet: u8) -> Option<Mark>
     ensures { result ≡ mark_of octet }

@@ -1,4 +1,4 @@
-//! Names: words that aren't reserved, and not too long.
+//! Names: words that aren't reserved and aren't too long.
 ghost use Rattle.std.specs.Prelude.{◌≡◌, map, bytes_eq};
 ghost use Rattle.std.specs.List.{list_any};
 ghost use Rattle.giop_tokens.specs.Reading.{Gives};
@@ -8,19 +8,19 @@ use crate::fault::{Refusal, SigFaultKind};
 use crate::lexer::left_of;
 use crate::readers::{misplaced, word};
 
-/// The most octets of a name.
+/// The greatest length of a name, in octets.
 const NAME_MAX: usize = 64;
-/// The most octets of an operation's name.
+/// The greatest length of an operation's name, in octets.
 const OPERATION_NAME_MAX: usize = 128;
 
-/// Whether a word is one of these.
+/// Whether a word is among these words.
 fn is_one_of(word: &[u8], others: &[&[u8]]) -> bool
     ensures { result ≡ list_any (bytes_eq word.now) (map (λ o. o.now) others.now) }
 {
     others.iter().any(|other| word == *other)
 }
 
-/// Whether a word is no name, in a file of version 3 or in an older one.
+/// Whether a word is reserved, so that it can't be a name. `third` tells whether the file has version 3.
 #[tactic(auto, unfolding(crate::specs::Names::is_reserved))]
 pub fn is_reserved(third: bool, word: &[u8]) -> bool
     ensures { result ≡ is_reserved third word.now }
@@ -28,7 +28,7 @@ pub fn is_reserved(third: bool, word: &[u8]) -> bool
     is_old_word(word) || (third && is_later_word(word))
 }
 
-/// Whether a word is no name in any file.
+/// Whether a word is reserved in every file.
 fn is_old_word(word: &[u8]) -> bool
     ensures { result ≡ list_any (bytes_eq word.now) reserved_words }
 {
@@ -70,7 +70,7 @@ fn is_old_word(word: &[u8]) -> bool
     )
 }
 
-/// Whether a word is no name in files of version 3 alone.
+/// Whether a word is reserved only in files of version 3.
 fn is_later_word(word: &[u8]) -> bool
     ensures { result ≡ list_any (bytes_eq word.now) later_reserved_words }
 {
@@ -87,7 +87,7 @@ fn is_later_word(word: &[u8]) -> bool
     )
 }
 
-/// The refusal of the first token of a text, where it is too long a name.
+/// The refusal of the first token of a text, if that is a name that is too long.
 fn too_long(text: &[u8]) -> Refusal
     ensures { result ≡ too_long text.now }
 {
@@ -97,7 +97,7 @@ fn too_long(text: &[u8]) -> Refusal
     }
 }
 
-/// A name in a file of version 3 or in an older one: a word that isn't reserved, of at most 64 octets.
+/// Reads a name: a word that isn't reserved, of at most 64 octets. `third` tells whether the file has version 3.
 #[tactic(auto, unfolding(crate::specs::Names::identifier_at))]
 pub fn identifier(third: bool, text: &[u8]) -> Result<(&[u8], &[u8]), Refusal>
     ensures { Gives (λ x. (x.0.now, x.1.now)) result (identifier_at third text.now) }
@@ -112,7 +112,7 @@ pub fn identifier(third: bool, text: &[u8]) -> Result<(&[u8], &[u8]), Refusal>
     Ok((name, rest))
 }
 
-/// An operation's name: any word of at most 128 octets.
+/// Reads an operation's name: any word of at most 128 octets.
 #[tactic(auto, unfolding(crate::specs::Names::operation_name_at))]
 pub fn operation_name(text: &[u8]) -> Result<(&[u8], &[u8]), Refusal>
     ensures { Gives (λ x. (x.0.now, x.1.now)) result (operation_name_at text.now) }

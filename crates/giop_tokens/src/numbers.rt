@@ -4,7 +4,7 @@ ghost use Rattle.std.specs.List.{list_all};
 ghost use Rattle.std.specs.Str.Parse.{digits_value};
 ghost use Rattle.giop_tokens.specs.Tokens.{is_digit, number_of};
 
-/// The most digits of a number.
+/// The greatest number of digits in a number.
 const DIGITS_MAX: usize = 20;
 
 /// Whether an octet is a decimal digit.
@@ -14,14 +14,14 @@ pub fn is_digit(b: u8) -> bool
     b.is_ascii_digit()
 }
 
-/// Whether each octet is a digit.
+/// Whether each octet is a decimal digit.
 fn are_digits(word: &[u8]) -> bool
     ensures { result ≡ list_all is_digit word.now }
 {
     word.iter().all(|b| is_digit(*b))
 }
 
-/// What at most 20 digits spell.
+/// The number that at most 20 digits are.
 fn value_of(digits: &[u8]) -> u128
     requires some { list_all is_digit digits.now ≡ true }
     requires few { length digits.now ≤ 20 }
@@ -34,7 +34,7 @@ fn value_of(digits: &[u8]) -> u128
     n
 }
 
-/// The number below 2 ^ 64 that a word is.
+/// The number below 2^64 that a word is, if it is one.
 #[tactic(auto, unfolding(crate::specs::Tokens::is_number))]
 pub fn number_of(word: &[u8]) -> Option<u64>
     ensures { result ≡ number_of word.now }

@@ -1,5 +1,5 @@
-//! Readers of one token. Each gives what follows the token that it reads, and refuses with Token
-//! where there is no token, and with Syntax, at the token, where it is another one or the text ends.
+//! Readers of one token. Each returns what follows the token. It refuses with Token if there is no token, and with Syntax,
+//! at the token, if that is another one or the text ends.
 ghost use Rattle.std.specs.Prelude.{◌≡◌, option_map};
 ghost use Rattle.giop_tokens.specs.Reading.{Gives};
 ghost use Rattle.giop_tokens.specs.Tokens.{token_view};
@@ -9,7 +9,7 @@ use crate::fault::{Refusal, SigFaultKind};
 use crate::lexer::{Token, left_of, next};
 use crate::marks::Mark;
 
-/// The refusal of the first token of a text, or of its end, where it can't stand.
+/// The refusal of the first token of a text that can't stand there, or of the end of the text.
 pub fn misplaced(text: &[u8]) -> Refusal
     ensures { result ≡ misplaced text.now }
 {
@@ -39,7 +39,7 @@ fn is_the_word(token: Option<Token<'_>>, wanted: &[u8]) -> bool
     }
 }
 
-/// A mark.
+/// Reads this mark.
 #[tactic(auto, unfolding(crate::specs::Readers::next_is))]
 pub fn mark(text: &[u8], wanted: Mark) -> Result<&[u8], Refusal>
     ensures { Gives (λ x. x.now) result (mark_at wanted text.now) }
@@ -51,7 +51,7 @@ pub fn mark(text: &[u8], wanted: Mark) -> Result<&[u8], Refusal>
     Err(misplaced(text))
 }
 
-/// A word that the grammar quotes.
+/// Reads this word, which the grammar quotes.
 #[tactic(auto, unfolding(crate::specs::Readers::next_is))]
 pub fn keyword<'a>(text: &'a [u8], wanted: &[u8]) -> Result<&'a [u8], Refusal>
     ensures { Gives (λ x. x.now) result (keyword_at wanted.now text.now) }
@@ -63,7 +63,7 @@ pub fn keyword<'a>(text: &'a [u8], wanted: &[u8]) -> Result<&'a [u8], Refusal>
     Err(misplaced(text))
 }
 
-/// Any word that doesn't begin with a digit.
+/// Reads any word. It doesn't begin with a digit.
 #[tactic(auto, unfolding(crate::specs::Readers::next_as))]
 pub fn word(text: &[u8]) -> Result<(&[u8], &[u8]), Refusal>
     ensures { Gives (λ x. (x.0.now, x.1.now)) result (word_at text.now) }
@@ -75,7 +75,7 @@ pub fn word(text: &[u8]) -> Result<(&[u8], &[u8]), Refusal>
     }
 }
 
-/// A number.
+/// Reads a number.
 #[tactic(auto, unfolding(crate::specs::Readers::next_as))]
 pub fn number(text: &[u8]) -> Result<(u64, &[u8]), Refusal>
     ensures { Gives (λ x. (x.0, x.1.now)) result (number_at text.now) }
@@ -87,7 +87,7 @@ pub fn number(text: &[u8]) -> Result<(u64, &[u8]), Refusal>
     }
 }
 
-/// A repository id, without its quotation marks.
+/// Reads a repository id, and returns it without its quotation marks.
 #[tactic(auto, unfolding(crate::specs::Readers::next_as))]
 pub fn repository_id(text: &[u8]) -> Result<(&[u8], &[u8]), Refusal>
     ensures { Gives (λ x. (x.0.now, x.1.now)) result (repository_at text.now) }
@@ -99,8 +99,7 @@ pub fn repository_id(text: &[u8]) -> Result<(&[u8], &[u8]), Refusal>
     }
 }
 
-/// What follows a mark, where the text begins with it; nothing where it begins with another token
-/// or ends.
+/// What follows this mark, if the text begins with it. There is nothing if the text begins with another token, or ends.
 #[tactic(auto, unfolding(crate::specs::Readers::next_if))]
 pub fn starts_with_mark(text: &[u8], wanted: Mark) -> Result<Option<&[u8]>, Refusal>
     ensures { Gives (λ x. option_map (λ r. r.now) x) result (mark_if wanted text.now) }
@@ -113,8 +112,7 @@ pub fn starts_with_mark(text: &[u8], wanted: Mark) -> Result<Option<&[u8]>, Refu
     })
 }
 
-/// What follows a word, where the text begins with it; nothing where it begins with another token
-/// or ends.
+/// What follows this word, if the text begins with it. There is nothing if the text begins with another token, or ends.
 #[tactic(auto, unfolding(crate::specs::Readers::next_if))]
 pub fn starts_with_keyword<'a>(text: &'a [u8], wanted: &[u8]) -> Result<Option<&'a [u8]>, Refusal>
     ensures { Gives (λ x. option_map (λ r. r.now) x) result (keyword_if wanted.now text.now) }
@@ -127,7 +125,7 @@ pub fn starts_with_keyword<'a>(text: &'a [u8], wanted: &[u8]) -> Result<Option<&
     })
 }
 
-/// Whether the text ends: nothing but white space and comments is left.
+/// Whether the text ends: only white space and comments are left.
 #[tactic(auto, unfolding(crate::specs::Readers::end_at))]
 pub fn ends(text: &[u8]) -> Result<bool, Refusal>
     ensures { Gives (λ x. x) result (end_at text.now) }

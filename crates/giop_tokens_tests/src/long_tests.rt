@@ -1,4 +1,5 @@
-//! A mebibyte of one thing is read at once: no reader takes steps that grow with the square of a text.
+//! A text of a mebibyte with one thing in it is read quickly: no reader takes a number of steps that grows with the square
+//! of the text.
 
 use crate::spelled::{line_in, repeated};
 use giop_tokens::{Refusal, ends, identifier, next, number, repository_id, word};
@@ -7,7 +8,7 @@ use std::test::Fail;
 
 const SIZE: usize = 1_048_576;
 
-/// What reads a text.
+/// The function that reads a text.
 #[derive(Clone, Copy)]
 enum Reader {
     Word,
@@ -19,8 +20,9 @@ enum Reader {
     Tokens,
 }
 
-/// A text's front and what comes after it, as many octets as there may be; what reads it, and what that answers: the octets
-/// of a word, or those that are left where it refuses, or how many lines or tokens there are.
+/// The front of a text, and the octet that it goes on with up to its full length; the function that reads it; and what that
+/// returns: the number of a word's octets, the number of octets that are left when it refuses, or the number of lines or
+/// tokens.
 static TEXTS: [(&[u8], &[u8], Reader, usize); 11] = [
     (b"", b"w", Reader::Word, SIZE),
     (b"", b"w", Reader::Name, SIZE),
@@ -71,7 +73,7 @@ fn answer_of(reader: Reader, text: &[u8]) -> Option<usize> {
     }
 }
 
-/// How many octets are left where a reader refuses a text; 0 where it doesn't.
+/// How many octets are left when a reader refuses a text; 0 if it doesn't refuse.
 fn left_by(refusal: Option<Refusal>) -> Option<usize> {
     match refusal {
         Some(refusal) => Some(refusal.left),
@@ -79,7 +81,7 @@ fn left_by(refusal: Option<Refusal>) -> Option<usize> {
     }
 }
 
-/// How many tokens a text has; None where one is refused.
+/// How many tokens a text has; None if one of them is refused.
 fn count(text: &[u8]) -> Option<usize> {
     let mut rest = text;
     for number in 0..text.len() + 1 {

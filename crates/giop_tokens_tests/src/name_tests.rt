@@ -1,4 +1,4 @@
-//! Names and repository ids: which words are none, and how long they may be.
+//! Names and repository ids: the words that can't be names, and how long a name may be.
 
 use crate::rows::{FREE, LATER_RESERVED, RESERVED};
 use crate::spelled::{expect, repeated};
@@ -19,7 +19,8 @@ fn each_is_told(rt: &impl Abort, words: &str, want: [bool; 5]) {
     }
 }
 
-/// Whether a word is reserved in an older file and in one of version 3, names something in either, and names an operation.
+/// Whether a word is reserved in an older file; whether it is in a file of version 3; whether it can be a name in either of
+/// them; and whether it can be an operation's name.
 fn told_of(word: &[u8]) -> [bool; 5] {
     [
         is_reserved(false, word),
@@ -30,7 +31,7 @@ fn told_of(word: &[u8]) -> [bool; 5] {
     ]
 }
 
-/// What a row of sizes is of.
+/// What a row of sizes is about.
 #[derive(Clone, Copy)]
 enum Sized {
     Name,
@@ -38,7 +39,7 @@ enum Sized {
     Id,
 }
 
-/// How many octets a name, an operation's or a repository id has, and why it is none, if so.
+/// The number of octets of a name, of an operation's name or of a repository id, and why it is refused, if it is.
 static SIZES: [(Sized, usize, Option<SigFaultKind>); 10] = [
     (Sized::Name, 64, None),
     (Sized::Name, 65, Some(SigFaultKind::Limit)),
@@ -71,7 +72,7 @@ fn is_limited(
     Ok(())
 }
 
-/// Why what stands between quotation marks is none, if so; an id has the marks.
+/// Why the text between the quotation marks is refused, if it is. A repository id is read with the marks.
 fn refusal_of(text: &[u8], of: Sized) -> Option<Refusal> {
     let inner = match text {
         [_, inner @ ..] => inner,

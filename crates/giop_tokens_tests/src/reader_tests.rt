@@ -1,4 +1,4 @@
-//! Readers: what they take, and what stands ahead of them.
+//! Readers: the token that they take, and the token that a text begins with.
 
 use giop_tokens::{
     Mark, Refusal, ends, identifier, keyword, mark, number, operation_name, repository_id,
@@ -16,7 +16,7 @@ fn readers_take_one_token(rt: HostRuntime) {
     assert!(rt; ends(b" // x").is_ok_and(|is_end| is_end));
 }
 
-/// Which reader takes another token.
+/// The reader that doesn't take its token, if one doesn't.
 fn taken_differs(after: &[u8]) -> &'static str {
     if after_mark(mark(b" ; x", Mark::Semicolon)) != after {
         return "a mark";
@@ -43,7 +43,7 @@ fn taken_differs(after: &[u8]) -> &'static str {
     }
 }
 
-/// What follows the mark or keyword that a reader took.
+/// What follows after the mark or keyword that a reader took.
 fn after_mark(taken: Result<&[u8], Refusal>) -> &[u8] {
     match taken {
         Ok(rest) => rest,
@@ -51,7 +51,7 @@ fn after_mark(taken: Result<&[u8], Refusal>) -> &[u8] {
     }
 }
 
-/// Whether a reader took this, and left that.
+/// Whether a reader took this text, and left that one.
 fn takes(taken: Result<(&[u8], &[u8]), Refusal>, told: &[u8], after: &[u8]) -> bool {
     match taken {
         Ok((name, rest)) => name == told && rest == after,
@@ -61,7 +61,7 @@ fn takes(taken: Result<(&[u8], &[u8]), Refusal>, told: &[u8], after: &[u8]) -> b
 
 const ANOTHER: &[u8] = b"another";
 
-/// What follows the mark or keyword with which a text begins.
+/// What follows after the mark or keyword that a text begins with.
 fn after_first(found: Result<Option<&[u8]>, Refusal>) -> &[u8] {
     match found {
         Ok(Some(rest)) => rest,
@@ -70,7 +70,7 @@ fn after_first(found: Result<Option<&[u8]>, Refusal>) -> &[u8] {
     }
 }
 
-/// Which text begins otherwise with a mark.
+/// The text for which it is told wrong whether it begins with a mark, if there is one.
 fn mark_ahead_differs(after: &[u8]) -> &'static str {
     if after_first(starts_with_mark(b"[ x", Mark::OpenBracket)) != after {
         return "[ x";
@@ -88,7 +88,7 @@ fn mark_ahead_differs(after: &[u8]) -> &'static str {
     }
 }
 
-/// Which text begins otherwise with the keyword `in`.
+/// The text for which it is told wrong whether it begins with the keyword `in`, if there is one.
 fn keyword_ahead_differs(after: &[u8]) -> &'static str {
     if after_first(starts_with_keyword(b"in x", b"in")) != after {
         return "in x";

@@ -1,6 +1,6 @@
-//! Texts and what is told of them: what a test expects, `|` and the text; `=` ends a row.
+//! Texts and what a test expects of them. A row is what is expected, then `|`, then the text; `=` ends the row.
 
-/// What a row wants, and its text.
+/// What a row expects, and its text.
 pub fn row_of(row: &[u8]) -> (&[u8], &[u8]) {
     for bar in 0..row.len() {
         if row[bar] == b'|' {
@@ -10,7 +10,7 @@ pub fn row_of(row: &[u8]) -> (&[u8], &[u8]) {
     (row, b"")
 }
 
-/// The number of this place among those that are written with a space between them; 0 after the last.
+/// The number at this index among numbers that are written with a space between them; 0 after the last one.
 pub fn number_of(text: &[u8], place: usize) -> usize {
     let mut number = 0usize;
     let mut left = place;
@@ -25,7 +25,7 @@ pub fn number_of(text: &[u8], place: usize) -> usize {
     number
 }
 
-/// Texts of tokens.
+/// Texts and the tokens that they are read as.
 pub static READ: &[u8] = b"\
     |=\
     | \t\r\n=\
@@ -50,7 +50,7 @@ pub static READ: &[u8] = b"\
     word case negative 1 mark : word default mark :|case -1:default:=\
     word struct word A mark { word long word x mark [ number 3 mark ] mark ; mark } mark ;|struct A{long x[3];};// end";
 
-/// Texts with something that is no token: how many octets are left from its first octet on, and its line.
+/// Texts in which something is no token, with the number of octets that are left from it on, and its line.
 pub static REFUSED: &[u8] = b"\
     7 2|signatures 1;\nstruct A { long x[00]; };=\
     7 2|signatures 1;\nstruct A { long x[01]; };=\
@@ -83,7 +83,7 @@ pub static REFUSED: &[u8] = b"\
     2 1|1_=\
     2 1|+1";
 
-/// How many octets of a text are left at a place, and the line of that place.
+/// The number of octets that are left at a place of a text, and the line of that place.
 pub static LINES: &[u8] = b"\
     0 1|=\
     0 1| =\
@@ -99,12 +99,12 @@ pub static LINES: &[u8] = b"\
     1 3|a\nb\nc=\
     1 1|a\rb";
 
-/// The words that the grammar quotes, and two more that are kept for later.
+/// The words that the grammar quotes, and two more that are reserved for later.
 pub static RESERVED: &str =
     "signatures enum struct union switch case default true false exception operation void in out inout string Object sequence octet char boolean short ushort long ulong longlong ulonglong float double return encapsulation";
 
-/// Words that are no names in files of version 3 alone.
+/// Words that are reserved only in files of version 3.
 pub static LATER_RESERVED: &str = "any TypeCode wchar wstring fixed longdouble";
 
-/// Words that are names.
+/// Words that can be names.
 pub static FREE: &str = "Enum object bool enums e _enum returns";

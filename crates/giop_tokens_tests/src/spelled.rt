@@ -1,11 +1,11 @@
-//! What is told of tokens and of refusals, and texts of many octets.
+//! Tokens and refusals as text, and texts of many octets.
 
 use giop_tokens::{Mark, Refusal, SigFault, SigFaultKind, Token, fault_in, line_of, next};
 use std::alloc::Global;
 use std::process::Abort;
 use std::test::Fail;
 
-/// Stops where something isn't as it is told in this row.
+/// Stops the test if something in this row isn't as expected.
 pub fn expect(rt: &impl Abort, is_right: bool, row: &[u8]) {
     assert!(rt; is_right, "{row:?}");
 }
@@ -39,7 +39,7 @@ fn add_octets(kind: &[u8], octets: &[u8], told: &mut Vec<u8>) -> Result<(), Fail
     Ok(())
 }
 
-/// Adds a token: its kind and its content.
+/// Adds the text of a token: its kind and its content.
 fn add_token(alloc: Global, token: Token, told: &mut Vec<u8>) -> Result<(), Fail> {
     if !told.is_empty() {
         told.push(b' ')?;
@@ -53,7 +53,7 @@ fn add_token(alloc: Global, token: Token, told: &mut Vec<u8>) -> Result<(), Fail
     }
 }
 
-/// Adds all tokens of a text, and answers what is refused of it.
+/// Adds the texts of all tokens of a text. Returns the refusal, if there is one.
 pub fn add_tokens(alloc: Global, text: &[u8], told: &mut Vec<u8>) -> Result<Option<Refusal>, Fail> {
     let mut rest = text;
     for _ in 0..text.len() + 1 {
@@ -77,7 +77,7 @@ pub fn line_in(text: &[u8], left: usize) -> Option<u32> {
     Some(line_of(text, left))
 }
 
-/// What is told of a refusal of such a text.
+/// The fault for a refusal of a text that is no longer than a signature file may be.
 pub fn told_of(text: &[u8], kind: SigFaultKind, left: usize) -> Option<SigFault> {
     if text.len() > 1_048_576 {
         return None;
@@ -85,7 +85,7 @@ pub fn told_of(text: &[u8], kind: SigFaultKind, left: usize) -> Option<SigFault>
     Some(fault_in(text, Refusal { kind, left }))
 }
 
-/// A text: its front, then a part so many times, and its end.
+/// Makes a text: its front, then a part this many times, and then its end.
 pub fn repeated(
     alloc: Global,
     front: &[u8],

@@ -1,4 +1,4 @@
-//! Texts and their tokens, and what is no token.
+//! Texts and their tokens, and texts in which something is no token.
 
 use crate::rows::{LINES, READ, REFUSED, number_of, row_of};
 use crate::spelled::{add_tokens, expect, line_in, told_of};
@@ -7,7 +7,7 @@ use std::alloc::Global;
 use std::process::Abort;
 use std::test::Fail;
 
-/// What the rows of a table want.
+/// What the rows of a table expect.
 #[derive(Clone, Copy)]
 enum Rule {
     Tokens,
@@ -53,7 +53,7 @@ fn is_refused(alloc: Global, want: &[u8], text: &[u8]) -> Result<bool, Fail> {
     Ok(is_refused_as(text, refusal, want))
 }
 
-/// Whether a refusal of a text is that of a token with so many octets left, and in which line.
+/// Whether the refusal of a text is Token, with the number of octets left and the line that a row expects.
 fn is_refused_as(text: &[u8], refusal: Option<Refusal>, want: &[u8]) -> bool {
     let Some(Refusal { kind, left }) = refusal else {
         return false;

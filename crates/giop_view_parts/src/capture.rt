@@ -1,21 +1,21 @@
-//! What a capture says of itself.
+//! What a capture tells about itself.
 
 use crate::facts::Faulted;
 use giop_json_values::Text;
 use giop_lines::{CaptureTotal, Said};
 use std::alloc::{AllocError, Global};
 
-/// The totals of a capture and its fault, as far as their lines came.
+/// The totals of a capture and its fault, if their lines came.
 #[derive(Drop)]
 pub struct Capture {
-    /// The totals, if they came.
+    /// The totals, if their line came.
     pub total: Option<CaptureTotal>,
-    /// The fault, if one came.
+    /// The fault, if its line came.
     pub fault: Faulted,
 }
 
 impl Capture {
-    /// No line came.
+    /// Makes one for a capture before its first line.
     pub fn new(alloc: Global) -> Capture {
         Capture {
             total: None,
@@ -40,7 +40,7 @@ impl Capture {
         self.total.is_none() && self.fault.is_none()
     }
 
-    /// Writes its object, which says whether the totals are missing.
+    /// Writes the capture's object. If `says_cut` is true, it says whether the totals are missing.
     pub fn put(&self, text: &mut Text, says_cut: bool) -> Result<(), AllocError> {
         text.open(false)?;
         if let Some(total) = self.total {
@@ -56,7 +56,7 @@ impl Capture {
         text.close(false)
     }
 
-    /// Appends its lines.
+    /// Appends the lines of the capture.
     pub fn put_lines(&self, text: &mut Vec<u8>) -> Result<(), AllocError> {
         if !self.fault.is_none() {
             text.extend_from_slice(b"capture fault ")?;
@@ -78,7 +78,7 @@ impl Capture {
     }
 }
 
-/// The totals that each capture has, by their names.
+/// The totals that every capture has, with their names.
 fn numbers(total: CaptureTotal) -> [(&'static str, u64); 5] {
     [
         ("streams", total.streams),

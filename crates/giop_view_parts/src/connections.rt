@@ -1,4 +1,4 @@
-//! The connections that streams are of, by their two endpoints.
+//! The connections of streams, by their two endpoints.
 
 ghost use Rattle.std.specs.Prelude.{◌≡◌, ◌<◌, ◌-◌, ◌↔◌, ◌&&◌, IsTrue};
 
@@ -6,10 +6,10 @@ use lru::LruCache;
 use std::alloc::{AllocError, Global};
 use std::collections::HashMap;
 
-/// How many connections are known; the one that began first is forgotten where there is one more.
+/// The greatest number of connections that are known. If there is one more, the one that began first is forgotten.
 const CONNECTIONS_MAX: usize = 131_072;
 
-/// What is known of one direction of a connection.
+/// What is known about one direction of a connection.
 #[derive(Clone, Copy, Debug, Drop, PartialEq, Eq)]
 enum Flow {
     Missing,
@@ -21,11 +21,11 @@ enum Flow {
 /// A connection.
 #[derive(Clone, Copy, Debug, Drop)]
 struct Connection {
-    // Which one it is of all.
+    // The number of the connection among all connections.
     id: u64,
     // The number of its first stream.
     number: u64,
-    // From the endpoint whose text comes first, and from the other.
+    // The flow from the endpoint whose text comes first, and then the opposite flow.
     flows: [Flow; 2],
     is_over: bool,
 }
@@ -33,7 +33,7 @@ struct Connection {
 /// The connection of a stream.
 #[derive(Clone, Copy, Debug, Drop, PartialEq, Eq)]
 pub struct Of {
-    /// Which one it is of all.
+    /// The number of the connection among all connections.
     pub id: u64,
     /// The number of its first stream.
     pub number: u64,
@@ -47,7 +47,7 @@ struct Life {
 }
 
 impl Life {
-    /// Counts one of its streams that is over.
+    /// Counts a stream of the connection as over.
     fn end(&mut self) -> Ending
         ensures streams { self.new.streams ≡ self.old.streams - 1 }
         ensures over { result.is_over ≡ self.old.is_over }
@@ -61,17 +61,17 @@ impl Life {
     }
 }
 
-/// How the connection of a stream is after the stream's end.
+/// What is known about the connection of a stream, after the stream's end.
 #[derive(Clone, Copy, Debug, Drop, PartialEq, Eq)]
 pub struct Ending {
-    /// Whether the connection is over, so that a stream between its ends is of another one.
+    /// Whether the connection is over. If it is, the next stream between its endpoints is of another connection.
     pub is_over: bool,
-    /// Whether none of its streams lives.
+    /// Whether none of its streams lives any more.
     pub is_last: bool,
 }
 
 impl Ending {
-    /// Whether no more lines of the connection come.
+    /// Whether no more lines about the connection come.
     pub fn is_end(&self) -> bool
         ensures { result ≡ (self.now.is_over && self.now.is_last) }
     {
@@ -82,15 +82,15 @@ impl Ending {
 /// The connections that are known.
 #[derive(Drop)]
 pub(crate) struct Connections {
-    // By their two ends, the last between them.
+    // The connections by their two endpoints, the one between these that began last.
     known: LruCache<String, Connection>,
-    // Those with a stream that lives, by which they are of all.
+    // The connections with a stream that lives, by their numbers.
     lives: HashMap<u64, Life>,
     begun: u64,
 }
 
 impl Connections {
-    /// No connections.
+    /// Makes a set without connections.
     pub(crate) fn new(alloc: Global) -> Result<Connections, AllocError> {
         Ok(Connections {
             known: LruCache::unbounded(alloc)?,
@@ -99,8 +99,8 @@ impl Connections {
         })
     }
 
-    /// The connection of a stream that begins: that of the stream that it is with, else the last of its endpoints, unless that
-    /// is over; else a new one.
+    /// The connection of a stream that begins. It is the connection of the stream that lives with it; or else the last one
+    /// of its endpoints, if that isn't over; or else a new one.
     pub(crate) fn begin(
         &mut self,
         alloc: Global,
@@ -121,7 +121,7 @@ impl Connections {
         Ok(of)
     }
 
-    /// The connection of a stream that begins.
+    /// Finds the connection of a stream that begins, or makes a new one.
     fn find(
         &mut self,
         alloc: Global,
@@ -160,7 +160,7 @@ impl Connections {
         })
     }
 
-    /// Notes the word that a stream of a connection closed with.
+    /// Notes the word with which a stream of a connection closed.
     pub(crate) fn close(
         &mut self,
         alloc: Global,
@@ -188,7 +188,7 @@ impl Connections {
         Ok(())
     }
 
-    /// Counts a stream of a connection that is over.
+    /// Counts a stream of a connection as over.
     pub(crate) fn end(&mut self, of: Of) -> Ending {
         let Some(life) = self.lives.get_mut(&of.id) else {
             return Ending {
@@ -204,14 +204,14 @@ impl Connections {
     }
 }
 
-/// Which of the two flows the one from the first endpoint to the second is.
+/// Which of the two flows goes from the first endpoint to the second: 0 or 1.
 fn side_of(ends: (&str, &str)) -> usize
     ensures { result < 2 }
 {
     if ends.0 <= ends.1 { 0 } else { 1 }
 }
 
-/// Both endpoints, the one whose text comes first before the other.
+/// Both endpoints, with a space between them. The one whose text comes first stands first.
 fn key_of(alloc: Global, ends: (&str, &str)) -> Result<String, AllocError> {
     let (first, second) = if side_of(ends) == 0 {
         ends

@@ -1,4 +1,4 @@
-//! A dump: its lines by stream and message, and when each of these is over.
+//! A dump: its lines by stream and message, and when a stream or message is over.
 
 use crate::connections::Ending;
 use crate::fault::ViewFault;
@@ -10,9 +10,9 @@ use giop_lines::{Line, Said, Start, Value};
 use giop_print::Out;
 use std::alloc::{AllocError, Global};
 
-/// What is made of messages and streams.
+/// Something that makes an output of messages and streams.
 pub trait Maker {
-    /// What is kept of a message beside its facts.
+    /// What is kept of a message in addition to its facts.
     type Own: Own;
 
     /// Takes a value of a message.
@@ -23,7 +23,7 @@ pub trait Maker {
         value: Value<'_>,
     ) -> Result<(), AllocError>;
 
-    /// Takes a line of a message that is neither of a value nor of a fact.
+    /// Takes a line of a message that is neither a value nor a fact.
     fn take_more(
         &mut self,
         _message: &mut Message<Self::Own>,
@@ -32,7 +32,7 @@ pub trait Maker {
         Ok(())
     }
 
-    /// Takes a message that is over, which was one of the open ones.
+    /// Takes a message that is over. It was open until now.
     fn end_message<O: Out>(
         &mut self,
         out: &mut O,
@@ -41,7 +41,7 @@ pub trait Maker {
         message: Box<Message<Self::Own>>,
     ) -> Result<(), ViewFault>;
 
-    /// Takes a line of a stream or of a capture, which the stream has noted.
+    /// Takes a line of a stream or of a capture. The stream has noted it already.
     fn take_of_stream<O: Out>(
         &mut self,
         out: &mut O,
@@ -49,7 +49,7 @@ pub trait Maker {
         said: Said<'_>,
     ) -> Result<(), ViewFault>;
 
-    /// Takes a stream that is over, after its messages, and how its connection is then.
+    /// Takes a stream that is over, after its messages, and what is then known about its connection.
     fn end_stream<O: Out>(
         &mut self,
         out: &mut O,
@@ -61,7 +61,7 @@ pub trait Maker {
     /// Writes all that is left, after the last stream.
     fn finish<O: Out>(&mut self, out: &mut O, open: &mut Open<Self::Own>) -> Result<(), ViewFault>;
 
-    /// Whether more is held than may be, with what the open messages hold.
+    /// Whether more is held than may be, together with what the open messages hold.
     #[inline]
     fn is_full(&self, _open: u64) -> bool {
         false
@@ -75,13 +75,13 @@ pub trait Maker {
         open: &mut Open<Self::Own>,
     ) -> Result<(), ViewFault>;
 
-    /// What had no room.
+    /// What there was no room for, if there was anything.
     fn notice(&self) -> Option<Notice> {
         None
     }
 }
 
-/// A dump whose lines come.
+/// A dump whose lines come one after another.
 #[derive(Drop)]
 pub struct Dump<V: Maker + Drop> {
     alloc: Global,
@@ -91,7 +91,7 @@ pub struct Dump<V: Maker + Drop> {
 }
 
 impl<V: Maker + Drop> Dump<V> {
-    /// A dump of which no line came.
+    /// Makes a dump before its first line.
     pub fn new(alloc: Global, maker: V) -> Result<Dump<V>, AllocError> {
         Ok(Dump {
             alloc,
@@ -101,7 +101,7 @@ impl<V: Maker + Drop> Dump<V> {
         })
     }
 
-    /// Takes a line that isn't of a value of the same message as the line before.
+    /// Takes a line that isn't a value of the same message as the line before.
     fn take_other<O: Out>(
         &mut self,
         out: &mut O,
@@ -115,7 +115,7 @@ impl<V: Maker + Drop> Dump<V> {
             self.end_current(out)?;
         }
         match self.open.current_key() {
-            // Its stream is known.
+            // The stream is known already.
             Some(current) if current.stream == key.stream => {}
             _ => self.enter_stream(out, key.stream)?,
         }
@@ -126,7 +126,7 @@ impl<V: Maker + Drop> Dump<V> {
         self.make_room(out)
     }
 
-    /// Knows a stream, in the place of the one that began first where there is no room.
+    /// Notes a stream. If there is no room for one more, the one that began first ends.
     fn enter_stream<O: Out>(&mut self, out: &mut O, stream: u64) -> Result<(), ViewFault> {
         if let Some(first) = self.streams.first_without_room(stream) {
             self.end_stream(out, first)?;
@@ -135,7 +135,7 @@ impl<V: Maker + Drop> Dump<V> {
         Ok(())
     }
 
-    /// Takes a line that tells of a message that has ended.
+    /// Takes a line about a message that has ended.
     fn take_after_end<O: Out>(
         &mut self,
         out: &mut O,
@@ -152,7 +152,7 @@ impl<V: Maker + Drop> Dump<V> {
         self.end_current(out)
     }
 
-    /// Ends the message that the last line was of.
+    /// Ends the message of the last line.
     fn end_current<O: Out>(&mut self, out: &mut O) -> Result<(), ViewFault> {
         match self.open.current_key() {
             None => Ok(()),
@@ -172,7 +172,7 @@ impl<V: Maker + Drop> Dump<V> {
             .end_message(out, &self.streams, &mut self.open, message)
     }
 
-    /// Ends an open message whose end is missing.
+    /// Ends an open message without the line that ends it.
     fn cut_message<O: Out>(&mut self, out: &mut O, key: Key) -> Result<(), ViewFault> {
         if let Some(stream) = self.streams.get_mut(key.stream) {
             stream.remove(key.number);
@@ -211,7 +211,8 @@ impl<V: Maker + Drop> Dump<V> {
         Ok(())
     }
 
-    /// Ends what the start of a message ends: an open one of its number, and the last that began, if that stands alone.
+    /// Ends what the start of a message ends: an open message of the same number, and the last message that began, if that
+    /// is in one piece.
     fn take_start<O: Out>(
         &mut self,
         out: &mut O,
@@ -235,7 +236,7 @@ impl<V: Maker + Drop> Dump<V> {
         Ok(())
     }
 
-    /// Begins a message that isn't open, in the place of the one that began first where there is no room.
+    /// Begins a message that isn't open. If there is no room for one more, the one that began first ends.
     fn begin_message<O: Out>(&mut self, out: &mut O, key: Key) -> Result<(), ViewFault> {
         if let Some(first) = self.open.first_without_room() {
             self.cut_message(out, first)?;
@@ -257,7 +258,7 @@ impl<V: Maker + Drop> Dump<V> {
         Ok(())
     }
 
-    /// Takes the end of the message that is current.
+    /// Takes the line that ends the current message.
     fn take_last<O: Out>(
         &mut self,
         out: &mut O,

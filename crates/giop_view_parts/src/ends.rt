@@ -1,4 +1,4 @@
-//! Names of ends and of objects, as users read them.
+//! The names of endpoints and objects, in the form that users read.
 
 ghost use Rattle.std.specs.Prelude.{◌<◌};
 
@@ -8,14 +8,14 @@ use std::alloc::AllocError;
 /// An endpoint.
 #[derive(Clone, Copy, Debug, Drop)]
 pub struct Endpoint<'a> {
-    /// Its address, without the brackets around one of IPv6; empty where nothing is known.
+    /// The address, without the brackets around an IPv6 address. It is empty if nothing is known.
     pub address: &'a str,
     /// Its port.
     pub port: Option<u64>,
 }
 
 impl<'a> Endpoint<'a> {
-    /// The endpoint that a text of a line names.
+    /// The endpoint that the text of a line names.
     pub fn of(end: &'a str) -> Endpoint<'a> {
         let (address, port) = match end.rsplit_once(':') {
             None => (end, None),
@@ -29,7 +29,7 @@ impl<'a> Endpoint<'a> {
     }
 }
 
-/// Appends octets, of each of which two hexadecimal digits are given, as the text of a line.
+/// Appends octets, given by two hexadecimal digits each, in the form of a line's text.
 pub fn object_text(text: &mut Vec<u8>, digits: &[u8]) -> Result<(), AllocError> {
     for pair in digits.chunks(2) {
         let [high, low] = pair else {

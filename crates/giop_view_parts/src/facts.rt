@@ -1,4 +1,4 @@
-//! What the lines of a message say beside its values.
+//! What the lines of a message tell in addition to its values.
 
 use crate::message::Key;
 use giop_cdr::Order;
@@ -6,23 +6,23 @@ use giop_json_values::Text;
 use giop_lines::{Answers, Call, Fault, Said, Start, Time, Value};
 use std::alloc::{AllocError, Global};
 
-/// What a message is, as far as a view tells them apart.
+/// What kind of message it is, as far as a view makes a difference.
 #[derive(Clone, Copy, Debug, Drop, PartialEq, Eq)]
 pub enum Kind {
     /// A Request.
     Request,
     /// A Reply.
     Reply,
-    /// Another that a client sends.
+    /// Another message that a client sends.
     OfClient,
-    /// Another that a server sends.
+    /// Another message that a server sends.
     OfServer,
-    /// One that either may send, or whose beginning is missing.
+    /// A message that either may send, or whose beginning is missing.
     Other,
 }
 
 impl Kind {
-    /// What the word of a message type says.
+    /// The kind of message that the word of a message type names.
     fn of(word: &[u8]) -> Kind {
         match word {
             b"Request" => Kind::Request,
@@ -33,7 +33,7 @@ impl Kind {
         }
     }
 
-    /// Whether a server sent it; None where either may have.
+    /// Whether a server sent it; None if a client may have sent it too.
     pub fn is_of_server(self) -> Option<bool> {
         match self {
             Kind::Request | Kind::OfClient => Some(false),
@@ -43,7 +43,7 @@ impl Kind {
     }
 }
 
-/// What the status of a Reply says of its body (GIOP ReplyStatusType).
+/// What the status of a Reply says about its body (GIOP ReplyStatusType).
 #[derive(Clone, Copy, Debug, Drop, PartialEq, Eq)]
 pub enum Status {
     /// No status came.
@@ -54,14 +54,14 @@ pub enum Status {
     User,
     /// A system exception.
     System,
-    /// A reference to which the call is to go.
+    /// A reference to the object that the call should be sent to.
     Forward,
-    /// How the object is to be named.
+    /// The way in which the object should be named.
     Addressing,
 }
 
 impl Status {
-    /// What the name of a status says.
+    /// The status that has this name.
     fn of(name: &[u8]) -> Status {
         match name {
             b"NO_EXCEPTION" => Status::Result,
@@ -79,15 +79,15 @@ impl Status {
 pub struct Header {
     /// The minor version.
     pub minor: u8,
-    /// The order of its octets.
+    /// The byte order of the message.
     pub order: Order,
-    /// Its size without the header, in octets.
+    /// How many octets follow the header.
     pub size: u32,
-    /// Whether Fragments go on with it.
+    /// Whether Fragments continue it.
     pub more: bool,
 }
 
-/// What the lines of a message say beside its values. What is empty, or 0, isn't known.
+/// What the lines of a message tell in addition to its values. What is empty, or 0, isn't known.
 #[derive(Drop)]
 pub struct Facts {
     /// The header, if the message's beginning was seen.
@@ -106,24 +106,24 @@ pub struct Facts {
     pub operation: Vec<u8>,
     /// The interface of a call.
     pub interface: Vec<u8>,
-    /// The call that it answers.
+    /// The call that a Reply answers.
     pub answers: Option<Key>,
     /// The seconds since that call.
     pub seconds: Vec<u8>,
-    /// Whether it is a Request that wants no reply.
+    /// Whether it is a Request that expects no reply.
     pub is_oneway: bool,
     /// The status of a Reply.
     pub status: Status,
     has_exception: bool,
-    /// The repository id of what it raises.
+    /// The repository id of the exception that a Reply raises.
     pub raises: Vec<u8>,
-    /// The message that it, a Fragment, goes on with.
+    /// The message that a Fragment continues.
     pub continues: u64,
-    /// The message that cancelled it.
+    /// The message that cancels it.
     pub cancelled_by: u64,
-    /// Whether it ended in the middle.
+    /// Whether its stream ended before it did.
     pub is_unfinished: bool,
-    /// Why it isn't read to its end.
+    /// Why it isn't read to its end, if it isn't.
     pub fault: Faulted,
 }
 
@@ -174,12 +174,13 @@ impl Facts {
         self.fault.clear();
     }
 
-    /// What the message is.
+    /// What kind of message it is.
     pub fn kind(&self) -> Kind {
         self.kind
     }
 
-    /// Whether, after its end, a line may still tell its time, what it answers or what it raises.
+    /// Whether, after the message's end, a line may still tell its time, the call that it answers, or the exception that it
+    /// raises.
     pub(crate) fn may_wait(&self) -> bool {
         let is_other = self.header.is_some() && self.kind != Kind::Reply;
         let is_whole = self.has_time && (is_other || self.answers.is_some());
@@ -187,7 +188,7 @@ impl Facts {
         !is_whole || has_raised && self.raises.is_empty()
     }
 
-    /// Notes what the header says of replies, and that an exception's id came.
+    /// Notes what the header says about replies, and that the id of an exception came.
     #[inline]
     pub(crate) fn note(&mut self, path: &[u8], value: Value<'_>) {
         match value {
@@ -205,7 +206,7 @@ impl Facts {
         }
     }
 
-    /// Takes a line that is of no value.
+    /// Takes a line that isn't a value.
     pub(crate) fn take(&mut self, said: Said<'_>) -> Result<(), AllocError> {
         match said {
             Said::Start(start) => self.take_start(start),
@@ -270,14 +271,14 @@ impl Facts {
 /// A fault, if there is one.
 #[derive(Drop)]
 pub struct Faulted {
-    /// Its word; empty where there is none.
+    /// The word of the fault. It is empty if there is none.
     pub word: Vec<u8>,
     /// The octet at which reading ended.
     pub place: u64,
 }
 
 impl Faulted {
-    /// No fault.
+    /// Makes one without a fault.
     pub fn new(alloc: Global) -> Faulted {
         Faulted {
             word: Vec::new(alloc),
@@ -285,12 +286,12 @@ impl Faulted {
         }
     }
 
-    /// No fault from now on.
+    /// Forgets the fault.
     pub fn clear(&mut self) {
         self.word.clear();
     }
 
-    /// Whether there is none.
+    /// Whether there is no fault.
     pub fn is_none(&self) -> bool {
         self.word.is_empty()
     }
@@ -314,13 +315,13 @@ impl Faulted {
     }
 }
 
-/// Puts octets in the place of others.
+/// Puts octets in place of those that were kept.
 pub fn replace(kept: &mut Vec<u8>, octets: &[u8]) -> Result<(), AllocError> {
     kept.clear();
     kept.extend_from_slice(octets)
 }
 
-/// Puts a text in the place of another, unless it says that nothing is known.
+/// Puts a text in place of the one that was kept, unless the text is `-`, which means that nothing is known.
 pub fn replace_known(kept: &mut Vec<u8>, octets: &[u8]) -> Result<(), AllocError> {
     if octets == b"-".as_slice() {
         return Ok(());

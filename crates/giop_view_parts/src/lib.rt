@@ -1,5 +1,5 @@
-//! What the views of dumps share: which messages are open and what their lines say, which streams and connections they are of,
-//! and when each is over.
+//! What the views of dumps have in common: the open messages and what their lines tell, their streams and connections, and
+//! when each of these is over.
 #![tactic(auto)]
 
 mod capture;

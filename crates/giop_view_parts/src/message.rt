@@ -10,7 +10,7 @@ use std::alloc::{AllocError, Global};
 /// The octets of the header of a message (GIOP Message Header).
 const HEADER: u64 = 12;
 
-/// Which message it is.
+/// The numbers that name a message.
 #[derive(Clone, Copy, Debug, Drop, PartialEq, Eq, PartialOrd, Ord, Hash)]
 pub struct Key {
     /// The number of its stream; 0 in a dump of one stream.
@@ -19,9 +19,9 @@ pub struct Key {
     pub number: u64,
 }
 
-/// What a view keeps of a message beside its facts.
+/// What a view keeps of a message in addition to its facts.
 pub trait Own: Drop {
-    /// Nothing is known of the message.
+    /// Makes one for a message that nothing is known of.
     fn new(alloc: Global) -> Self;
 
     /// Forgets all, for the next message.
@@ -31,22 +31,23 @@ pub trait Own: Drop {
     fn size(&self) -> u64;
 }
 
-/// A message, as far as its lines came.
+/// A message, as far as its lines have come.
 #[derive(Drop)]
 pub struct Message<M: Own> {
-    /// Which one it is.
+    /// The numbers that name it.
     pub key: Key,
     /// How many messages began before it.
     pub order: u64,
-    /// Whether it has ended, and one more line may tell of it.
+    /// Whether it has ended, but one more line may tell about it.
     pub is_waiting: bool,
     /// Whether the line that ends it came.
     pub has_ended: bool,
-    /// Its octets with its header and those of its Fragments, or 0 where they count for the one that it continues.
+    /// The number of its octets, with its header and those of its Fragments. It is 0 if the octets were counted for the
+    /// message that it continues.
     pub octets: u64,
-    /// How many Fragments go on with it.
+    /// How many Fragments continue it.
     pub fragments: u64,
-    /// What its lines say beside its values.
+    /// What its lines tell in addition to its values.
     pub facts: Facts,
     /// What the view keeps of it.
     pub own: M,
@@ -69,7 +70,7 @@ impl<M: Own> Message<M> {
         }
     }
 
-    /// Becomes another message, of which nothing is known; `order` is how many messages began before it.
+    /// Becomes another message, that nothing is known of. `order` is the number of messages that began before it.
     pub(crate) fn begin(&mut self, key: Key, order: u64) {
         self.key = key;
         self.order = order;
@@ -81,7 +82,7 @@ impl<M: Own> Message<M> {
         self.own.clear();
     }
 
-    /// Takes a line that is of no value.
+    /// Takes a line that isn't a value.
     pub(crate) fn take(&mut self, said: Said<'_>) -> Result<(), AllocError> {
         if let Said::Start(start) = said {
             self.octets = self
@@ -93,7 +94,7 @@ impl<M: Own> Message<M> {
         self.facts.take(said)
     }
 
-    /// Counts a Fragment of so many octets that goes on with it.
+    /// Counts a Fragment with this number of octets that continues it.
     pub(crate) fn join(&mut self, octets: u64)
         ensures { self.new.key ≡ self.old.key }
     {

@@ -1,4 +1,4 @@
-//! The open messages, and the one that the last line was of.
+//! The open messages, and the message of the last line.
 
 ghost use Rattle.std.specs.Prelude.{◌≡◌, Some, IfSome, option_map};
 
@@ -6,13 +6,13 @@ use crate::message::{Key, Message, Own};
 use crate::pool::{OF_A_MESSAGE, Place, Pool, Rank, rank};
 use std::alloc::{AllocError, Global};
 
-/// How many messages may be open; the one that began first ends where there is one more.
+/// The greatest number of open messages. If there is one more, the one that began first ends.
 pub const OPEN_MAX: usize = 65_536;
 
-/// How many messages that are over are kept for the room of their texts.
+/// The greatest number of messages that are over and are kept for the room of their texts.
 const SPARE_MAX: usize = 16;
 
-/// Under its own key.
+/// A message waits under its own key.
 #[derive(Drop)]
 pub struct OwnKey;
 
@@ -20,7 +20,8 @@ impl Place for OwnKey {
     ghost place = { λ own _. Some own };
 }
 
-/// The open messages. The one that the last line was of stands apart, since most lines are of the same one as the line before.
+/// The open messages. The message of the last line is kept apart, because most lines are of the same message as the line
+/// before.
 #[derive(Drop)]
 pub struct Open<M: Own> {
     current: Option<Box<Message<M>>>,
@@ -30,7 +31,7 @@ pub struct Open<M: Own> {
 }
 
 impl<M: Own> Open<M> {
-    /// None is open.
+    /// Makes a set in which none is open.
     pub(crate) fn new(alloc: Global) -> Open<M> {
         Open {
             current: None,
@@ -40,7 +41,7 @@ impl<M: Own> Open<M> {
         }
     }
 
-    /// The message that the last line was of.
+    /// The message of the last line.
     #[inline]
     pub fn current(&mut self) -> Option<&mut Message<M>> {
         match &mut self.current {
@@ -49,7 +50,7 @@ impl<M: Own> Open<M> {
         }
     }
 
-    /// Which message the last line was of.
+    /// The key of the message of the last line.
     #[inline]
     pub fn current_key(&self) -> Option<Key>
         ensures { result ≡ option_map (λ m. m.value.key) self.now.current }
@@ -60,7 +61,7 @@ impl<M: Own> Open<M> {
         }
     }
 
-    /// Whether the current one has ended, and may have a line more.
+    /// Whether the current message has ended, but one more line may tell about it.
     #[inline]
     pub(crate) fn is_waiting(&self) -> bool {
         match &self.current {
@@ -84,7 +85,7 @@ impl<M: Own> Open<M> {
         current.saturating_add(self.others.held())
     }
 
-    /// Takes a message from among the open ones.
+    /// Takes a message out of the open ones.
     pub fn remove(&mut self, key: Key) -> Option<Box<Message<M>>>
         ensures { IfSome result (λ m. m.value.key ≡ key) }
     {
@@ -94,7 +95,7 @@ impl<M: Own> Open<M> {
         self.others.remove(key)
     }
 
-    /// Puts back a message whose text has become less.
+    /// Puts back a message whose text has become shorter.
     pub fn put_back(
         &mut self,
         message: Box<Message<M>>,
@@ -107,7 +108,7 @@ impl<M: Own> Open<M> {
         self.others.insert(message.key, message)
     }
 
-    /// Makes a message the current one. Answers whether it is open; if not, none is current.
+    /// Makes a message the current one. Returns whether it is open; if it isn't, there is no current message.
     pub(crate) fn select(&mut self, key: Key) -> Result<bool, AllocError> {
         if self.current_key() == Some(key) {
             return Ok(true);
@@ -122,7 +123,7 @@ impl<M: Own> Open<M> {
         Ok(self.current.is_some())
     }
 
-    /// The message that began first, where there is no room for one more.
+    /// The message that began first, if there is no room for one more.
     pub(crate) fn first_without_room(&self) -> Option<Key> {
         if self.others.len() < OPEN_MAX {
             return None;
@@ -158,7 +159,7 @@ impl<M: Own> Open<M> {
         }
     }
 
-    /// Counts the current message, a Fragment, for the one that it continues, if that is open.
+    /// Counts the octets of the current message, a Fragment, for the message that it continues, if that is open.
     pub(crate) fn join(&mut self, number: u64) -> Result<(), AllocError> {
         let Some(fragment) = &mut self.current else {
             return Ok(());
@@ -175,7 +176,8 @@ impl<M: Own> Open<M> {
         Ok(())
     }
 
-    /// The message that holds the most text, of several the one that began first; None where none holds text.
+    /// The message that holds the most text. If several hold the same, it is the one that began first. None if no message
+    /// holds text.
     pub fn most(&self) -> Option<(Rank, Key)> {
         let other = self.others.most();
         match &self.current {
@@ -188,7 +190,7 @@ impl<M: Own> Open<M> {
     }
 }
 
-/// Which of two holds more text.
+/// The one of two messages that holds more text.
 pub fn greater(one: Option<(Rank, Key)>, other: Option<(Rank, Key)>) -> Option<(Rank, Key)> {
     match (one, other) {
         (Some((rank, _)), Some((most, _))) if rank < most => other,

@@ -1,4 +1,4 @@
-//! Messages by their keys, by when they began, and by how much text is held of them.
+//! Messages by their keys, by when they began, and by how much text they hold.
 
 ghost use Rattle.std.specs.Prelude.{◌≡◌, Some, IfSome};
 
@@ -7,10 +7,11 @@ use std::alloc::{AllocError, Global};
 use std::collections::{BTreeMap, HashMap};
 use std::marker::{Model, PhantomData};
 
-/// What is held of a message beside its text counts as so many octets.
+/// How many octets a message counts as, in addition to its text.
 pub(crate) const OF_A_MESSAGE: u64 = 1_024;
 
-/// How much text a message holds, and which it is: of two with as much the one that began first is the greater.
+/// How much text a message holds, and when it began. Of two messages with equal texts the one that began first has the
+/// greater rank.
 pub type Rank = (u64, u64);
 
 /// The rank of a message.
@@ -18,22 +19,22 @@ pub(crate) fn rank<M: Own>(message: &Message<M>) -> Rank {
     (message.own.size(), u64::MAX - message.order)
 }
 
-/// Under which key a message waits.
+/// The key under which a message waits.
 pub trait Place {
     ghost use Rattle.std.specs.Prelude.{Option};
     ghost use Rattle.giop_view_parts.specs.declared.message.Key.{Key};
 
-    /// By its own key, and by that of the call that it answers.
+    /// The key for a message, by its own key and by the key of the call that it answers.
     ghost place: { Key → Option Key → Option Key };
 }
 
-/// Messages that wait, each under the key of its place.
+/// Messages that wait, each under its key.
 #[derive(Drop)]
 pub struct Pool<M: Own, P: Place> {
     place: PhantomData<P>,
     messages: HashMap<Key, Box<Message<M>>>,
     by_order: BTreeMap<u64, Key>,
-    // Those that hold text.
+    // The messages that hold text.
     by_text: BTreeMap<Rank, Key>,
     text: u64,
 }
@@ -53,7 +54,7 @@ impl<M: Own, P: Place> Model for Pool<M, P> {
 }
 
 impl<M: Own, P: Place> Pool<M, P> {
-    /// None waits.
+    /// Makes a pool without messages.
     pub fn new(alloc: Global) -> Pool<M, P> {
         Pool {
             place: PhantomData,
@@ -64,12 +65,12 @@ impl<M: Own, P: Place> Pool<M, P> {
         }
     }
 
-    /// How many wait.
+    /// How many messages wait.
     pub fn len(&self) -> usize {
         self.messages.len()
     }
 
-    /// Whether one waits under a key.
+    /// Whether a message waits under this key.
     pub fn contains(&self, key: Key) -> bool {
         self.messages.contains_key(&key)
     }
@@ -114,7 +115,8 @@ impl<M: Own, P: Place> Pool<M, P> {
         Some(*key)
     }
 
-    /// The message that holds the most text, of several the one that began first; None where none holds text.
+    /// The message that holds the most text. If several hold the same, it is the one that began first. None if no message
+    /// holds text.
     pub fn most(&self) -> Option<(Rank, Key)> {
         let (rank, key) = self.by_text.last_key_value()?;
         Some((*rank, *key))

@@ -6,10 +6,10 @@ use giop_lines::{Said, StreamStart, Total};
 use lru::LruCache;
 use std::alloc::{AllocError, Global};
 
-/// How many streams are known; the one that began first ends where there is one more.
+/// The greatest number of streams that are known. If there is one more, the one that began first ends.
 const STREAMS_MAX: usize = 131_072;
 
-/// A stream, as far as its lines came. What is empty, or 0, isn't known.
+/// A stream, as far as its lines have come. What is empty, or 0, isn't known.
 #[derive(Drop)]
 pub struct Stream {
     /// Its number; 0 in a dump of one stream.
@@ -22,25 +22,25 @@ pub struct Stream {
     pub target: Vec<u8>,
     /// When it began.
     pub time: Vec<u8>,
-    /// The last time of a message.
+    /// The time of its last message.
     pub last: Vec<u8>,
-    /// The stream of the other direction that lived when it began.
+    /// The stream of the opposite direction that lived when it began.
     pub with: u64,
-    /// The packet after which it began.
+    /// How many octets of its flow come before it.
     pub behind: u64,
     /// Whether its beginning was found in the middle of a flow.
     pub is_found: bool,
-    /// The word that it closed with.
+    /// The word with which it closed.
     pub closed: Vec<u8>,
-    /// Why it isn't read to its end.
+    /// Why it isn't read to its end, if it isn't.
     pub fault: Faulted,
     /// Its totals.
     pub total: Option<Total>,
-    /// Whether a line tells of the stream itself.
+    /// Whether a line told something about the stream itself.
     pub is_told: bool,
-    /// Whether a server sends it, by the last message that tells.
+    /// Whether a server sends it, by the last message from which that can be told.
     pub is_of_server: bool,
-    // The last message that began, if it has no `more` or is a Fragment; else 0.
+    // The last message that began, if its first line has no `more` or it is a Fragment; else 0.
     alone: u64,
     // The open messages, in the order in which they began.
     open: Vec<u64>,
@@ -68,7 +68,7 @@ impl Stream {
         }
     }
 
-    /// The client's endpoint and the server's.
+    /// The endpoints of the client and of the server.
     pub fn ends(&self) -> (&[u8], &[u8]) {
         if self.is_of_server {
             (&self.target, &self.source)
@@ -77,7 +77,7 @@ impl Stream {
         }
     }
 
-    /// Notes who sends it, if a message of this kind tells.
+    /// Notes whether a server sends the stream, if a message of this kind tells it.
     pub(crate) fn turn(&mut self, kind: Kind) {
         if let Some(is_of_server) = kind.is_of_server() {
             self.is_of_server = is_of_server;
@@ -89,14 +89,14 @@ impl Stream {
         replace_known(&mut self.last, time)
     }
 
-    /// Notes the last message that began, which stands alone or is 0. Gives the one before.
+    /// Notes the last message that began, if it is in one piece, or 0. Returns the one before.
     pub(crate) fn begin_alone(&mut self, message: u64) -> u64 {
         let before = self.alone;
         self.alone = message;
         before
     }
 
-    /// Knows an open message.
+    /// Notes an open message.
     pub(crate) fn enter(&mut self, message: u64) -> Result<(), AllocError> {
         self.open.push(message)?;
         Ok(())
@@ -111,7 +111,7 @@ impl Stream {
         }
     }
 
-    /// The open messages, which it forgets.
+    /// Takes the open messages away, and gives them.
     pub(crate) fn take_open(&mut self, alloc: Global) -> Vec<u64> {
         std::mem::replace(&mut self.open, Vec::new(alloc))
     }
@@ -131,7 +131,7 @@ impl Stream {
     }
 }
 
-/// The streams that aren't over, and the connections that they are of.
+/// The streams that aren't over, and their connections.
 #[derive(Drop)]
 pub struct Streams {
     alloc: Global,
@@ -148,17 +148,17 @@ impl Streams {
         })
     }
 
-    /// The stream of a number.
+    /// The stream of this number.
     pub fn get(&self, number: u64) -> Option<&Stream> {
         self.streams.peek(&number)
     }
 
-    /// The stream of a number.
+    /// The stream of this number, for writing.
     pub(crate) fn get_mut(&mut self, number: u64) -> Option<&mut Stream> {
         self.streams.peek_mut(&number)
     }
 
-    /// The stream that began first, where there is no room for one of this number.
+    /// The stream that began first, if there is no room for the stream of this number.
     pub(crate) fn first_without_room(&self, number: u64) -> Option<u64> {
         if self.streams.len() < STREAMS_MAX || self.streams.contains(&number) {
             return None;
@@ -172,12 +172,12 @@ impl Streams {
         Some(*number)
     }
 
-    /// How many there are.
+    /// How many streams there are.
     pub(crate) fn len(&self) -> usize {
         self.streams.len()
     }
 
-    /// Knows a stream.
+    /// Notes a stream.
     pub(crate) fn enter(&mut self, number: u64) -> Result<(), AllocError> {
         if !self.streams.contains(&number) {
             self.streams.put(number, Stream::new(self.alloc, number))?;
@@ -185,7 +185,7 @@ impl Streams {
         Ok(())
     }
 
-    /// Forgets a stream. Answers how its connection is then.
+    /// Forgets a stream. Returns what is then known about its connection.
     pub(crate) fn end(&mut self, number: u64) -> Option<(Stream, Ending)> {
         let stream = self.streams.pop(&number)?;
         let ending = match stream.connection {
@@ -198,7 +198,7 @@ impl Streams {
         Some((stream, ending))
     }
 
-    /// Takes a line of a stream itself.
+    /// Takes a line about a stream itself.
     pub(crate) fn take(&mut self, number: u64, said: Said<'_>) -> Result<(), AllocError> {
         match said {
             Said::Stream(start) => self.begin(number, start),
@@ -242,7 +242,7 @@ impl Streams {
         stream.take_start(start)
     }
 
-    /// Notes the word that a stream closed with.
+    /// Notes the word with which a stream closed.
     fn close(&mut self, number: u64, word: &[u8]) -> Result<(), AllocError> {
         let Some(stream) = self.streams.peek_mut(&number) else {
             return Ok(());
@@ -259,7 +259,7 @@ impl Streams {
     }
 }
 
-/// Octets of a line, which are text; none where they are no text.
+/// Octets of a line as text. If they aren't text, it is empty.
 fn text_of(octets: &[u8]) -> &str {
     str::from_utf8(octets).unwrap_or_default()
 }

@@ -1,13 +1,13 @@
-//! What takes the lines of a dump, and writes what it makes of them.
+//! Something that takes the lines of a dump, and writes what it makes of them.
 
 use crate::fault::ViewFault;
 use giop_lines::{Line, Said};
 use giop_print::Out;
 
-/// What is said once at the end of what had no room.
+/// What is printed once at the end about the things that there was no room for.
 #[derive(Clone, Copy, Debug, Drop)]
 pub struct Notice {
-    /// How many of them there are.
+    /// How many of these things there are.
     pub count: u64,
     /// What they are: `message` or `call`.
     pub noun: &'static str,
@@ -17,15 +17,15 @@ pub struct Notice {
     pub is_loss: bool,
 }
 
-/// What takes the lines of a dump, and writes what it makes of them.
+/// Something that takes the lines of a dump, and writes what it makes of them.
 pub trait View {
-    /// Takes a line, and writes what is due then.
+    /// Takes a line, and writes what is due after it.
     fn take<O: Out>(&mut self, out: &mut O, line: Line<'_>) -> Result<(), ViewFault>;
 
-    /// Writes all that is left: no more lines come.
+    /// Writes all that is left, because no more lines come.
     fn finish<O: Out>(&mut self, out: &mut O) -> Result<(), ViewFault>;
 
-    /// What had no room, if something can have none.
+    /// What there was no room for, if there is anything that may have no room.
     fn notice(&self) -> Option<Notice>;
 }
 
@@ -37,7 +37,7 @@ pub(crate) fn is_last(said: Said<'_>) -> bool {
     )
 }
 
-/// Whether a line may tell of a message that has ended.
+/// Whether a line may tell about a message that has ended.
 pub(crate) fn is_after_end(said: Said<'_>) -> bool {
     matches!(said, Said::Time(_) | Said::Answers(_) | Said::Raises(_))
 }

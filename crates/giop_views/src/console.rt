@@ -1,4 +1,4 @@
-//! A view of a file or of standard input, and what is said of it.
+//! How a program views a file or standard input, and what it prints about that.
 
 ghost use Rattle.std.specs.Prelude.{◌≤◌};
 
@@ -9,14 +9,14 @@ use giop_run::{
 };
 use giop_view_parts::{Dump, Maker, Notice, View, ViewFault};
 
-/// The status where a line is none of a dump.
+/// The status if a line isn't one of a dump.
 const UNKNOWN: u8 = 3;
 
-/// The status where nobody reads what is written.
+/// The status if nobody reads what is written.
 const UNREAD: u8 = 4;
 
-/// Makes of the lines of a file, or of standard input, what the program of this name makes of them, on standard output;
-/// returns the status of the program, after what is said of the run.
+/// Writes to standard output what the program of this name makes of the lines of a file, or of standard input. Returns the
+/// status of the program, after it has printed what there is to say about the run.
 pub fn viewed<V: Maker + Drop>(rt: &HostRuntime, program: &str, file: Option<&str>, maker: V) -> u8
     ensures { result ≤ 5 }
 {
@@ -32,7 +32,7 @@ pub fn viewed<V: Maker + Drop>(rt: &HostRuntime, program: &str, file: Option<&st
     }
 }
 
-/// The same of what a source gives.
+/// Does the same for the lines of a source.
 fn view_source<S: Source + Drop, V: View>(
     rt: &HostRuntime,
     program: &str,
@@ -59,7 +59,7 @@ fn view_source<S: Source + Drop, V: View>(
     }
 }
 
-/// Says which line no dump has, if one came.
+/// Prints which line no dump can have, if there was one.
 fn say_unknown(rt: &HostRuntime, program: &str, file: Option<&str>, report: Report) {
     let Some(number) = report.unknown else {
         return;
@@ -77,7 +77,7 @@ fn say_unknown(rt: &HostRuntime, program: &str, file: Option<&str>, report: Repo
     );
 }
 
-/// Says how many had no room, if some had not. Answers whether something that was due is missing.
+/// Prints how many things there was no room for, if there were any. Returns whether something that was due is missing.
 fn say_notice(rt: &HostRuntime, program: &str, notice: Option<Notice>) -> bool {
     match notice {
         Some(notice) if notice.count > 0 => {
@@ -92,7 +92,7 @@ fn say_notice(rt: &HostRuntime, program: &str, notice: Option<Notice>) -> bool {
     }
 }
 
-/// The status of a run, after what is said of a source that failed.
+/// The status of a run. If the source failed, prints that first.
 fn status(rt: &HostRuntime, program: &str, report: Report, is_lost: bool) -> u8
     ensures { result ≤ 5 }
 {

@@ -1,4 +1,4 @@
-//! The lines of a source, one after the other.
+//! The lines of a source, one after another.
 
 ghost use Rattle.std.specs.Prelude.{◌≤◌, length};
 
@@ -7,10 +7,10 @@ use giop_run::{Look, Source, SourceFault};
 use memchr::memchr;
 use std::alloc::{AllocError, Global};
 
-/// How many octets are read at once.
+/// The greatest number of octets that are read at once.
 const READ: usize = 65_536;
 
-/// Octets that were read, of which the first are lines that were taken.
+/// Octets that were read. Lines were taken from the first of them.
 #[derive(Drop)]
 pub struct Input {
     room: Vec<u8>,
@@ -22,7 +22,7 @@ pub struct Input {
 }
 
 impl Input {
-    /// Nothing was read.
+    /// Makes one that has read nothing.
     pub fn new(alloc: Global) -> Result<Input, AllocError> {
         Ok(Input {
             room: vec![in alloc; 0; LINE_MAX + 1 + READ]?,
@@ -37,12 +37,12 @@ impl Input {
         self.number
     }
 
-    /// Whether what was read begins as a capture, where no line but the first was given.
+    /// Whether what was read begins as a capture does, if only the first line was given.
     pub fn begins_capture(&self) -> bool {
         self.number == 1 && Look::of(&self.room[..self.end]) == Look::Capture
     }
 
-    /// Reads once. Answers whether octets came.
+    /// Reads once. Returns whether octets came.
     pub fn read<S: Source>(&mut self, source: &mut S) -> Result<bool, SourceFault> {
         let left = self.end - self.start;
         self.room.copy_within(self.start..self.end, 0);
@@ -55,7 +55,8 @@ impl Input {
         Ok(given > 0)
     }
 
-    /// The next line that was read whole, without its LF; else what is longer than any line; None where more has to be read.
+    /// The next line that was read as a whole, without its LF, or octets that are longer than any line. None if more must
+    /// be read.
     #[inline]
     pub fn next(&mut self) -> Option<&[u8]> {
         let left = &self.room[self.start..self.end];

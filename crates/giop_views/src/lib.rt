@@ -1,4 +1,4 @@
-//! What the programs that read the lines of a dump do around their steps (docs/FORMATS.md, JSON and Counts).
+//! What the programs that read the lines of a dump have in common around their steps (docs/FORMATS.md, JSON and Counts).
 #![tactic(auto)]
 
 mod console;

@@ -1,4 +1,4 @@
-//! The lines of a source through a view to an out.
+//! The lines of a source, given to a view that writes to an out.
 
 use crate::input::Input;
 use giop_lines::read;
@@ -9,16 +9,16 @@ use std::alloc::Global;
 /// How a run ended.
 #[derive(Clone, Copy, Debug, Drop, PartialEq, Eq)]
 pub(crate) struct Report {
-    /// The number of the line that no dump has, if one came.
+    /// The number of the line that no dump can have, if there was one.
     pub(crate) unknown: Option<u64>,
-    /// Whether the first line is one, and begins as a capture.
+    /// Whether that is the first line, and it begins as a capture does.
     pub(crate) is_capture: bool,
     /// Whether the source failed.
     pub(crate) is_unread: bool,
 }
 
-/// Hands the lines of a source to a view, and what that writes is flushed before each read. At a line that no dump has, and
-/// where the source fails, the view ends as at the end of the dump.
+/// Gives the lines of a source to a view. What the view writes is flushed before each read. At a line that no dump can
+/// have, and if the source fails, the view ends as at the end of the dump.
 pub(crate) fn run<S: Source, O: Flush, V: View>(
     alloc: Global,
     source: &mut S,
@@ -59,7 +59,7 @@ fn flush<O: Flush>(out: &mut O) -> Result<(), ViewFault> {
     }
 }
 
-/// Takes the lines that were read. Answers whether each is one of a dump.
+/// Takes the lines that were read. Returns whether each of them is one of a dump.
 fn take_lines<O: Flush, V: View>(
     input: &mut Input,
     out: &mut O,

@@ -1,4 +1,4 @@
-//! A writer that remembers whether its reader has gone.
+//! A writer that notes whether its reader is gone.
 
 ghost use Rattle.std.specs.Io.{WritesAtMost};
 ghost use Rattle.std.specs.Io.KnownBytes.{WriteAppends};
@@ -6,7 +6,7 @@ ghost use Rattle.std.specs.Io.KnownBytes.{WriteAppends};
 use std::io;
 use std::io::{ErrorKind, Write};
 
-/// A writer that remembers whether a write failed because nobody reads what it writes.
+/// A writer that notes whether a write failed because nobody reads what it writes.
 #[derive(Drop)]
 pub(crate) struct Watching<W> {
     inner: W,

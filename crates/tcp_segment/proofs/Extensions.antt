@@ -1,4 +1,4 @@
--- What is after the extension headers of an IPv6 packet, header by header.
+-- What comes after the extension headers of an IPv6 packet, header by header.
 use Rattle.std.proofs.Common.{◌≡◌, ℕ, zero, suc, ◌+◌, ◌≤◌, true, false, List, Some, None, arith, refl, add-one}
 use Rattle.tcp_segment.specs.Datagrams.{is_extension, extension_size, behind_extension, behind_extensions}
 

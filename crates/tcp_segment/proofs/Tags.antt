@@ -1,4 +1,4 @@
--- What is after the tags of a frame, tag by tag.
+-- What comes after the tags of a frame, tag by tag.
 use Rattle.std.proofs.Common.{◌≡◌, ℕ, zero, suc, ◌+◌, true, false, List, Some, None, refl, add-one}
 use Rattle.tcp_segment.specs.Frames.{is_tag, behind_tag, behind_tags}
 

@@ -1,4 +1,5 @@
--- The run of zeros that an address's text leaves out is the longest, and of equal ones the first.
+-- The run of zeros that the text of an address leaves out is the longest one, and the first one if
+-- several are equally long.
 use Rattle.std.proofs.Common.{◌≡◌, ℕ, zero, suc, ◌+◌, ◌<◌, ◌≤◌, Bool, true, false, nat_le, if◌then◌else◌, List, [], ◌∷◌, length, refl, arith, add-one}
 use Rattle.std.specs.Net.Text.{zero_run, longest_zero_run}
 use Rattle.tcp_segment.specs.EndpointText.{AreZeros, IsLongestRun}
@@ -37,7 +38,7 @@ run_longest (s ∷ rest) (suc count) fits zeros =
     (behind s rest 0 count (λ k low high. zeros k (omega arith) (omega arith))) in
     grind (arith, first, more)
 
--- ---- The choice between the run at the front and the longest one after the first group.
+-- ---- The choice between the run at the front and the longest run after the first group.
 
 module _ (s : ℕ) (rest : List ℕ) (start len : ℕ) (of : IsLongestRun rest start len) where
   longest_here : len ≤ zero_run (s ∷ rest) → (at count : ℕ) → at + count ≤ length (s ∷ rest)

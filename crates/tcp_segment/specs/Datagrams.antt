@@ -1,6 +1,6 @@
--- What an IP packet carries for TCP, and between which addresses (RFC 791, Internet Header Format;
--- RFC 8200, IPv6 Header Format and IPv6 Extension Headers; RFC 4302, Authentication Header Format;
--- meaning).
+-- What an IP packet carries for TCP, and the addresses that it goes from and to (RFC 791, Internet
+-- Header Format; RFC 8200, IPv6 Header Format and IPv6 Extension Headers; RFC 4302, Authentication
+-- Header Format; meaning).
 use Rattle.std.specs.Prelude.{ℕ, zero, suc, ◌+◌, ◌*◌, ◌/◌, ◌%◌, Bool, not, ◌&&◌, ◌||◌, List, length, take, drop, slice_index, Option, Some, option_map, nat_le, ◌==◌, if◌then◌else◌}
 use Rattle.tcp_segment.specs.declared.endpoint.Address.{Address}
 use Rattle.tcp_segment.specs.declared.endpoint.Address.TheVariants as addresses
@@ -10,35 +10,35 @@ use Rattle.tcp_segment.specs.declared.datagram.Datagram as code
 use Rattle.tcp_segment.specs.Octets.{◌>>=◌, provided, octets_at, two_at}
 use Rattle.tcp_segment.specs.Frames.{Packet}
 
--- a TCP segment, and between which addresses it goes
+-- a TCP segment, and the addresses that it goes from and to
 pub record Datagram : Type 0 where
   pub source : Address
   pub destination : Address
   pub octets : List ℕ
 
--- what a length field leaves of octets: 0 stands for all, since the packet of a segment that the
--- sender's hardware is still to cut has a length that fits no field
+-- the first octets, as many as a length field says; 0 means all, because the packet of a segment
+-- that the sender's hardware will cut later has a length that fits no field
 unfoldable pub limited : ℕ → List ℕ → List ℕ
 limited size octets = if size == 0 then octets else take size octets
 
--- the protocol number of TCP
+-- 6 is the protocol number of TCP
 abbrev pub is_tcp : ℕ → Bool
 is_tcp protocol = protocol == 6
 
 -- ---- IPv4.
 
--- three flags, of which the last is More Fragments, and the fragment offset
+-- three flags, of which the last one is More Fragments, and the fragment offset
 abbrev pub is_fragment : ℕ → Bool
 is_fragment field = field / 0x2000 % 2 == 1 || not (field % 0x2000 == 0)
 
--- the version, the protocol, and that the packet is no fragment
+-- the version is 4, the protocol is TCP, and the packet is no fragment
 abbrev pub carries_whole_tcp : List ℕ → Bool
 carries_whole_tcp octets =
     slice_index octets 0 / 16 == 4 && is_tcp (slice_index octets 9)
     && not (is_fragment (two_at 6 octets))
 
--- the header has as many octets as its Internet Header Length says, in words of four, and at least
--- 20
+-- the header has as many octets as its Internet Header Length says, in words of four octets, and at
+-- least 20
 abbrev pub behind_header : List ℕ → List ℕ → Option Datagram
 behind_header octets packet =
     let header = slice_index octets 0 % 16 * 4 in
@@ -48,7 +48,7 @@ behind_header octets packet =
       octets = drop header packet;
     }))
 
--- what is after the total length is no part of the packet
+-- what comes after the total length is no part of the packet
 unfoldable pub ipv4 : List ℕ → Option Datagram
 ipv4 octets =
     provided (nat_le 20 (length octets) && carries_whole_tcp octets)
@@ -61,26 +61,28 @@ abbrev pub is_extension : ℕ → Bool
 is_extension header =
     header == 0 || header == 43 || header == 44 || header == 51 || header == 60
 
--- its length field counts 8 octets beyond the first 8; that of an authentication header 4 beyond
--- the first 8; a fragment header has none
+-- the length field of an extension header counts units of 8 octets after the first 8, but the
+-- length field of an authentication header counts units of 4 octets after the first 8; a fragment
+-- header has no length field
 abbrev pub extension_size : ℕ → List ℕ → ℕ
 extension_size header octets =
     if header == 44 then 8
     else (if header == 51 then (slice_index octets 1 + 2) * 4 else (slice_index octets 1 + 1) * 8)
 
--- a fragment offset, two bits without a use, and M: whether there are more fragments
+-- a fragment offset, two unused bits, and the flag M, which says that more fragments follow
 abbrev pub is_cut_extension : ℕ → List ℕ → Bool
 is_cut_extension header octets =
     let field = two_at 2 octets in header == 44 && (not (field / 8 == 0) || field % 2 == 1)
 
--- the next header and its octets, after an extension header that is there whole and no fragment's
+-- the number of the header after an extension header, and its octets, if the extension header is
+-- whole and doesn't belong to a fragment
 unfoldable pub behind_extension : ℕ → List ℕ → Option (ℕ × List ℕ)
 behind_extension header octets =
     provided
     (nat_le (extension_size header octets) (length octets) && not (is_cut_extension header octets))
     (Some (slice_index octets 0, drop (extension_size header octets) octets))
 
--- the next header after at most so many extension headers, and its octets
+-- the number of the header after at most this number of extension headers, and its octets
 unfoldable pub behind_extensions : ℕ → ℕ → List ℕ → Option (ℕ × List ℕ)
 behind_extensions zero header octets = Some (header, octets)
 behind_extensions (suc more) header octets =
@@ -88,11 +90,11 @@ behind_extensions (suc more) header octets =
     then (behind_extension header octets >>= (λ next. behind_extensions more next.0 next.1))
     else Some (header, octets)
 
--- the payload length counts what is after the header of 40 octets
+-- the payload length counts what comes after the header of 40 octets
 unfoldable pub payload_of : List ℕ → List ℕ
 payload_of octets = limited (two_at 4 octets) (drop 40 octets)
 
--- what is after the last header, where that names TCP
+-- what comes after the last header, if that names TCP
 unfoldable pub behind_headers : List ℕ → Option (List ℕ)
 behind_headers octets = do
   upper ← behind_extensions 8 (slice_index octets 6) (payload_of octets)
@@ -105,7 +107,7 @@ between_hosts octets upper = record {
   octets = upper;
 }
 
--- the header has 40 octets
+-- the IPv6 header has 40 octets
 unfoldable pub ipv6 : List ℕ → Option Datagram
 ipv6 octets =
     provided (nat_le 40 (length octets) && slice_index octets 0 / 16 == 6)

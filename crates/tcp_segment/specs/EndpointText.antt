@@ -1,9 +1,9 @@
--- The text of an endpoint (meaning): an IPv4 address as four decimal numbers, an IPv6 address in
--- brackets (RFC 3986, Host) in its canonical form (RFC 5952), a colon, and the port.
+-- The text of an endpoint (meaning): an IPv4 address as four decimal numbers, or an IPv6 address in
+-- brackets (RFC 3986, Host) in its canonical form (RFC 5952); then a colon, and the port.
 --
--- The canonical form is std's: each group of 16 bits in lower-case hexadecimal digits without
--- leading zeros, `::` for a run of two or more groups of zeros (IsLongestRun says which), and the
--- IPv4 address of an IPv4-mapped one in decimal.
+-- The canonical form is the form of std: each group of 16 bits in lower-case hexadecimal digits
+-- without leading zeros, `::` for a run of two or more zero groups (IsLongestRun says which), and
+-- the IPv4 address of an IPv4-mapped one in decimal.
 use Rattle.std.specs.Prelude.{◌≡◌, ℕ, ◌+◌, ◌<◌, ◌≤◌, List, ◌++◌, length, slice_index, codes, decimal}
 use Rattle.std.specs.Net.Addr.{segments_of}
 use Rattle.std.specs.Net.Text.{ipv4_text, ipv6_text}
@@ -11,12 +11,12 @@ use Rattle.tcp_segment.specs.declared.endpoint.Address.{Address}
 use Rattle.tcp_segment.specs.declared.endpoint.Address.TheVariants.{V4, V6}
 use Rattle.tcp_segment.specs.declared.endpoint.Endpoint.{Endpoint}
 
--- so many groups from one on are zeros
+-- from an index on, this number of groups are zeros
 abbrev pub AreZeros : List ℕ → ℕ → ℕ → Type 0
 AreZeros groups at count = (k : ℕ) → at ≤ k → k < at + count → slice_index groups k ≡ 0
 
--- the run of zeros that `::` stands for is the longest, and of equal ones the first (RFC 5952,
--- Choice in Placement of "::")
+-- the run of zeros that `::` stands for is the longest one, and the first one if several are
+-- equally long (RFC 5952, Choice in Placement of "::")
 pub record IsLongestRun (groups : List ℕ) (start len : ℕ) : Type 0 where
   pub within : start + len ≤ length groups
   pub zeros : AreZeros groups start len

@@ -1,5 +1,5 @@
--- What is in a frame, by the link type of the capture: an IP packet and its version (IEEE 802.3,
--- IEEE 802.1Q, the link-layer header types of tcpdump; meaning).
+-- The IP packet in a frame, and its version, by the link type of the capture (IEEE 802.3, IEEE
+-- 802.1Q, the link-layer header types of tcpdump; meaning).
 use Rattle.std.specs.Prelude.{ℕ, zero, suc, ◌/◌, Bool, ◌||◌, List, length, drop, slice_index, Option, Some, None, nat_le, ◌==◌, if◌then◌else◌}
 use Rattle.std.specs.Int.{w32, from_le_bytes}
 use Rattle.tcp_segment.specs.declared.frame.Version.{Version}
@@ -7,23 +7,24 @@ use Rattle.tcp_segment.specs.declared.frame.Version.TheVariants.{V4, V6}
 use Rattle.tcp_segment.specs.declared.frame.Packet as code
 use Rattle.tcp_segment.specs.Octets.{◌>>=◌, provided, octets_at, two_at, four_at}
 
--- a packet as a frame has it: what is after the packet is still there
+-- a packet as a frame has it; what comes after the packet isn't cut off yet
 pub record Packet : Type 0 where
   pub version : Version
   pub octets : List ℕ
 
 -- ---- Ethernet types and tags.
 
--- the types of a customer's and of a service's tag (IEEE 802.1Q), and of a service's tag before it
--- had one
+-- the types of a customer's tag and of a service's tag (IEEE 802.1Q), and the type that was used
+-- for a service's tag before that
 abbrev pub is_tag : ℕ → Bool
 is_tag kind = kind == 0x8100 || kind == 0x88a8 || kind == 0x9100
 
--- the type after a tag, and what follows it; a tag is two octets and the next type
+-- the type after a tag, and what follows it; a tag has two octets of its own, and then the next
+-- type
 unfoldable pub behind_tag : List ℕ → Option (ℕ × List ℕ)
 behind_tag octets = provided (nat_le 4 (length octets)) (Some (two_at 2 octets, drop 4 octets))
 
--- the type after at most so many tags, and what follows it
+-- the type after at most this number of tags, and what follows it
 unfoldable pub behind_tags : ℕ → ℕ → List ℕ → Option (ℕ × List ℕ)
 behind_tags zero kind octets = Some (kind, octets)
 behind_tags (suc more) kind octets =
@@ -56,12 +57,12 @@ cooked octets = provided (nat_le 16 (length octets)) (typed (two_at 14 octets) (
 abbrev pub cooked_2 : List ℕ → Option Packet
 cooked_2 octets = provided (nat_le 20 (length octets)) (typed (two_at 0 octets) (drop 20 octets))
 
--- an address family in four octets, in the byte order of the host that captured
+-- the address family in four octets, in the byte order of the host that made the capture
 abbrev pub is_family : ℕ → List ℕ → Bool
 is_family family octets =
     four_at 0 octets == family || from_le_bytes w32 (octets_at 0 4 octets) == family
 
--- 2 is IPv4, and each of the others IPv6 on some system
+-- 2 is IPv4; each of the others is IPv6 on some system
 abbrev pub is_ipv6_family : List ℕ → Bool
 is_ipv6_family octets =
     is_family 10 octets || is_family 24 octets || is_family 28 octets || is_family 30 octets
@@ -75,7 +76,7 @@ loopback octets = provided (nat_le 4 (length octets)) (do
   version ← version_of_family octets
   Some (record { version = version; octets = drop 4 octets }))
 
--- nothing is before the packet, and its first four bits are its version
+-- nothing stands before the packet, and its first four bits are its version
 abbrev pub version_of_raw : List ℕ → Option Version
 version_of_raw octets =
     let version = slice_index octets 0 / 16 in
@@ -86,7 +87,7 @@ raw octets = do
   version ← version_of_raw octets
   Some (record { version = version; octets = octets })
 
--- the packet in a frame of a link type
+-- the packet in a frame of this link type
 unfoldable pub packet_of : ℕ → List ℕ → Option Packet
 packet_of link octets =
     if link == 1 then ethernet octets

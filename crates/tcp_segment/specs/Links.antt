@@ -1,4 +1,4 @@
--- Which link types of a capture's interfaces are read (meaning).
+-- The link types of a capture's interfaces that are read (meaning).
 use Rattle.std.specs.Prelude.{ℕ, ◌==◌, ◌||◌, Bool}
 
 -- whether packets of a link type are looked into: Ethernet 1, Linux cooked 113 and 276, loopback 0

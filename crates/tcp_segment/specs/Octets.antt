@@ -1,18 +1,18 @@
--- Fields of a header: octets at an offset, and the numbers that they spell, the most significant
--- octet first (meaning).
+-- Fields of a header: octets at an offset, and the numbers in them, the most significant octet
+-- first (meaning).
 use Rattle.std.specs.Prelude.{ℕ, Bool, List, take, drop, Option, None, option_and_then, if◌then◌else◌}
 use Rattle.std.specs.Int.{w16, w32, from_be_bytes}
 
--- one thing, and then another from it
+-- a value, and then another one that is made from it
 infixl 10 ◌>>=◌
 abbrev pub ◌>>=◌ : {A B : Type 0} → Option A → (A → Option B) → Option B
 o >>= f = option_and_then f o
 
--- something, where a condition holds
+-- a value, if a condition holds
 abbrev pub provided : {A : Type 0} → Bool → Option A → Option A
 provided holds o = if holds then o else None
 
--- so many octets at an offset
+-- this number of octets at an offset
 abbrev pub octets_at : ℕ → ℕ → List ℕ → List ℕ
 octets_at at size octets = take size (drop at octets)
 

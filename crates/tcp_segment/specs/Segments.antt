@@ -31,7 +31,7 @@ is_same_address (V6 a) (V6 b) = bytes_eq a b
 abbrev pub is_same_endpoint : Endpoint → Endpoint → Bool
 is_same_endpoint a b = is_same_address a.address b.address && a.port == b.port
 
--- the source and destination port, each at its address
+-- the source port and the destination port, each at its address
 abbrev pub flow_of : Datagram → Flow
 flow_of datagram = record {
   from = record { address = datagram.source; port = two_at 0 datagram.octets };
@@ -40,18 +40,18 @@ flow_of datagram = record {
 
 -- ---- The header.
 
--- a control bit, by its weight
+-- whether the control bits have this one, by its weight
 abbrev pub has_flag : ℕ → ℕ → Bool
 has_flag flags flag = not (bit_and flags flag == 0)
 
--- the data offset, in words of four octets and at least 20 octets, where the segment holds the
--- whole header
+-- the data offset, in words of four octets, and at least 20 octets; there is none if the segment
+-- doesn't hold the whole header
 abbrev pub header_size : List ℕ → Option ℕ
 header_size octets =
     let size = slice_index octets 12 / 16 * 4 in
     provided (nat_le 20 size && nat_le size (length octets)) (Some size)
 
--- the acknowledgement number, where ACK says that it is one
+-- the acknowledgement number, if ACK says that there is one
 abbrev pub acknowledgement_of : List ℕ → Option ℕ
 acknowledgement_of octets = provided (has_flag (slice_index octets 13) 16) (Some (four_at 8 octets))
 
@@ -66,7 +66,7 @@ segment_behind datagram header = record {
   payload = drop header datagram.octets;
 }
 
--- the segment that an IP packet carries, between two different endpoints
+-- the segment that an IP packet carries, if it goes between two different endpoints
 unfoldable pub segment_in : Datagram → Option Segment
 segment_in datagram = do
   header ← header_size datagram.octets

@@ -8,7 +8,7 @@ use crate::endpoint::Address;
 use crate::frame::{Packet, Version};
 use crate::octets::{octets_at, two_at};
 
-/// The TCP segment of an IP packet, and between whom it goes.
+/// The TCP segment of an IP packet, and the addresses that it goes from and to.
 #[derive(Clone, Copy)]
 pub struct Datagram<'a> {
     pub source: Address,
@@ -19,11 +19,11 @@ pub struct Datagram<'a> {
 /// The protocol number of TCP.
 const TCP: u8 = 6;
 
-/// The most extension headers in a row that are read.
+/// The greatest number of extension headers in a row that are read.
 const EXTENSIONS: usize = 8;
 
-/// What a length field leaves of octets. 0 stands for all: a segment that the sender's hardware is still to cut has a
-/// packet whose length fits no field.
+/// The first octets, as many as a length field says. 0 means all: if the sender's hardware will cut a segment later, the
+/// length of its packet fits no field.
 #[tactic(auto, unfolding(crate::specs::Datagrams::limited))]
 fn limited(length: u16, octets: &[u8]) -> &[u8]
     ensures { result.now ≡ limited length octets.now }
@@ -35,14 +35,14 @@ fn limited(length: u16, octets: &[u8]) -> &[u8]
     &octets[..length]
 }
 
-/// Whether flags and fragment offset are those of a fragment: there are more, or it isn't the first.
+/// Whether flags and fragment offset are those of a fragment: more fragments follow, or it isn't the first one.
 fn is_fragment(flags_and_offset: u16) -> bool
     ensures { result ≡ is_fragment flags_and_offset }
 {
     flags_and_offset / 0x2000 % 2 == 1 || flags_and_offset % 0x2000 != 0
 }
 
-/// Whether a header is that of a whole IPv4 packet of TCP.
+/// Whether a header is the header of an IPv4 packet with a whole TCP segment: the packet is no fragment.
 fn carries_whole_tcp(octets: &[u8]) -> bool
     requires { 20 ≤ length octets.now }
     ensures { result ≡ carries_whole_tcp octets.now }
@@ -50,7 +50,7 @@ fn carries_whole_tcp(octets: &[u8]) -> bool
     octets[0] / 16 == 4 && octets[9] == TCP && !is_fragment(two_at(octets, 6))
 }
 
-/// What an IPv4 packet carries.
+/// What an IPv4 packet carries for TCP, if it is no fragment.
 #[tactic(auto, unfolding(crate::specs::Datagrams::ipv4))]
 fn ipv4(octets: &[u8]) -> Option<Datagram<'_>>
     ensures { option_map datagram_view result ≡ ipv4 octets.now }
@@ -70,8 +70,8 @@ fn ipv4(octets: &[u8]) -> Option<Datagram<'_>>
     })
 }
 
-/// Whether a next header is an extension header: hop-by-hop options, routing, fragment, authentication or destination
-/// options.
+/// Whether the number of a next header is the number of an extension header: hop-by-hop options, routing, fragment,
+/// authentication or destination options.
 fn is_extension(header: u8) -> bool
     ensures { result ≡ is_extension header }
 {
@@ -91,7 +91,7 @@ fn extension_size(header: u8, octets: &[u8]) -> usize
     }
 }
 
-/// Whether an extension header is that of a fragment that isn't the whole packet: its offset isn't 0, or there are more.
+/// Whether an extension header belongs to a fragment of a packet: its offset isn't 0, or more fragments follow.
 fn is_cut_extension(header: u8, octets: &[u8]) -> bool
     requires { 4 ≤ length octets.now }
     ensures { result ≡ is_cut_extension header octets.now }
@@ -100,7 +100,7 @@ fn is_cut_extension(header: u8, octets: &[u8]) -> bool
     header == 44 && (offset_and_more / 8 != 0 || offset_and_more % 2 == 1)
 }
 
-/// The header after an extension header, and its octets.
+/// The number of the header after an extension header, and its octets.
 #[tactic(auto, using(crate::proofs::Extensions::extensions_are_long), unfolding(crate::specs::Datagrams::behind_extension))]
 fn behind_extension(header: u8, octets: &[u8]) -> Option<(u8, &[u8])>
     ensures { option_map (λ x. (x.0, x.1.now)) result ≡ behind_extension header octets.now }
@@ -115,7 +115,7 @@ fn behind_extension(header: u8, octets: &[u8]) -> Option<(u8, &[u8])>
     Some((octets[0], &octets[size..]))
 }
 
-/// The header after the extension headers that begin with this one, and its octets.
+/// The number of the first header that isn't an extension header, and its octets, if the first header has this number.
 fn behind_extensions(header: u8, octets: &[u8]) -> Option<(u8, &[u8])>
     ensures { option_map (λ x. (x.0, x.1.now)) result ≡ behind_extensions 8 header octets.now }
 {
@@ -130,7 +130,7 @@ fn behind_extensions(header: u8, octets: &[u8]) -> Option<(u8, &[u8])>
     Some((next, behind))
 }
 
-/// What is after the header of an IPv6 packet, as far as its payload length says.
+/// What comes after the header of an IPv6 packet, as far as its payload length says.
 #[tactic(auto, unfolding(crate::specs::Datagrams::payload_of))]
 fn payload_of(octets: &[u8]) -> &[u8]
     requires { 40 ≤ length octets.now }
@@ -139,7 +139,7 @@ fn payload_of(octets: &[u8]) -> &[u8]
     limited(two_at(octets, 4), &octets[40..])
 }
 
-/// What is after the last header of an IPv6 packet, where that names TCP.
+/// What comes after the last header of an IPv6 packet, if that names TCP.
 #[tactic(auto, unfolding(crate::specs::Datagrams::behind_headers))]
 fn behind_headers(octets: &[u8]) -> Option<&[u8]>
     requires { 40 ≤ length octets.now }
@@ -149,7 +149,7 @@ fn behind_headers(octets: &[u8]) -> Option<&[u8]>
     if protocol == TCP { Some(upper) } else { None }
 }
 
-/// What an IPv6 packet carries.
+/// What an IPv6 packet carries for TCP, if it is no fragment.
 #[tactic(auto, unfolding(crate::specs::Datagrams::ipv6))]
 fn ipv6(octets: &[u8]) -> Option<Datagram<'_>>
     ensures { option_map datagram_view result ≡ ipv6 octets.now }

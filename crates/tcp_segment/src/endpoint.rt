@@ -1,4 +1,4 @@
-//! Endpoints and flows: who sends to whom.
+//! Endpoints and flows: who sends, and to whom.
 
 ghost use Rattle.std.specs.Prelude.{◌≡◌};
 

@@ -1,4 +1,4 @@
-//! What is in a frame, by the link type of the capture: an IP packet and its version.
+//! The IP packet in a frame, and its version, by the link type of the capture.
 
 ghost use Rattle.std.specs.Prelude.{◌≡◌, ◌≤◌, length, option_map};
 ghost use Rattle.tcp_segment.specs.Frames.{is_tag, behind_tag, behind_tags, version_of_type, typed, ethernet, cooked, cooked_2, is_family, version_of_family, loopback, version_of_raw, raw, packet_of, packet_view};
@@ -12,24 +12,25 @@ pub enum Version {
     V6,
 }
 
-/// An IP packet that a frame carries, as the frame says. What is after the packet is still there.
+/// An IP packet that a frame carries, with the version that the frame tells. What the frame has after the packet isn't cut
+/// off yet.
 #[derive(Clone, Copy)]
 pub struct Packet<'a> {
     pub version: Version,
     pub octets: &'a [u8],
 }
 
-/// The most tags in a row that are read.
+/// The greatest number of tags in a row that are read.
 const TAGS: usize = 4;
 
-/// Whether an Ethernet type is that of a tag.
+/// Whether an Ethernet type is the type of a tag.
 fn is_tag(kind: u16) -> bool
     ensures { result ≡ is_tag kind }
 {
     kind == 0x8100 || kind == 0x88a8 || kind == 0x9100
 }
 
-/// The Ethernet type after a tag, and what follows it. A tag has two octets of its own and the next type.
+/// The Ethernet type after a tag, and what follows it. A tag has two octets of its own, and then the next type.
 #[tactic(auto, unfolding(crate::specs::Frames::behind_tag))]
 fn behind_tag(octets: &[u8]) -> Option<(u16, &[u8])>
     ensures { option_map (λ x. (x.0, x.1.now)) result ≡ behind_tag octets.now }
@@ -40,7 +41,7 @@ fn behind_tag(octets: &[u8]) -> Option<(u16, &[u8])>
     Some((two_at(octets, 2), &octets[4..]))
 }
 
-/// The Ethernet type after the tags that begin with this type, and what follows it.
+/// The first Ethernet type that isn't a tag's, and what follows it, if the first type is this one.
 fn behind_tags(kind: u16, octets: &[u8]) -> Option<(u16, &[u8])>
     ensures { option_map (λ x. (x.0, x.1.now)) result ≡ behind_tags 4 kind octets.now }
 {
@@ -55,7 +56,7 @@ fn behind_tags(kind: u16, octets: &[u8]) -> Option<(u16, &[u8])>
     Some((next, behind))
 }
 
-/// The version that an Ethernet type names.
+/// The version of the internet protocol that an Ethernet type names.
 fn version_of_type(kind: u16) -> Option<Version>
     ensures { result ≡ version_of_type kind }
 {
@@ -114,7 +115,7 @@ fn is_family(octets: &[u8], family: u32) -> bool
     four_at(octets, 0) == family || u32::from_le_bytes(octets_at(octets, 0)) == family
 }
 
-/// The version that the address family of a loopback frame names.
+/// The version of the internet protocol that the address family of a loopback frame names.
 fn version_of_family(octets: &[u8]) -> Option<Version>
     requires { 4 ≤ length octets.now }
     ensures { result ≡ version_of_family octets.now }
@@ -143,7 +144,7 @@ fn loopback(octets: &[u8]) -> Option<Packet<'_>>
     })
 }
 
-/// The packet that has no frame around it: its first four bits are its version.
+/// The packet, if it has no frame around it. Its first four bits are its version.
 fn raw(octets: &[u8]) -> Option<Packet<'_>>
     ensures { option_map packet_view result ≡ raw octets.now }
 {

@@ -1,5 +1,5 @@
-//! TCP segments in the packets of a capture: who sends to whom, the numbers and flags, and the payload as a slice of the
-//! packet.
+//! TCP segments in the packets of a capture: who sends to whom, the sequence numbers and flags, and the payload as a slice
+//! of the packet.
 #![tactic(auto)]
 
 mod datagram;

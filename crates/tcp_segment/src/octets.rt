@@ -1,4 +1,4 @@
-//! Fields of a header: octets at an offset, and the numbers that they spell.
+//! Fields of a header: octets at an offset, and the numbers in them.
 
 ghost use Rattle.std.specs.Prelude.{◌≡◌, ◌+◌, ◌≤◌, length};
 ghost use Rattle.tcp_segment.specs.Octets.{octets_at, two_at, four_at};
@@ -13,7 +13,7 @@ pub fn octets_at<const N: usize>(octets: &[u8], at: usize) -> [u8; N]
     field
 }
 
-/// The number in two octets at this offset, the most significant first.
+/// The number in two octets at this offset, the most significant octet first.
 #[tactic(auto, unfolding(crate::specs::Octets::two_at))]
 pub fn two_at(octets: &[u8], at: usize) -> u16
     requires { at + 2 ≤ length octets.now }
@@ -22,7 +22,7 @@ pub fn two_at(octets: &[u8], at: usize) -> u16
     u16::from_be_bytes(octets_at(octets, at))
 }
 
-/// The number in four octets at this offset, the most significant first.
+/// The number in four octets at this offset, the most significant octet first.
 #[tactic(auto, unfolding(crate::specs::Octets::four_at))]
 pub fn four_at(octets: &[u8], at: usize) -> u32
     requires { at + 4 ≤ length octets.now }

@@ -7,8 +7,8 @@ use crate::datagram::datagram_of;
 use crate::frame::packet_of;
 use crate::tcp::{Segment, segment_in};
 
-/// The TCP segment in a packet of a capture, by the link type of its interface. None where the packet isn't TCP over IP,
-/// is a fragment, ends inside a header, or goes from an endpoint to itself. Checksums aren't looked at.
+/// The TCP segment in a packet of a capture, by the link type of its interface. There is none if the packet isn't TCP over
+/// IP, is a fragment, ends inside a header, or goes from an endpoint to itself. Checksums aren't checked.
 #[tactic(auto, unfolding(crate::specs::Segments::segment))]
 pub fn segment(link: u16, octets: &[u8]) -> Option<Segment<'_>>
     ensures { option_map segment_view result ≡ segment link octets.now }

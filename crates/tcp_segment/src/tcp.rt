@@ -8,13 +8,14 @@ use crate::datagram::Datagram;
 use crate::endpoint::{Endpoint, Flow};
 use crate::octets::{four_at, two_at};
 
-/// A TCP segment. Its payload is a slice of the octets of its packet, shorter where the capture cut the packet.
+/// A TCP segment. Its payload is a slice of the octets of its packet. If the capture cut the packet, the payload is shorter
+/// than it was.
 #[derive(Clone, Copy, Debug)]
 pub struct Segment<'a> {
     pub flow: Flow,
     /// The sequence number of the first octet, or of SYN.
     pub sequence: u32,
-    /// The next sequence number that the sender expects, where the segment acknowledges any.
+    /// The next sequence number that the sender expects, if the segment acknowledges one.
     pub acknowledgement: Option<u32>,
     pub syn: bool,
     pub fin: bool,
@@ -37,7 +38,7 @@ fn has_flag(flags: u8, flag: u8) -> bool
     flags & flag != 0
 }
 
-/// How many octets the header has, where the segment holds all of them.
+/// How many octets the header has, if the segment holds all of them.
 fn header_size(octets: &[u8]) -> Option<usize>
     ensures { result ≡ header_size octets.now }
 {
@@ -68,7 +69,7 @@ fn flow_of(datagram: Datagram<'_>) -> Flow
     }
 }
 
-/// The acknowledged number, where there is one.
+/// The acknowledged sequence number, if there is one.
 fn acknowledgement_of(octets: &[u8]) -> Option<u32>
     requires { 20 ≤ length octets.now }
     ensures { result ≡ acknowledgement_of octets.now }

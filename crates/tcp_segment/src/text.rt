@@ -12,13 +12,13 @@ use arrayvec::ArrayVec;
 use itoa::Buffer;
 use std::net::Ipv6Addr;
 
-/// Room for the text of any endpoint.
+/// How many octets an endpoint's text has room for: enough for the text of any endpoint.
 pub const TEXT_ROOM: usize = 50;
 
 /// The text of an endpoint.
 pub type EndpointText = ArrayVec<u8, TEXT_ROOM>;
 
-/// Writes octets.
+/// Adds octets to the text.
 fn put(out: &mut EndpointText, text: &[u8])
     requires room { array_vec_len out.old + length text.now ≤ TEXT_ROOM }
     ensures put { out.new.items ≡ out.old.items ++ text.now }
@@ -29,7 +29,7 @@ fn put(out: &mut EndpointText, text: &[u8])
     }
 }
 
-/// Writes a decimal number.
+/// Adds a decimal number to the text.
 fn put_number(out: &mut EndpointText, n: u16)
     requires room { array_vec_len out.old + 5 ≤ TEXT_ROOM }
     ensures put { out.new.items ≡ out.old.items ++ decimal n }
@@ -38,7 +38,7 @@ fn put_number(out: &mut EndpointText, n: u16)
     put(out, Buffer::new().format(n).as_bytes());
 }
 
-/// Writes four decimal numbers with dots between them.
+/// Adds four decimal numbers with dots between them to the text.
 fn put_v4(out: &mut EndpointText, octets: [u8; 4])
     requires room { array_vec_len out.old + 23 ≤ TEXT_ROOM }
     ensures put { out.new.items ≡ out.old.items ++ net.ipv4_text octets }
@@ -54,7 +54,7 @@ fn put_v4(out: &mut EndpointText, octets: [u8; 4])
     put_number(out, u16::from(d));
 }
 
-/// A digit in hexadecimal.
+/// The hexadecimal digit of a number.
 fn hex_digit(digit: u16) -> u8
     requires { digit < 16 }
     ensures { result ≡ digit_char digit }
@@ -66,7 +66,7 @@ fn hex_digit(digit: u16) -> u8
     }
 }
 
-/// How many of a group's four digits are leading zeros; the last one is none.
+/// How many of a group's four digits are leading zeros. The last digit never counts as one.
 fn leading_zeros(group: u16) -> usize
     ensures value { result ≡ net.leading_zero_digits group }
     ensures within { result < 4 }
@@ -79,7 +79,7 @@ fn leading_zeros(group: u16) -> usize
     }
 }
 
-/// Writes a group in hexadecimal, without leading zeros.
+/// Adds a group in hexadecimal to the text, without leading zeros.
 #[tactic(auto, unfolding(std::specs::Net::Text::hex))]
 fn put_group(out: &mut EndpointText, group: u16)
     requires room { array_vec_len out.old + 4 ≤ TEXT_ROOM }
@@ -95,7 +95,7 @@ fn put_group(out: &mut EndpointText, group: u16)
     put(out, &digits[leading_zeros(group)..]);
 }
 
-/// Writes groups with colons between them.
+/// Adds groups with colons between them to the text.
 fn put_groups(out: &mut EndpointText, groups: &[u16])
     requires room { array_vec_len out.old + 5 * length groups.now ≤ TEXT_ROOM }
     ensures put { out.new.items ≡ out.old.items ++ net.groups_text groups.now }
@@ -110,7 +110,8 @@ fn put_groups(out: &mut EndpointText, groups: &[u16])
     }
 }
 
-/// Where the longest run of groups of zeros begins, of equal ones the first, and how many groups it has.
+/// The index at which the longest run of zero groups begins, and its length. If several are equally long, it is the first
+/// of them.
 #[tactic(auto, using(crate::proofs::ZeroRuns::is_longest))]
 fn longest_zero_run(groups: &[u16]) -> (usize, usize)
     ensures value { result ≡ net.longest_zero_run groups.now }
@@ -129,7 +130,7 @@ fn longest_zero_run(groups: &[u16]) -> (usize, usize)
     (start, len)
 }
 
-/// Writes the groups of an address, with `::` for the longest run of two or more groups of zeros.
+/// Adds the groups of an address to the text, with `::` for the longest run of two or more zero groups.
 #[tactic(auto, unfolding(std::specs::Net::Text::hex_groups_text))]
 fn put_compressed(out: &mut EndpointText, groups: &[u16])
     requires room { array_vec_len out.old + 5 * length groups.now + 2 ≤ TEXT_ROOM }
@@ -146,7 +147,7 @@ fn put_compressed(out: &mut EndpointText, groups: &[u16])
     put_groups(out, &groups[start + len..]);
 }
 
-/// Writes an IPv6 address: an IPv4-mapped one ends in its IPv4 address.
+/// Adds an IPv6 address to the text. An IPv4-mapped one ends in its IPv4 address.
 fn put_v6(out: &mut EndpointText, octets: [u8; 16])
     requires room { array_vec_len out.old + 42 ≤ TEXT_ROOM }
     ensures put { out.new.items ≡ out.old.items ++ net.ipv6_text (segments_of octets) }
@@ -162,7 +163,7 @@ fn put_v6(out: &mut EndpointText, octets: [u8; 16])
     }
 }
 
-/// Writes an address, that of IPv6 between brackets.
+/// Adds an address to the text, an IPv6 address between brackets.
 fn put_address(out: &mut EndpointText, address: Address)
     requires room { array_vec_len out.old + 44 ≤ TEXT_ROOM }
     ensures put { out.new.items ≡ out.old.items ++ address_text address }

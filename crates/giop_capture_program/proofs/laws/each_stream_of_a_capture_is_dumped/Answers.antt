@@ -1,5 +1,5 @@
--- The events of a capture are without a gap, so no stream of them goes on after its close; and each
--- has closed.
+-- The events of a capture have no gap, so no stream goes on after its close, and each stream has
+-- closed.
 use Rattle.std.proofs.Common.{◌≡◌, ◌<◌, ◌/◌, ℕ, ◌-◌, Some, [], ◌++◌, ◌∙◌, ap, sym, subst, arith, if◌then◌else◌}
 use Rattle.std.specs.List.{AllByRecursion as Each}
 use Rattle.tcp_flow.specs.Flow.{flow_of}

@@ -1,4 +1,4 @@
--- What a source gave was dumped for the connections that are asked for.
+-- What a source gave was dumped with the connections that the arguments ask for.
 use Rattle.std.proofs.Common.{◌≡◌, ◌<◌, ◌∙◌, ◌⊎◌, inl, inr, [], true, false, true≢false, ap, sym, subst, Option, Some, Err, List, Bool, ℕ}
 use Rattle.std.specs.Io.KnownBytes.{IsAtEnd}
 use Rattle.capture_file.specs.declared.fault.CaptureFault.{CaptureFault}
@@ -22,7 +22,7 @@ ends_by : (ending : Ending) (found other : Option CaptureFault) (faulty : Bool) 
     ending ≡ ending_of found faulty → found ≡ other → ending ≡ ending_of other faulty
 ends_by ending found other faulty ends is = ends ∙ ap (λ x. ending_of x faulty) is
 
--- where nothing is full, the out has failed
+-- if nothing is full, the out has failed
 by_put : (failures : ℕ) (full is_full : Bool) → is_full ≡ full → is_full ≡ false →
     (0 < failures) ⊎ (full ≡ true) → 0 < failures
 by_put failures full is_full is not (inl some) = some

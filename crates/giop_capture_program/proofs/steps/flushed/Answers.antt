@@ -1,4 +1,4 @@
--- An out whose flush failed has failed.
+-- If the flush of an out failed, the out has failed.
 use Rattle.std.proofs.Common.{◌<◌, ℕ, refl, arith}
 use Rattle.giop_print.specs.Output.{counted}
 use Rattle.giop_capture_program.proofs.steps.flushed.Goals as goal

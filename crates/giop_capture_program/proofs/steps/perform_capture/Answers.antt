@@ -1,4 +1,4 @@
--- The step that failed comes after the signatures, which were read.
+-- The step that failed comes after the signatures, and these were read.
 use Rattle.std.proofs.Common.{Result, Ok, Err, IfErr, inr}
 use Rattle.giop_capture_program.proofs.steps.perform_capture.Goals as goal
 

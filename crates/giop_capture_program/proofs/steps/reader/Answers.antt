@@ -1,4 +1,4 @@
--- No event has come: after what was written before stands no text.
+-- No event has come, so no text was written after what was written before.
 use Rattle.std.proofs.Common.{refl}
 use Rattle.giop_capture_program.proofs.steps.reader.Goals as goal
 

@@ -1,4 +1,4 @@
--- The last lines are written after all that the listener was told.
+-- The last lines are written after the listener was told of all.
 use Rattle.std.specs.Prelude.{Result, Ok, Err, IfOk, IfErr, OnOk}
 use Rattle.giop_run.specs.declared.fault.RunFault.{RunFault}
 use Rattle.giop_capture_run.specs.declared.ending.Ending.{Ending}

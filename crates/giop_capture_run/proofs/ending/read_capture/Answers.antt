@@ -1,4 +1,4 @@
--- The end of a capture after its packets.
+-- The end of a capture comes after its packets.
 use Rattle.std.proofs.lemmas.Result.{err_from_is_err_and}
 use Rattle.giop_capture_run.specs.Packets.{taken_of}
 use Rattle.giop_capture_run.specs.Arrivals.{after_packets, capture_ended}

@@ -1,4 +1,5 @@
--- The packets that each call of `take` gives are those that the longer list has.
+-- The packet that a call of `take` gives is the one that the longer list has and the shorter one
+-- hasn't.
 use Rattle.std.proofs.Common.{ℕ, List, ◌++◌, take, drop, arith}
 use Rattle.std.proofs.lemmas.List.{length-drop}
 use Rattle.capture_file.specs.CaptureState.{Reads}

@@ -1,4 +1,4 @@
--- What was handed on so far.
+-- What the listener was given until now.
 use Rattle.std.proofs.Common.{◌≡◌, ◌+◌, ℕ, List, length}
 use Rattle.capture_file.specs.CaptureState.{Reads, octets_of}
 use Rattle.giop_capture_run.specs.Packets.{HandedOn, KeepsUp, taken_of}

@@ -1,4 +1,4 @@
--- The octets that are handed on are those that the read gave.
+-- The octets that are looked through for packets are those that the read gave.
 use Rattle.std.proofs.Common.{take, arith}
 use Rattle.giop_capture_run.proofs.ReadingOn.{handed_once, some_given, not_end}
 use Rattle.giop_capture_run.proofs.reading.read_once.Goals as goal

@@ -1,4 +1,4 @@
--- Each outcome of reading a capture, from the reads before it.
+-- Each result of reading a capture, from the reads before it.
 use Rattle.std.proofs.Common.{◌+◌, ◌++◌, arith}
 use Rattle.std.proofs.lemmas.Result.{err_from_is_err_and}
 use Rattle.giop_capture_run.specs.Packets.{taken_of}

@@ -1,4 +1,4 @@
--- All that the source gave so far was read, and its packets were handed on.
+-- All that the source gave until now was read, and its packets were given to the listener.
 use Rattle.std.proofs.Common.{◌≤◌, ◌+◌, ◌*◌, ℕ, List, [], length}
 use Rattle.capture_file.specs.CaptureState.{octets_of}
 use Rattle.giop_capture_run.specs.Packets.{ReadAll}

@@ -1,4 +1,4 @@
--- Nothing was written before, so what was put is the text, and all of it is in the writer.
+-- Nothing was written before. So what was put is the text, and the writer has all of it.
 use Rattle.std.proofs.Common.{[], Some, refl, ap, ◌∙◌}
 use Rattle.giop_capture_text.specs.Dumps.{plain_setup}
 use Rattle.giop_capture_text.proofs.Known.{at_every_port, front, held}

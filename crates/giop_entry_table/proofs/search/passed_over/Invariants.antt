@@ -2,7 +2,7 @@ use Rattle.std.proofs.Common.{◌≡◌, ◌≤◌, ◌-◌, ◌==◌, length, d
 use Rattle.std.specs.List.{position_from}
 use Rattle.giop_entry_table.proofs.search.passed_over.Given as goal
 
--- no block that was passed over has the id
+-- no block that was skipped has the id
 abbrev pub invariant-loop-at : goal.invariant-loop-at
 invariant-loop-at l = (l.at ≤ length l.keys)
     × (position_from (λ k. k == l.key) l.fn.from (drop l.fn.from l.keys)

@@ -1,4 +1,4 @@
--- What was read so far: each turn gave an octet.
+-- The octets that were read until now. Each turn gave at least one.
 use Rattle.std.proofs.Common.{◌≤◌, length}
 use Rattle.std.specs.Io.KnownBytes.{Consumes}
 use Rattle.std.specs.declared.io.ErrorKind.{ErrorKind}

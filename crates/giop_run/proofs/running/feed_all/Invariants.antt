@@ -1,4 +1,4 @@
--- The stream goes on after each read and feed so far.
+-- The stream goes on after each read and feed until now.
 use Rattle.std.proofs.Common.{◌≡◌, ◌+◌, ◌≤◌, List, ℕ, false}
 use Rattle.giop_stream.specs.EngineHolds.{Holds, rules_of}
 use Rattle.giop_run.specs.RunSteps.{Going}

@@ -1,4 +1,4 @@
--- What follows from the finish and the flush after it for the end of a run.
+-- What the finish, and the flush after it, say about the end of a run.
 use Rattle.std.proofs.lemmas.Result.{err_from_is_err_and}
 use Rattle.giop_run.proofs.TurnLemmas.{closed_flushed, closed_cut, closed_unfinished}
 use Rattle.giop_run.proofs.running.finished.Goals as goal

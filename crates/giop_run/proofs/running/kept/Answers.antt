@@ -1,4 +1,4 @@
--- What follows from the flush for the end of a run.
+-- What the flush says about the end of a run.
 use Rattle.std.proofs.lemmas.Result.{err_from_is_err_and}
 use Rattle.giop_run.proofs.TurnLemmas.{closed_kept, closed_unkept}
 use Rattle.giop_run.proofs.running.kept.Goals as goal

@@ -1,4 +1,4 @@
--- The elements of the buffer are octets, by its type.
+-- The elements of the buffer are octets because of its type.
 use Rattle.std.proofs.Common.{arith}
 use Rattle.giop_run.proofs.ReadLemmas.{octets-from}
 use Rattle.giop_run.proofs.running.read.Goals as goal

@@ -1,4 +1,4 @@
--- A run, from the feed of all that its source gave and the close after it.
+-- A run is the feed of all that its source gave, and then its close.
 use Rattle.std.proofs.lemmas.Result.{err_from_is_err_and}
 use Rattle.std.proofs.Common.{◌++◌}
 use Rattle.giop_run.proofs.TurnLemmas.{ran_failed, ran_closed}

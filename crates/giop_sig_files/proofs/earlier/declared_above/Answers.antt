@@ -10,7 +10,7 @@ at_most text above line k other none (inl is) same =
     other (subst (λ (n : ℕ). DeclareSame text n line) is same)
 at_most text above line k other none (inr less) same = none less same
 
--- one line more that declares something else
+-- one more line, which declares something else
 one_more : (text : List ℕ) (above line : ℕ) → (DeclareSame text above line → ⊥)
     → ((k : ℕ) → 1 ≤ k → k < above → DeclareSame text k line → ⊥)
     → (k : ℕ) → 1 ≤ k → k < above + 1 → DeclareSame text k line → ⊥

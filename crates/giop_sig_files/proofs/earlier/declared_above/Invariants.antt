@@ -2,7 +2,7 @@ use Rattle.std.proofs.Common.{◌≡◌, ◌<◌, ◌≤◌, ◌-◌, ℕ}
 use Rattle.giop_sig_files.specs.Names.{behind, DeclareSame}
 use Rattle.giop_sig_files.proofs.earlier.declared_above.Given as goal
 
--- no line above declares the name
+-- no line until now declares the name
 abbrev pub invariant-loop-above : goal.invariant-loop-above
 invariant-loop-above l = record {
   rest : l.rest ≡ behind (l.above - 1) l.text;

@@ -14,7 +14,7 @@ texts fs = map (λ f. f.text.items) fs
 abbrev items : List (Vec ℕ Global) → List (List ℕ)
 items bs = map (λ b. b.items) bs
 
--- one file more
+-- one more file
 more : (text : List ℕ) (before bs : List (List ℕ)) (f : SignatureText) (fs : List SignatureText)
     (all : List ℕ) → bs ≡ blocks f.text.items
     → text ++ flat_map with_line_feed (taken before (texts (f ∷ fs))) ≡ all

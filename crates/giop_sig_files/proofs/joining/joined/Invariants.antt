@@ -3,7 +3,7 @@ use Rattle.std.specs.Prelude.{flat_map}
 use Rattle.giop_sig_files.specs.Joined.{taken, with_line_feed}
 use Rattle.giop_sig_files.proofs.joining.joined.Given as goal
 
--- what is taken of the files so far, and of those that are left
+-- what is taken of the files until now, and of those that are left
 abbrev pub invariant-loop-file : goal.invariant-loop-file
 invariant-loop-file l =
     l.text.items ++ flat_map with_line_feed

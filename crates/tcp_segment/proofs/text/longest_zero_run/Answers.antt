@@ -14,7 +14,7 @@ loop-i-preserved-then-run-len c = grind (arith, common_steps)
 pub loop-i-preserved : goal.loop-i-preserved
 loop-i-preserved c = grind (arith, common_steps)
 
--- the run by its two numbers
+-- the run, given by its index and its length
 longest_of : (groups : List ℕ) (start len : ℕ) → start ≡ (longest_zero_run groups).0
     → len ≡ (longest_zero_run groups).1 → IsLongestRun groups start len
 longest_of groups start len first second = rw (first, second) (is_longest groups)

@@ -30,7 +30,7 @@ returns-in-Some-clause-answers c p r =
     c.args.self.now c.take_record.new.self r c.requires.running due
     c.take_record.ensures.takes).answers
 
--- all that is left
+-- all octets from an index on, in the way that the code takes them
 all_of : (octets : List ℕ) (start : ℕ) →
     take (length (take (length octets - start) (drop start octets))) (drop start octets)
     ≡ take (length octets - start) (drop start octets)
@@ -57,7 +57,7 @@ returns-then-missing-rest-clause-answers c p r =
     c.hold.ensures.taken c.hold.ensures.octets
     (omega (arith, c.if-missing-rest.true, c.size.ensures))).answers
 
--- the octets at the end of a piece at the beginning of what is left
+-- the octets at the end of a piece that begins at an index, in the way that the code takes them
 end_of_piece : (octets : List ℕ) (start count back known : ℕ) → back ≡ known →
     take (length (take count (take (length octets - start) (drop start octets))) - (count - back))
     (drop (count - back) (take count (take (length octets - start) (drop start octets))))

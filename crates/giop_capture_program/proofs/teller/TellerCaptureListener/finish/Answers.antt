@@ -1,4 +1,4 @@
--- Below stands the text of all events, and then the last line.
+-- The text below is the text of all events, and then the last line.
 use Rattle.giop_capture_program.proofs.TellerLemmas.{still_known}
 use Rattle.giop_capture_program.proofs.teller.TellerCaptureListener.finish.Goals as goal
 

@@ -1,4 +1,4 @@
--- A fault of the capture changes no stream, and its line is written.
+-- A fault of the capture changes no stream. Its line is written.
 use Rattle.std.proofs.Common.{refl}
 use Rattle.capture_file.specs.FaultWords.{fault_word}
 use Rattle.tcp_flow.specs.Flow.{OfCapture, HasFault}

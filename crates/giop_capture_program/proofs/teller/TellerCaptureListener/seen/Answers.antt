@@ -1,4 +1,4 @@
--- It is known of all events.
+-- What was seen is known for all events.
 use Rattle.giop_capture_program.proofs.teller.TellerCaptureListener.seen.Goals as goal
 
 pub returns : goal.returns

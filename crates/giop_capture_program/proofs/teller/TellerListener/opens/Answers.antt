@@ -1,4 +1,4 @@
--- Who sends to whom is known, and nothing is written.
+-- It is noted who sends to whom. Nothing is written.
 use Rattle.std.proofs.Common.{refl}
 use Rattle.tcp_flow.specs.Flow.{Opens}
 use Rattle.giop_capture_program.proofs.TellerLemmas.{seen_stays}

@@ -1,4 +1,4 @@
--- Where the connections have a state, no packet was read yet.
+-- If the connections have a state, no packet was read yet.
 use Rattle.std.proofs.Common.{◌≡◌, ap, ◌∙◌, arith}
 use Rattle.giop_capture_run.specs.Arrivals.{after_packets, links_from, notices_from}
 use Rattle.giop_capture_run.proofs.packets.PacketReader.new.Goals as goal

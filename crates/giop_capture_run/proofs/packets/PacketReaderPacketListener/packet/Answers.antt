@@ -1,4 +1,4 @@
--- The packet is read, and its segment comes.
+-- The packet's time is noted, and its segment comes.
 use Rattle.std.proofs.Common.{◌≡◌, ◌∙◌, None, Some, sym, ap, arith, []}
 use Rattle.std.specs.Option.{option_map}
 use Rattle.tcp_segment.specs.Segments.{segment, segment_view}
