@@ -87,6 +87,18 @@ impl<K: Ord + Copy> RoomTable<K> {
         }
     }
 
+    /// The key that a room had last.
+    pub fn last_key(&self, room: u32) -> Option<&K>
+        ensures { IfSome result (λ key. (place : ℕ) (default : K) → place < length self.now.rooms
+            → get_or self.now.rooms place 0 ≡ room
+            → get_or self.now.keys place default ≡ key.now) }
+    {
+        match self.last.get(room as usize) {
+            Some(Some(key)) => Some(key),
+            _ => None,
+        }
+    }
+
     /// The room of the key at a place.
     pub fn room(&self, place: usize) -> u32
         requires { place < length self.now.keys }

@@ -29,12 +29,12 @@ fn the_room_of_the_least_rank_is_first(rt: HostRuntime) -> Result<(), Fail> {
 /// Keys and their rooms.
 const KEYS: [(u32, u32); 3] = [(20, 1), (10, 3), (30, 0)];
 
-/// Rooms, and the places of their keys.
-const PLACES: [(u32, Option<usize>); 5] = [
-    (0, Some(2)),
-    (1, Some(1)),
+/// Rooms, and their keys with the places of these.
+const PLACES: [(u32, Option<(u32, usize)>); 5] = [
+    (0, Some((30, 2))),
+    (1, Some((20, 1))),
     (2, None),
-    (3, Some(0)),
+    (3, Some((10, 0))),
     (9, None),
 ];
 
@@ -49,8 +49,17 @@ fn the_key_of_a_room_stands_at_its_place(rt: HostRuntime) -> Result<(), Fail> {
         };
         table.add(place, key, room);
     }
-    for (room, place) in PLACES {
-        assert_eq!(rt; table.place_of_room(room), place, "room {room}");
+    for (room, wanted) in PLACES {
+        assert_eq!(rt;
+            table.place_of_room(room),
+            wanted.map(|(_, place)| place),
+            "room {room}"
+        );
+        assert_eq!(rt;
+            table.last_key(room).copied(),
+            wanted.map(|(key, _)| key),
+            "room {room}"
+        );
     }
     Ok(())
 }
