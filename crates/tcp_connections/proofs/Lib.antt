@@ -19,6 +19,7 @@ pub mod OwnersKnown
 pub mod OwnFlows
 pub mod Ranked
 pub mod Repeated
+pub mod Rooms
 pub mod Roomy
 pub mod SamePairs
 pub mod Search

@@ -2,7 +2,7 @@
 //! them.
 
 ghost use Rattle.std.specs.Prelude.{◌≡◌, ◌≤◌, ◌<◌, ◌+◌, ◌/◌, ◌^◌, [], List, length, get_or, IfOk};
-ghost use Rattle.std.specs.Prelude.{IfSome, OnOk, OnErr, None};
+ghost use Rattle.std.specs.Prelude.{IfSome, IsTrue, OnOk, OnErr, Some, None, is_some, ◌||◌, ◌*◌, ℕ};
 ghost use Rattle.std.specs.Vec.{vec_len};
 ghost use Rattle.tcp_segment.specs.Segments.{segment_view};
 ghost use Rattle.tcp_streams.specs.Pairs.{pair_of as spec_pair_of};
@@ -35,15 +35,19 @@ pub struct Connections {
     segments: u64,
     /// The packet that is read.
     pub(crate) arrival: Arrival,
-    /// Where the connection of a segment may stand.
+    /// Which room the connection of a segment may have.
     guesses: Guesses,
 }
+
+/// How many slots there are for each connection that may be known, so that few share one.
+const SLOTS: usize = 8;
 
 impl Connections {
     ghost use Rattle.tcp_flow.specs.Flow.{Event};
     ghost use Rattle.tcp_connections.specs.Connections.{none_known, live_of, made_known, place_of};
     ghost use Rattle.tcp_connections.specs.Connections.{place_among, next_room, unknown_taken};
     ghost use Rattle.tcp_connections.specs.Connections.{known_taken, step, syn_kept, with_packet, with_segment};
+    ghost use Rattle.tcp_connections.specs.Known.{IsKnown};
     ghost use Rattle.tcp_connections.specs.State.{IsSound, HasState, Makes, state_of};
 
     /// No connection is known. At most so many will be at once, 1 to 65,536, and what waits takes at most so many blocks of
@@ -68,7 +72,7 @@ impl Connections {
         let syns = KeptSyns::new(alloc, most as usize)?;
         let flows = Flows::new(alloc, most)?;
         let pool = Pool::new(alloc, blocks, 2 * most as usize)?;
-        let guesses = Guesses::new(alloc, most as usize)?;
+        let guesses = Guesses::new(alloc, SLOTS * most as usize)?;
         Ok(Connections {
             ports,
             table,
@@ -117,27 +121,27 @@ impl Connections {
         self.segments += 1;
         let (pair, side) = pair_of(segment.flow);
         let slot = self.guesses.slot(&pair);
-        let Some(place) = self.place_of(&pair, slot) else {
+        let Some(room) = self.room_of(&pair, slot) else {
             return self.take_unknown(pair, side, segment, to);
         };
-        self.guesses.note(slot, place);
-        let room = self.table.room(place);
+        self.guesses.note(slot, room);
         let id = flow_id(room, side);
         if self.is_kept(id, segment) {
             self.keep_syn(room, id, segment);
             return Ok(());
         }
         if self.is_anew(room, id, segment) {
-            self.end_by(place, side, CloseCause::Syn, to)?;
+            self.end_by(self.place_of(&pair), side, CloseCause::Syn, to)?;
             return self.take_unknown(pair, side, segment, to);
         }
-        self.take_known(place, side, segment, to)
+        self.take_known(pair, room, side, segment, to)
     }
 
-    /// A segment of the connection at a place.
+    /// A segment of the connection of a pair, which has this room.
     fn take_known<L: Listener + Drop>(
         &mut self,
-        place: usize,
+        pair: EndpointPair,
+        room: u32,
         side: Side,
         segment: Segment<'_>,
         to: &mut Streams<L>,
@@ -145,20 +149,21 @@ impl Connections {
         requires state { HasState (L.observed to.old.listener) to.old.live.items self.old }
         requires whole { length segment.payload.now ≤ 262_144 }
         requires flow { (spec_pair_of segment.flow).1 ≡ side }
-        requires place { place < length self.old.table.keys }
-        ensures does { Makes result
+        requires known { (place : ℕ)
+            × IsKnown self.old.table.keys self.old.table.rooms pair room place }
+        ensures does { (place : ℕ)
+            → IsKnown self.old.table.keys self.old.table.rooms pair room place → Makes result
             (λ w. known_taken L.reader w place (segment_view segment.entry))
             (L.observed to.old.listener) to.old.live.items self.old
             (L.observed to.new.listener) to.new.live.items self.new }
         ensures cause { OnErr result (L.failed to.new.listener) }
     {
-        let room = self.table.room(place);
         let id = flow_id(room, side);
         self.note(room, id);
         self.acknowledgement(flow_id(room, other(side)), segment, to)?;
         self.payload(id, segment, to)?;
         self.fin(id, segment, to)?;
-        self.reset(place, side, segment, to)?;
+        self.reset(pair, room, side, segment, to)?;
         self.hear(id, None, false, to)
     }
 
@@ -211,7 +216,7 @@ impl Connections {
             return Err(ListenerFault);
         };
         self.table.add(place, pair, room);
-        self.guesses.note(self.guesses.slot(&pair), place);
+        self.guesses.note(self.guesses.slot(&pair), room);
         self.flows.open(room, self.segments);
         self.syns.set(room, None);
         let lesser = flow_id(room, Side::FromLesser);
@@ -221,19 +226,58 @@ impl Connections {
         Ok(room)
     }
 
-    /// The place of a pair among those that are known: first the one that is guessed for its slot is looked at.
-    fn place_of(&self, pair: &EndpointPair, slot: usize) -> Option<usize>
+    /// The room of the connection of a pair, if it is known: first the one that is guessed for its slot is looked at.
+    fn room_of(&self, pair: &EndpointPair, slot: usize) -> Option<u32>
         requires sound { IsSound (state_of self.now []) }
-        ensures place { result ≡ place_of pair.now self.now.table.keys }
-        ensures within { IfSome result (λ place. place < length self.now.table.keys) }
+        ensures none { (result ≡ None) → place_of pair.now self.now.table.keys ≡ None }
+        ensures some { IfSome result (λ room. (place : ℕ)
+            × IsKnown self.now.table.keys self.now.table.rooms pair.now room place) }
     {
         let guess = self.guesses.at(slot);
-        if guess < self.table.len() && *self.table.key(guess) == *pair {
+        if self.is_room_of(guess, pair) {
             return Some(guess);
         }
         match self.table.place(pair) {
-            Ok(place) => Some(place),
+            Ok(place) => Some(self.table.room(place)),
             Err(_) => None,
+        }
+    }
+
+    /// Whether a room is that of the connection of a pair: the room had it last, and isn't free, since a flow has begun.
+    #[inline]
+    fn is_room_of(&self, room: u32, pair: &EndpointPair) -> bool
+        requires sound { IsSound (state_of self.now []) }
+        requires small { room < 2 ^ 16 }
+        ensures { IsTrue result → (place : ℕ)
+            × IsKnown self.now.table.keys self.now.table.rooms pair.now room place }
+    {
+        match self.table.last_key(room) {
+            Some(key) => *key == *pair && self.has_begun(room),
+            None => false,
+        }
+    }
+
+    /// Whether a flow of a room has begun.
+    #[inline]
+    fn has_begun(&self, room: u32) -> bool
+        requires small { room < 2 ^ 31 }
+        ensures { result ≡ (is_some (get_or self.now.flows.states.items (2 * room) None)
+            || is_some (get_or self.now.flows.states.items (2 * room + 1) None)) }
+    {
+        self.flow(flow_id(room, Side::FromLesser)).is_some()
+            || self.flow(flow_id(room, Side::FromGreater)).is_some()
+    }
+
+    /// The place of a pair that is known.
+    pub(crate) fn place_of(&self, pair: &EndpointPair) -> usize
+        requires sound { IsSound (state_of self.now []) }
+        requires known { (place : ℕ) × (place_of pair.now self.now.table.keys ≡ Some place) }
+        ensures place { place_of pair.now self.now.table.keys ≡ Some result }
+        ensures within { result < length self.now.table.keys }
+    {
+        match self.table.place(pair) {
+            Ok(place) => place,
+            Err(place) => place,
         }
     }
 

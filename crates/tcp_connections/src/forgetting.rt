@@ -1,33 +1,37 @@
 //! Connections are forgotten: by a RST or a SYN, or to make room for another, first those without a
 //! live stream, then those of which segments of one flow alone came. What they hold is shown before.
 
-ghost use Rattle.std.specs.Prelude.{◌≡◌, ◌<◌, ◌^◌, [], List, length, cond, OnOk, OnErr};
+ghost use Rattle.std.specs.Prelude.{◌≡◌, ◌<◌, ◌^◌, ℕ, [], List, length, cond, OnOk, OnErr};
 ghost use Rattle.tcp_segment.specs.Segments.{segment_view};
 ghost use Rattle.tcp_waiting.specs.Payload.{count_of};
 
 use crate::connections::Connections;
 use tcp_flow::{CloseCause, Listener, ListenerFault};
 use tcp_segment::Segment;
-use tcp_streams::{Side, Streams, flow_id, other};
+use tcp_streams::{EndpointPair, Side, Streams, flow_id, other};
 
 impl Connections {
     ghost use Rattle.tcp_flow.specs.Flow.{Event};
     ghost use Rattle.tcp_connections.specs.Connections.{goes_before, eldest, reset_taken};
     ghost use Rattle.tcp_connections.specs.Connections.{flow_forgotten, forgotten, with_room};
     ghost use Rattle.tcp_connections.specs.Connections.{cleared, emptied, ended_by, shown};
+    ghost use Rattle.tcp_connections.specs.Known.{IsKnown};
     ghost use Rattle.tcp_connections.specs.State.{IsSound, HasState, Makes, state_of};
 
     /// A RST comes, where the segment is one that counts: the connection is forgotten.
     pub(crate) fn reset<L: Listener + Drop>(
         &mut self,
-        place: usize,
+        pair: EndpointPair,
+        room: u32,
         side: Side,
         segment: Segment<'_>,
         to: &mut Streams<L>,
     ) -> Result<(), ListenerFault>
         requires state { HasState (L.observed to.old.listener) to.old.live.items self.old }
-        requires place { place < length self.old.table.keys }
-        ensures does { Makes result
+        requires known { (place : ℕ)
+            × IsKnown self.old.table.keys self.old.table.rooms pair room place }
+        ensures does { (place : ℕ)
+            → IsKnown self.old.table.keys self.old.table.rooms pair room place → Makes result
             (λ w. reset_taken L.reader w place side (segment_view segment.entry))
             (L.observed to.old.listener) to.old.live.items self.old
             (L.observed to.new.listener) to.new.live.items self.new }
@@ -36,11 +40,10 @@ impl Connections {
         if !segment.reset {
             return Ok(());
         }
-        let id = flow_id(self.table.room(place), side);
-        if !self.is_near_due(id, segment.sequence) {
+        if !self.is_near_due(flow_id(room, side), segment.sequence) {
             return Ok(());
         }
-        self.end_by(place, side, CloseCause::Reset, to)
+        self.end_by(self.place_of(&pair), side, CloseCause::Reset, to)
     }
 
     /// A connection shows what it holds and is forgotten, by a segment of one side.

@@ -1,50 +1,52 @@
-//! At which places connections may stand, guessed by their endpoints, in memory that is allocated once.
+//! Which rooms connections may have, guessed by their endpoints, in memory that is allocated once.
 
-ghost use Rattle.std.specs.Prelude.{◌≡◌, ◌≤◌, IfOk, get_or, set, replicate};
+ghost use Rattle.std.specs.Prelude.{◌≡◌, ◌≤◌, ◌<◌, ◌^◌, IfOk, get_or, set, replicate};
 ghost use Rattle.std.specs.Vec.{vec_len};
 
 use std::alloc::{AllocError, Global};
 use tcp_segment::{Address, Endpoint};
 use tcp_streams::EndpointPair;
 
-/// The place that the last connection of each slot had. It is a guess: several connections have one slot, and places change as
-/// others come and go. Who asks looks whether it is right.
+/// The room that the last connection of each slot had. It is a guess: several connections may have one slot, and a room is given
+/// back. Who asks looks whether it is right.
 #[derive(Drop)]
 pub struct Guesses {
-    places: Vec<usize>,
-    ghost some: { 1 ≤ vec_len places },
+    rooms: Vec<u16>,
+    ghost some: { 1 ≤ vec_len rooms },
 }
 
 impl Guesses {
-    /// So many slots, each with the place 0. No other call allocates.
+    /// So many slots, each with the room 0. No other call allocates.
     pub fn new(alloc: Global, slots: usize) -> Result<Guesses, AllocError>
         requires { 1 ≤ slots }
-        ensures { IfOk result (λ g. g.places.items ≡ replicate slots 0) }
+        ensures { IfOk result (λ g. g.rooms.items ≡ replicate slots 0) }
     {
-        let places = vec![in alloc; 0; slots]?;
-        Ok(Guesses { places })
+        let rooms = vec![in alloc; 0; slots]?;
+        Ok(Guesses { rooms })
     }
 
     /// The slot of a connection, by the last octets of its addresses and by its ports.
     pub fn slot(&self, pair: &EndpointPair) -> usize {
         let lesser = number_of(pair.lesser).wrapping_mul(0x9e37_79b1);
         let greater = number_of(pair.greater).wrapping_mul(0x85eb_ca6b);
-        ((lesser ^ greater) >> 16) as usize % self.places.len()
+        ((lesser ^ greater) >> 13) as usize % self.rooms.len()
     }
 
-    /// The place that is guessed for a slot.
-    pub fn at(&self, slot: usize) -> usize
-        ensures { result ≡ get_or self.now.places.items slot 0 }
+    /// The room that is guessed for a slot.
+    pub fn at(&self, slot: usize) -> u32
+        ensures is { result ≡ get_or self.now.rooms.items slot 0 }
+        ensures small { result < 2 ^ 16 }
     {
-        self.places.get(slot).copied().unwrap_or(0)
+        u32::from(self.rooms.get(slot).copied().unwrap_or(0))
     }
 
-    /// A place is guessed for a slot from now on.
-    pub fn note(&mut self, slot: usize, place: usize)
-        ensures { self.new.places.items ≡ set self.old.places.items slot place }
+    /// A room is guessed for a slot from now on.
+    pub fn note(&mut self, slot: usize, room: u32)
+        requires { room < 2 ^ 16 }
+        ensures { self.new.rooms.items ≡ set self.old.rooms.items slot room }
     {
-        if let Some(noted) = self.places.get_mut(slot) {
-            *noted = place;
+        if let Some(noted) = self.rooms.get_mut(slot) {
+            *noted = room as u16;
         }
     }
 }

@@ -26,6 +26,13 @@ add-requires-clause-free g c =
     taken_free (state_of c.args.self.now []) c.take.new.self.free.items c.in-Some.room
     (sound_of _ _ _ _ c.requires.state.1) (c.take.ensures.some c.in-Some.room c.in-Some.is)
 
+pub note-requires : goal.note-requires
+note-requires g c =
+    let sound = sound_of _ _ _ _ c.requires.state.1 in
+    let b = taken_below (state_of c.args.self.now []) c.take.new.self.free.items c.in-Some.room
+    sound (c.take.ensures.some c.in-Some.room c.in-Some.is) in
+    omega (arith, b, sound.most)
+
 pub open-requires : goal.open-requires
 open-requires g c =
     let sound = sound_of _ _ _ _ c.requires.state.1 in

@@ -11,6 +11,7 @@ use Rattle.tcp_connections.proofs.Search.{forgotten_unknown}
 use Rattle.tcp_connections.proofs.Shown.{shown_known}
 use Rattle.tcp_connections.proofs.Sound.{room_below}
 use Rattle.tcp_connections.proofs.Kept.{half}
+use Rattle.tcp_connections.proofs.Rooms.{same_place}
 use Rattle.tcp_connections.proofs.States.{small_room, sound_of, known_of, moved, moved_ok, segments_of}
 use Rattle.tcp_connections.proofs.connections.Connections.take.Goals as goal
 
@@ -30,7 +31,7 @@ returns-in_default-clause-does g c w h =
     let known = known_of _ _ _ _ h in
     let none : place_of (pair_of V.flow).0 w.known ≡ None =
     ap (λ q. place_of q.0 w.known) (sym c.pair_of-side.ensures) ∙ ap (place_of pair) (sym known)
-    ∙ sym c.place_of.ensures.place ∙ c.in_default.is in
+    ∙ c.room_of.ensures.none c.in_default.is in
     moved_ok c.take_unknown.result _ _ _ _ _ (step_unknown F w V none)
     (c.take_unknown.ensures.does _ (counted (g.L.Listener.observed c.args.to.now.listener)
     c.args.to.now.live.items c.args.self.now
@@ -44,21 +45,25 @@ returns-in_default-clause-count g c =
     ∙ ap (λ n. n + 1) (sym (ap (λ (u : State). u.segments) c.requires.state.1.same)))
     (returns-in_default-clause-does g c c.requires.state.0 c.requires.state.1)
 
+pub note-requires : goal.note-requires
+note-requires g c =
+    let k = c.in-Some.ensures.some in
+    let b = small_room _ _ _ _ k.0 c.requires.state.1 k.1.within in omega (arith, k.1.room_is, b)
+
 pub flow_id-id-requires : goal.flow_id-id-requires
 flow_id-id-requires g c =
-    let b = small_room _ _ _ _ c.in-Some.place c.requires.state.1
-    (omega (arith, c.in-Some.ensures.within)) in
-    omega (arith, c.room-room.ensures, b)
+    let k = c.in-Some.ensures.some in
+    let b = small_room _ _ _ _ k.0 c.requires.state.1 k.1.within in omega (arith, k.1.room_is, b)
 
 pub keep_syn-requires : goal.keep_syn-requires
 keep_syn-requires g c =
     let sound = sound_of _ _ _ _ c.requires.state.1 in
-    let b = room_below (state_of c.args.self.now []) c.in-Some.place sound
-    (omega (arith, c.in-Some.ensures.within)) in
+    let k = c.in-Some.ensures.some in
+    let b = room_below (state_of c.args.self.now []) k.0 sound k.1.within in
     record {
-      room = omega (arith, b, c.room-room.ensures, c.args.self.now.flows.stamps.last.ok.0);
+      room = omega (arith, b, k.1.room_is, c.args.self.now.flows.stamps.last.ok.0);
       own = ap (λ (n : ℕ). n / 2) c.flow_id-id.ensures.id
-          ∙ half c.room-room.result c.pair_of-side.result.1;
+          ∙ half c.in-Some.room c.pair_of-side.result.1;
     }
 
 pub returns-then-is_kept-clause-does : goal.returns-then-is_kept-clause-does
@@ -67,11 +72,12 @@ returns-then-is_kept-clause-does g c w h =
     let V = segment_view c.args.segment in
     let pair = c.pair_of-side.result.0 in
     let known = known_of _ _ _ _ h in
-    let place = c.in-Some.place in
+    let k = c.in-Some.ensures.some in
+    let place : ℕ = k.0 in
     let some : place_of (pair_of V.flow).0 w.known ≡ Some place =
     ap (λ q. place_of q.0 w.known) (sym c.pair_of-side.ensures) ∙ ap (place_of pair) (sym known)
-    ∙ sym c.place_of.ensures.place ∙ c.in-Some.is in
-    let at = c.room-room.ensures ∙ ap (λ (u : State). get_or u.rooms place 0) h.same in
+    ∙ k.1.found in
+    let at = sym k.1.room_is ∙ ap (λ (u : State). get_or u.rooms place 0) h.same in
     let id : c.flow_id-id.result ≡ flow_id (room_at w place) (pair_of V.flow).1 =
     c.flow_id-id.ensures.id ∙ ap (λ (r : ℕ). flow_id r c.pair_of-side.result.1) at
     ∙ ap (λ q. flow_id (room_at w place) q.1) c.pair_of-side.ensures in
@@ -80,16 +86,16 @@ returns-then-is_kept-clause-does g c w h =
     ap (λ o. is_kept o V) (sym flow) ∙ sym c.is_kept.ensures ∙ c.if-is_kept.true in
     let v : State = record w { segments = w.segments + 1 } in
     moved (g.L.Listener.observed c.args.to.now.listener) c.args.to.now.live.items
-    c.keep_syn.new.self (step F w V) (syn_kept v c.room-room.result c.flow_id-id.result V)
+    c.keep_syn.new.self (step F w V) (syn_kept v c.in-Some.room c.flow_id-id.result V)
     (step_kept F w V place some kept
     ∙ ap (λ (r : ℕ). syn_kept v r (flow_id (room_at w place) (pair_of V.flow).1) V) (sym at)
-    ∙ ap (λ (i : ℕ). syn_kept v c.room-room.result i V) (sym id))
+    ∙ ap (λ (i : ℕ). syn_kept v c.in-Some.room i V) (sym id))
     (syn_noted (g.L.Listener.observed c.args.to.now.listener) c.args.to.now.live.items
     (record c.args.self.now {
       segments = c.args.self.now.segments + 1;
       guesses = c.note.new.self;
     }) c.keep_syn.new.self v
-    c.room-room.result c.flow_id-id.result V
+    c.in-Some.room c.flow_id-id.result V
     (counted (g.L.Listener.observed c.args.to.now.listener)
     c.args.to.now.live.items c.args.self.now
     (record c.args.self.now {
@@ -102,6 +108,20 @@ pub returns-then-is_kept-clause-count : goal.returns-then-is_kept-clause-count
 unfolding syn_kept
 returns-then-is_kept-clause-count g c =
     ap (λ (u : State). u.segments) (c.keep_syn.ensures.kept [])
+
+pub place_of-requires : goal.place_of-requires
+place_of-requires g c =
+    let k = c.in-Some.ensures.some in
+    record {
+      sound = sound_of _ _ _ _ (counted (g.L.Listener.observed c.args.to.now.listener)
+          c.args.to.now.live.items c.args.self.now
+          (record c.args.self.now {
+            segments = c.args.self.now.segments + 1;
+            guesses = c.note.new.self;
+          }) c.requires.state.0
+          c.requires.state.1 (λ e. refl) refl refl);
+      known = (k.0, k.1.found);
+    }
 
 pub end_by-requires-clause-state : goal.end_by-requires-clause-state
 end_by-requires-clause-state g c = (
@@ -142,13 +162,12 @@ take_unknown-requires-then-is_anew-clause-new g c =
       guesses = c.note.new.self;
     }) c.requires.state.0
     c.requires.state.1 (λ e. refl) refl refl) in
-    let some : place_of pair w.known ≡ Some c.in-Some.place =
-    ap (place_of pair) (sym (known_of _ _ _ _ h)) ∙ sym c.place_of.ensures.place
-    ∙ c.in-Some.is in
+    let some : place_of pair w.known ≡ Some c.place_of.result =
+    ap (place_of pair) (sym (known_of _ _ _ _ h)) ∙ c.place_of.ensures.place in
     ap (place_of pair) (known_of _ _ _ _ n
-    ∙ shown_known g.L.Listener.reader v c.in-Some.place (room_at v c.in-Some.place)
+    ∙ shown_known g.L.Listener.reader v c.place_of.result (room_at v c.place_of.result)
     c.pair_of-side.result.1 c.pair_of-side.result.1 Syn)
-    ∙ forgotten_unknown pair w.known c.in-Some.place h.sound.order some
+    ∙ forgotten_unknown pair w.known c.place_of.result h.sound.order some
 
 pub returns-then-is_anew-clause-does : goal.returns-then-is_anew-clause-does
 returns-then-is_anew-clause-does g c w h =
@@ -156,22 +175,26 @@ returns-then-is_anew-clause-does g c w h =
     let V = segment_view c.args.segment in
     let pair = c.pair_of-side.result.0 in
     let known = known_of _ _ _ _ h in
-    let place = c.in-Some.place in
+    let k = c.in-Some.ensures.some in
+    let place : ℕ = c.place_of.result in
     let some : place_of (pair_of V.flow).0 w.known ≡ Some place =
     ap (λ q. place_of q.0 w.known) (sym c.pair_of-side.ensures) ∙ ap (place_of pair) (sym known)
-    ∙ sym c.place_of.ensures.place ∙ c.in-Some.is in
-    let at = c.room-room.ensures ∙ ap (λ (u : State). get_or u.rooms place 0) h.same in
+    ∙ c.place_of.ensures.place in
+    let own : k.0 ≡ place =
+    same_place k.0 place (sym k.1.found ∙ c.place_of.ensures.place) in
+    let at = sym k.1.room_is ∙ ap (λ (n : ℕ). get_or c.args.self.now.table.rooms n 0) own
+    ∙ ap (λ (u : State). get_or u.rooms place 0) h.same in
     let id : c.flow_id-id.result ≡ flow_id (room_at w place) (pair_of V.flow).1 =
     c.flow_id-id.ensures.id ∙ ap (λ (r : ℕ). flow_id r c.pair_of-side.result.1) at
     ∙ ap (λ q. flow_id (room_at w place) q.1) c.pair_of-side.ensures in
     let flow = ap (λ (u : State). flow_at u c.flow_id-id.result) h.same ∙ ap (flow_at w) id in
-    let syn = ap (λ (u : State). syn_at u c.room-room.result) h.same ∙ ap (syn_at w) at in
+    let syn = ap (λ (u : State). syn_at u c.in-Some.room) h.same ∙ ap (syn_at w) at in
     let not_kept : is_kept (flow_of_side w place (pair_of V.flow).1) V ≡ false =
     ap (λ o. is_kept o V) (sym flow) ∙ sym c.is_kept.ensures ∙ c.if-is_kept.false in
     let anew : is_anew (syn_at w (room_at w place)) (flow_id (room_at w place)
     (pair_of V.flow).1) V ≡ true =
     ap (λ o. is_anew o (flow_id (room_at w place) (pair_of V.flow).1) V) (sym syn)
-    ∙ ap (λ i. is_anew (syn_at (state_of c.args.self.now w.events) c.room-room.result) i V) (sym id)
+    ∙ ap (λ i. is_anew (syn_at (state_of c.args.self.now w.events) c.in-Some.room) i V) (sym id)
     ∙ sym c.is_anew.ensures ∙ c.if-is_anew.true in
     moved_ok c.take_unknown-then-is_anew.result _ _ _ _ _
     (step_anew F w V place some not_kept anew ∙ ap (λ q.
@@ -210,25 +233,26 @@ returns-clause-does g c w h =
     let V = segment_view c.args.segment in
     let pair = c.pair_of-side.result.0 in
     let known = known_of _ _ _ _ h in
-    let place = c.in-Some.place in
+    let k = c.in-Some.ensures.some in
+    let place : ℕ = k.0 in
     let some : place_of (pair_of V.flow).0 w.known ≡ Some place =
     ap (λ q. place_of q.0 w.known) (sym c.pair_of-side.ensures) ∙ ap (place_of pair) (sym known)
-    ∙ sym c.place_of.ensures.place ∙ c.in-Some.is in
-    let at = c.room-room.ensures ∙ ap (λ (u : State). get_or u.rooms place 0) h.same in
+    ∙ k.1.found in
+    let at = sym k.1.room_is ∙ ap (λ (u : State). get_or u.rooms place 0) h.same in
     let id : c.flow_id-id.result ≡ flow_id (room_at w place) (pair_of V.flow).1 =
     c.flow_id-id.ensures.id ∙ ap (λ (r : ℕ). flow_id r c.pair_of-side.result.1) at
     ∙ ap (λ q. flow_id (room_at w place) q.1) c.pair_of-side.ensures in
     let flow = ap (λ (u : State). flow_at u c.flow_id-id.result) h.same ∙ ap (flow_at w) id in
-    let syn = ap (λ (u : State). syn_at u c.room-room.result) h.same ∙ ap (syn_at w) at in
+    let syn = ap (λ (u : State). syn_at u c.in-Some.room) h.same ∙ ap (syn_at w) at in
     let not_kept : is_kept (flow_of_side w place (pair_of V.flow).1) V ≡ false =
     ap (λ o. is_kept o V) (sym flow) ∙ sym c.is_kept.ensures ∙ c.if-is_kept.false in
     let known : is_anew (syn_at w (room_at w place)) (flow_id (room_at w place)
     (pair_of V.flow).1) V ≡ false =
     ap (λ o. is_anew o (flow_id (room_at w place) (pair_of V.flow).1) V) (sym syn)
-    ∙ ap (λ i. is_anew (syn_at (state_of c.args.self.now w.events) c.room-room.result) i V) (sym id)
+    ∙ ap (λ i. is_anew (syn_at (state_of c.args.self.now w.events) c.in-Some.room) i V) (sym id)
     ∙ sym c.is_anew.ensures ∙ c.if-is_anew.false in
     moved_ok c.take_known.result _ _ _ _ _ (step_known F w V place some not_kept known)
-    (c.take_known.ensures.does _ (counted (g.L.Listener.observed c.args.to.now.listener)
+    (c.take_known.ensures.does place k.1 _ (counted (g.L.Listener.observed c.args.to.now.listener)
     c.args.to.now.live.items c.args.self.now
     (record c.args.self.now {
       segments = c.args.self.now.segments + 1;
