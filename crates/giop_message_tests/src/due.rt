@@ -1,12 +1,12 @@
 //! After which octets of a message the reading stops for a correspondent that is due there.
 
+use crate::expecting::expect_same_in;
 use crate::waiter::Waiter;
 use giop_message::Message;
 use giop_print::Sheet;
 use giop_sig::Catalogue;
 use giop_testing::spelled;
 use std::process::Abort;
-use std::test::Fail;
 
 /// A message, after how many of its octets the reading stops first, whether the correspondent is due there, and after how
 /// many it stops then. It stops at the message's end in any case.
@@ -58,18 +58,12 @@ const ROWS: [Row; 5] = [
     },
 ];
 
-#[test]
-fn a_message_stops_where_its_correspondent_is_due(rt: HostRuntime) -> Result<(), Fail> {
-    let catalogue = Catalogue::builtin(rt.alloc())?;
-    each_row_stops(&rt, &catalogue);
-    Ok(())
-}
-
-fn each_row_stops(rt: &impl Abort, catalogue: &Catalogue) {
+/// A message stops where its correspondent is due.
+pub fn each_row_stops(rt: &impl Abort, catalogue: &Catalogue) {
     for row in &ROWS {
         for is_cut in [false, true] {
             let differs = stops_differ(catalogue, row, is_cut);
-            assert!(rt; differs.is_empty(), "{}, cut {is_cut}: {differs}", row.name);
+            expect_same_in(rt, differs, row.name, usize::from(is_cut));
         }
     }
 }

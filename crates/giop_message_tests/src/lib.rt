@@ -5,6 +5,8 @@
 #[cfg(test)]
 mod due;
 #[cfg(test)]
+mod expecting;
+#[cfg(test)]
 mod known;
 #[cfg(test)]
 mod raised;

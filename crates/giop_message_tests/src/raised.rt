@@ -2,12 +2,12 @@
 ghost use Rattle.std.specs.Prelude.{ℕ, Option, None, false};
 ghost use Rattle.giop_message_tests.specs.Listened.{listened};
 
+use crate::expecting::expect_same;
 use giop_message::{Correspondent, Message};
 use giop_print::Sheet;
 use giop_sig::{Catalogue, OpId};
 use giop_testing::spelled;
 use std::process::Abort;
-use std::test::Fail;
 
 /// A correspondent that listens for exceptions alone, answers no operation, and is never due.
 #[derive(Clone, Copy, Debug, PartialEq, Eq)]
@@ -107,17 +107,11 @@ const REPLIES: [Reply; 6] = [
     },
 ];
 
-#[test]
-fn an_exception_is_told_where_its_name_is_complete(rt: HostRuntime) -> Result<(), Fail> {
-    let catalogue = Catalogue::builtin(rt.alloc())?;
-    each_reply_tells(&rt, &catalogue);
-    Ok(())
-}
-
-fn each_reply_tells(rt: &impl Abort, catalogue: &Catalogue) {
+/// An exception is told where its name is complete.
+pub fn each_reply_tells(rt: &impl Abort, catalogue: &Catalogue) {
     for reply in &REPLIES {
         let differs = reply_differs(catalogue, reply);
-        assert!(rt; differs.is_empty(), "{}: {differs}", reply.name);
+        expect_same(rt, differs, reply.name);
     }
 }
 

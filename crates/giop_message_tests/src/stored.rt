@@ -2,14 +2,13 @@
 ghost use Rattle.std.specs.Prelude.{◌≡◌, ◌≤◌, length, IfSome};
 ghost use Rattle.giop_message.specs.MessageState.{AreOf, Fits};
 
-use crate::known::built_in;
+use crate::expecting::{expect, expect_same, expect_same_in};
 use crate::rows::{Closing, Row, row_of, rows};
 use giop_message::Message;
 use giop_print::{OutFault, Sheet};
 use giop_sig::{Catalogue, Requests};
 use giop_testing::spelled;
 use std::process::Abort;
-use std::test::Fail;
 
 /// The message that is restored from what is stored of one.
 fn again(catalogue: &Catalogue, message: &Message) -> Option<Message>
@@ -67,13 +66,7 @@ fn takes_restored(
     }
 }
 
-#[test]
-fn a_restored_message_goes_on_as_the_stored_one(rt: HostRuntime) -> Result<(), Fail> {
-    let known = built_in(rt.alloc())?;
-    each_row_is_restored(&rt, &known.0, &known.1);
-    Ok(())
-}
-
+/// A restored message goes on as the stored one.
 fn each_row_is_restored(rt: &impl Abort, catalogue: &Catalogue, requests: &Requests)
     requires of { AreOf catalogue.now requests.now }
 {
@@ -83,11 +76,7 @@ fn each_row_is_restored(rt: &impl Abort, catalogue: &Catalogue, requests: &Reque
         let octets = &*spelled(row.octets, &mut room);
         for cut in 12..octets.len() + 1 {
             let differs = restored_differs(catalogue, requests, row, octets, cut);
-            assert!(rt;
-                differs.is_empty(),
-                "{}, stored at {cut}: {differs}",
-                row.name
-            );
+            expect_same_in(rt, differs, row.name, cut);
         }
     }
 }
@@ -173,19 +162,13 @@ const CASES: [Case; 5] = [
     },
 ];
 
-#[test]
-fn a_message_is_stored_in_these_octets(rt: HostRuntime) -> Result<(), Fail> {
-    let known = built_in(rt.alloc())?;
-    each_case_is_stored(&rt, &known.0, &known.1);
-    Ok(())
-}
-
+/// A message is stored in these octets.
 fn each_case_is_stored(rt: &impl Abort, catalogue: &Catalogue, requests: &Requests)
     requires of { AreOf catalogue.now requests.now }
 {
     for case in &CASES {
         let differs = case_differs(catalogue, requests, case);
-        assert!(rt; differs.is_empty(), "{}: {differs}", case.name);
+        expect_same(rt, differs, case.name);
     }
 }
 
@@ -255,15 +238,7 @@ static WRONG: &str = r#"0 0 6 a part of no kind
 3 20 1 a type beside a system exception
 4 223 1 an octet without a use behind a system exception"#;
 
-#[test]
-fn octets_that_no_message_stores_are_refused(rt: HostRuntime) -> Result<(), Fail> {
-    let catalogue = Catalogue::builtin(rt.alloc())?;
-    let differs = not_refused(&catalogue);
-    assert!(rt; differs.is_empty(), "{differs}");
-    Ok(())
-}
-
-/// The first line of the table whose octet isn't refused, or nothing.
+/// The first line of the table whose octet isn't refused, or nothing: no message stores it.
 fn not_refused(catalogue: &Catalogue) -> &'static str {
     for line in WRONG.split('\n') {
         if !is_refused(catalogue, line) {
@@ -310,17 +285,19 @@ fn is_restored(catalogue: &Catalogue, fixed: &[u8; 224], frames: &[u8]) -> bool 
     Message::restore(catalogue, 1, [0; 12], fixed, frames).is_some()
 }
 
-#[test]
-fn padding_and_a_rest_have_no_frames(rt: HostRuntime) -> Result<(), Fail> {
-    let catalogue = Catalogue::builtin(rt.alloc())?;
-    for case in 0..2 {
-        assert!(rt; has_no_frame(&catalogue, case), "{case}");
-    }
-    Ok(())
-}
-
-/// Whether a case is restored without a frame, and refused with one.
+/// Whether a case is restored without a frame, and refused with one: padding and a rest have none.
 fn has_no_frame(catalogue: &Catalogue, case: usize) -> bool {
     let fixed = fixed_of(&CASES[case % 5]);
     is_restored(catalogue, &fixed, &[]) && !is_restored(catalogue, &fixed, &[0; 24])
+}
+
+/// Messages are stored and restored.
+pub fn each_is_stored(rt: &impl Abort, catalogue: &Catalogue, requests: &Requests)
+    requires of { AreOf catalogue.now requests.now }
+{
+    each_row_is_restored(rt, catalogue, requests);
+    each_case_is_stored(rt, catalogue, requests);
+    expect(rt, has_no_frame(catalogue, 0), CASES[0].name);
+    expect(rt, has_no_frame(catalogue, 1), CASES[1].name);
+    expect_same(rt, not_refused(catalogue), "stored by no message");
 }

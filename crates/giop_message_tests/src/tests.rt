@@ -1,7 +1,11 @@
-//! What is known of a message's header, and its request id; laws. The messages are of the built-in types.
+//! The tests of messages, of the built-in types: what is known of a header, the request id, and the rows of the other files.
 ghost use Rattle.giop_message.specs.MessageState.{AreOf};
 
+use crate::due::each_row_stops;
+use crate::expecting::{expect, expect_same};
 use crate::known::built_in;
+use crate::raised::each_reply_tells;
+use crate::stored::each_is_stored;
 use giop_cdr::Order;
 use giop_message::{Message, kind_of, message_laws, message_reader_laws, minor_of, order_of};
 use giop_print::Sheet;
@@ -12,24 +16,9 @@ use std::test::Fail;
 /// A header of a Request of 1.0.
 const REQUEST: &[u8; 12] = b"GIOP\x01\x00\x00\x00\x00\x00\x00\x00";
 
-#[test]
-fn a_message_has_its_number_and_its_header(rt: HostRuntime) -> Result<(), Fail> {
-    let catalogue = Catalogue::builtin(rt.alloc())?;
-    assert!(rt; has_number_and_header(&catalogue));
-    Ok(())
-}
-
 fn has_number_and_header(catalogue: &Catalogue) -> bool {
     let message = Message::start(catalogue, 7, *REQUEST);
     message.number() == 7 && message.header() == *REQUEST
-}
-
-#[test]
-fn the_request_id_comes_with_its_last_octet(rt: HostRuntime) -> Result<(), Fail> {
-    let known = built_in(rt.alloc())?;
-    let differs = id_differs(&known.0, &known.1);
-    assert!(rt; differs.is_empty(), "{differs}");
-    Ok(())
 }
 
 /// What differs of the id while its octets come, or nothing.
@@ -67,17 +56,35 @@ fn has(header: &[u8; 12], minor: u8, order: Order, kind: u8) -> bool {
     minor_of(header) == minor && order_of(header) == order && kind_of(header) == kind
 }
 
-#[test]
-fn a_header_has_its_fields(rt: HostRuntime) {
+/// Checks all of this over the built-in types.
+fn each(rt: &impl Abort, catalogue: &Catalogue, requests: &Requests)
+    requires of { AreOf catalogue.now requests.now }
+{
     // The second flag is set if more fragments follow.
     let little = b"GIOP\x01\x02\x03\x01\x14\x00\x00\x00";
-    assert!(rt; has(little, 2, Order::Little, 1));
+    expect(
+        rt,
+        has(little, 2, Order::Little, 1),
+        "a little-endian header",
+    );
     let big = b"GIOP\x01\x01\x02\x07\x00\x00\x00\x14";
-    assert!(rt; has(big, 1, Order::Big, 7));
+    expect(rt, has(big, 1, Order::Big, 7), "a big-endian header");
+    expect(
+        rt,
+        has_number_and_header(catalogue),
+        "a message's number and header",
+    );
+    expect_same(rt, id_differs(catalogue, requests), "the request id");
+    each_row_stops(rt, catalogue);
+    each_reply_tells(rt, catalogue);
+    each_is_stored(rt, catalogue, requests);
 }
 
 #[test]
-fn laws_can_be_called(_rt: HostRuntime) {
+fn messages_are_as_their_rows_say(rt: HostRuntime) -> Result<(), Fail> {
     message_laws();
     message_reader_laws();
+    let known = built_in(rt.alloc())?;
+    each(&rt, &known.0, &known.1);
+    Ok(())
 }

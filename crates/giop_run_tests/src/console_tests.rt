@@ -3,214 +3,158 @@
 ghost use Rattle.giop_stream.specs.EngineHolds.{AreOf};
 
 use super::close::{CLOSE, CLOSED, COMPLETED, built_in, engine};
-use super::fakes::{FailingReader, FailingWriter};
-use giop_run::{Ending, Flush, Lines, ProgramFault, Reading, RunFault, dump, status};
+use super::fakes::{Reader, Writer};
+use crate::expecting::expect_same_at;
+use giop_run::{Ending, Flush, Lines, Reading, RunFault, dump};
 use giop_sig::{Catalogue, Requests};
-use giop_stream::{Engine, Totals};
-use std::cell::{Cell, RefCell};
+use giop_stream::Engine;
+use std::cell::Cell;
 use std::io;
 use std::io::{ErrorKind, Read};
 use std::process::Abort;
 use std::test::Fail;
 
-/// The status of the program after such a run.
-fn status_of(dumped: Result<Totals, RunFault>) -> u8 {
-    match dumped {
-        Ok(totals) => status(&Ok(totals)),
-        Err(fault) => status(&Err(ProgramFault::Run(fault))),
-    }
-}
-
-/// Dumps what a reader gives up to the stream's end; returns the totals.
-fn finished<R: Read + Drop, O: Flush>(
-    reader: R,
-    out: &mut O,
-    engine: Engine,
-) -> Result<Totals, RunFault> {
+/// Dumps what a reader gives up to the stream's end; returns why it fails, if it does.
+fn fault_of<R: Read + Drop, O: Flush>(reader: R, out: &mut O, engine: Engine) -> Option<RunFault> {
     let mut source = Reading::new(reader);
-    match dump(&mut source, out, engine, Ending::Finish) {
-        Ok(report) => Ok(report.totals),
-        Err(fault) => Err(fault),
-    }
+    dump(&mut source, out, engine, Ending::Finish).err()
 }
 
-/// A reader that gives a whole CloseConnection at its first read, and fails at its second unless the lines are written
-/// by then.
+/// A reader that gives a whole CloseConnection at its first read, and fails at its second unless so many octets of lines are
+/// written by then.
 #[derive(Drop)]
 struct WatchingReader<'a> {
     reads: usize,
-    held: &'a RefCell<Vec<u8>>,
+    held: &'a Cell<usize>,
 }
 
 impl Read for WatchingReader<'_> {
     fn read(&mut self, into: &mut [u8]) -> io::Result<usize> {
         self.reads = self.reads.saturating_add(1);
-        if self.reads > 1 {
-            return if self.held.try_borrow()?.len() == COMPLETED {
-                Ok(0)
-            } else {
-                Err(io::Error::from(ErrorKind::Other))
-            };
+        if self.reads == 1 {
+            let mut stream = CLOSE;
+            return stream.read(into);
         }
-        let mut stream = CLOSE;
-        stream.read(into)
+        if self.held.get() == COMPLETED {
+            Ok(0)
+        } else {
+            Err(io::Error::from(ErrorKind::Other))
+        }
     }
 }
 
-/// Dumps what such a reader gives; returns whether it saw the lines in time.
-fn is_watched(
+/// What differs where the lines are watched; empty if nothing does.
+fn watched_differs(
     rt: &impl AllocGlobal,
     catalogue: &Catalogue,
     requests: &Requests,
-    held: &RefCell<Vec<u8>>,
-) -> Result<bool, Fail>
+) -> Result<&'static str, Fail>
     requires of { AreOf catalogue.now requests.now }
 {
-    let mut lines = Lines::new(rt.alloc(), FailingWriter::new(held, 100))?;
-    let reader = WatchingReader { reads: 0, held };
-    Ok(finished(reader, &mut lines, engine(rt.alloc(), catalogue, requests)?).is_ok())
-}
-
-fn watches(
-    rt: &(impl Abort + AllocGlobal),
-    catalogue: &Catalogue,
-    requests: &Requests,
-) -> Result<(), Fail>
-    requires of { AreOf catalogue.now requests.now }
-{
-    let held = RefCell::new(Vec::new(rt.alloc()));
-    let seen = is_watched(rt, catalogue, requests, &held)?;
-    assert!(rt; seen && held.into_inner().as_slice() == CLOSED);
-    Ok(())
-}
-
-#[test]
-fn the_lines_are_written_before_the_next_read(rt: HostRuntime) -> Result<(), Fail> {
-    let known = built_in(rt.alloc())?;
-    watches(&rt, &known.0, &known.1)
-}
-
-/// Dumps a CloseConnection by reads of an octet, of which one may fail, to a writer of which one write may fail.
-fn dump_by_octets(
-    rt: &impl AllocGlobal,
-    catalogue: &Catalogue,
-    requests: &Requests,
-    reader: FailingReader,
-    writer: FailingWriter,
-) -> Result<Result<Totals, RunFault>, Fail>
-    requires of { AreOf catalogue.now requests.now }
-{
+    let held = Cell::new(0);
+    let writer = Writer {
+        wanted: CLOSED,
+        held: &held,
+        writes: 0,
+        fails_at: 100,
+    };
     let mut lines = Lines::new(rt.alloc(), writer)?;
-    Ok(finished(reader, &mut lines, engine(rt.alloc(), catalogue, requests)?))
-}
-
-/// What differs where a write fails. Three writes of at most 16 octets flush the first two lines, and three more the
-/// closing.
-fn write_differs(
-    dumped: Result<Totals, RunFault>,
-    reads: usize,
-    held: &[u8],
-    fails_at: usize,
-) -> &'static str {
-    let fails = fails_at < 6;
-    if (dumped == Err(RunFault::Out)) != fails || (status_of(dumped) == 4) != fails {
-        return "the answer";
+    let reader = WatchingReader {
+        reads: 0,
+        held: &held,
+    };
+    let engine = engine(rt.alloc(), catalogue, requests)?;
+    if fault_of(reader, &mut lines, engine).is_some() {
+        return Ok("the answer");
     }
-    if reads != if fails_at < 3 { 12 } else { 13 } {
-        return "the reads";
-    }
-    if CLOSED.starts_with(held) {
+    Ok(if held.get() == CLOSED.len() {
         ""
     } else {
         "the lines"
+    })
+}
+
+/// Which read and which write fail of a dump by reads of an octet, and why it fails then, after how many reads, with how many
+/// octets of lines. Three writes of at most 16 octets flush the first two lines, and three more the closing.
+type Row = (usize, usize, Option<RunFault>, usize, usize);
+
+const ROWS: [Row; 20] = [
+    (100, 0, Some(RunFault::Out), 12, 0),
+    (100, 1, Some(RunFault::Out), 12, 16),
+    (100, 2, Some(RunFault::Out), 12, 32),
+    (100, 3, Some(RunFault::Out), 13, 47),
+    (100, 4, Some(RunFault::Out), 13, 63),
+    (100, 5, Some(RunFault::Out), 13, 79),
+    (100, 6, None, 13, 83),
+    (0, 100, Some(RunFault::Read), 1, 0),
+    (1, 100, Some(RunFault::Read), 2, 0),
+    (2, 100, Some(RunFault::Read), 3, 0),
+    (3, 100, Some(RunFault::Read), 4, 0),
+    (4, 100, Some(RunFault::Read), 5, 0),
+    (5, 100, Some(RunFault::Read), 6, 0),
+    (6, 100, Some(RunFault::Read), 7, 0),
+    (7, 100, Some(RunFault::Read), 8, 0),
+    (8, 100, Some(RunFault::Read), 9, 0),
+    (9, 100, Some(RunFault::Read), 10, 0),
+    (10, 100, Some(RunFault::Read), 11, 0),
+    (11, 100, Some(RunFault::Read), 12, 0),
+    (12, 100, Some(RunFault::Read), 13, COMPLETED),
+];
+
+/// What differs where a read or a write fails; empty if nothing does.
+fn row_differs(
+    rt: &impl AllocGlobal,
+    catalogue: &Catalogue,
+    requests: &Requests,
+    row: &Row,
+) -> Result<&'static str, Fail>
+    requires of { AreOf catalogue.now requests.now }
+{
+    let (reads, held) = (Cell::new(0), Cell::new(0));
+    let reader = Reader {
+        left: CLOSE,
+        reads: &reads,
+        interrupts: 0,
+        fails_at: row.0,
+    };
+    let writer = Writer {
+        wanted: CLOSED,
+        held: &held,
+        writes: 0,
+        fails_at: row.1,
+    };
+    let mut lines = Lines::new(rt.alloc(), writer)?;
+    let engine = engine(rt.alloc(), catalogue, requests)?;
+    if fault_of(reader, &mut lines, engine) != row.2 {
+        return Ok("the answer");
     }
+    if reads.get() != row.3 {
+        return Ok("the reads");
+    }
+    Ok(if held.get() == row.4 { "" } else { "the lines" })
 }
 
-fn fails_at_a_write(
-    rt: &(impl Abort + AllocGlobal),
-    catalogue: &Catalogue,
-    requests: &Requests,
-    fails_at: usize,
-) -> Result<(), Fail>
-    requires of { AreOf catalogue.now requests.now }
-{
-    let held = RefCell::new(Vec::new(rt.alloc()));
-    let reads = Cell::new(0);
-    let reader = FailingReader::new(CLOSE, &reads, 100);
-    let writer = FailingWriter::new(&held, fails_at);
-    let dumped = dump_by_octets(rt, catalogue, requests, reader, writer)?;
-    let held = held.into_inner();
-    let differs = write_differs(dumped, reads.get(), &held, fails_at);
-    assert!(rt; differs.is_empty(), "write {fails_at}: {differs}");
-    Ok(())
-}
-
-fn each_write_fails(
+fn each_row(
     rt: &(impl Abort + AllocGlobal),
     catalogue: &Catalogue,
     requests: &Requests,
 ) -> Result<(), Fail>
     requires of { AreOf catalogue.now requests.now }
 {
-    for fails_at in 0..7 {
-        fails_at_a_write(rt, catalogue, requests, fails_at)?;
+    expect_same_at(rt, watched_differs(rt, catalogue, requests)?, 0);
+    for row in &ROWS {
+        let differs = row_differs(rt, catalogue, requests, row)?;
+        expect_same_at(
+            rt,
+            differs,
+            row.0.saturating_mul(1000).saturating_add(row.1),
+        );
     }
     Ok(())
 }
 
 #[test]
-fn a_failing_flush_is_a_failed_write(rt: HostRuntime) -> Result<(), Fail> {
+fn lines_are_flushed_before_the_next_read_and_where_one_fails(rt: HostRuntime) -> Result<(), Fail> {
     let known = built_in(rt.alloc())?;
-    each_write_fails(&rt, &known.0, &known.1)
-}
-
-/// What differs where a read fails: the lines of what was read are written.
-fn read_differs(dumped: Result<Totals, RunFault>, held: &[u8], fails_at: usize) -> &'static str {
-    if dumped != Err(RunFault::Read) || status_of(dumped) != 4 {
-        return "the answer";
-    }
-    let due = if fails_at < 12 { 0 } else { COMPLETED };
-    if held.len() == due && CLOSED.starts_with(held) {
-        ""
-    } else {
-        "the lines"
-    }
-}
-
-fn fails_at_a_read(
-    rt: &(impl Abort + AllocGlobal),
-    catalogue: &Catalogue,
-    requests: &Requests,
-    fails_at: usize,
-) -> Result<(), Fail>
-    requires of { AreOf catalogue.now requests.now }
-{
-    let held = RefCell::new(Vec::new(rt.alloc()));
-    let reads = Cell::new(0);
-    let reader = FailingReader::new(CLOSE, &reads, fails_at);
-    let writer = FailingWriter::new(&held, 100);
-    let dumped = dump_by_octets(rt, catalogue, requests, reader, writer)?;
-    let held = held.into_inner();
-    let differs = read_differs(dumped, &held, fails_at);
-    assert!(rt; differs.is_empty(), "read {fails_at}: {differs}");
-    Ok(())
-}
-
-fn each_read_fails(
-    rt: &(impl Abort + AllocGlobal),
-    catalogue: &Catalogue,
-    requests: &Requests,
-) -> Result<(), Fail>
-    requires of { AreOf catalogue.now requests.now }
-{
-    for fails_at in 0..13 {
-        fails_at_a_read(rt, catalogue, requests, fails_at)?;
-    }
-    Ok(())
-}
-
-#[test]
-fn a_failing_read_leaves_the_lines_flushed(rt: HostRuntime) -> Result<(), Fail> {
-    let known = built_in(rt.alloc())?;
-    each_read_fails(&rt, &known.0, &known.1)
+    each_row(&rt, &known.0, &known.1)
 }

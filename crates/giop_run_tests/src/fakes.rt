@@ -1,31 +1,26 @@
-//! A reader and a writer that fail at a chosen call, and a reader that is interrupted.
+//! A reader and a writer that fail at a chosen call.
 
-use std::cell::{Cell, RefCell};
+use std::cell::Cell;
 use std::io;
 use std::io::{ErrorKind, Read, Write};
 
-/// A reader that gives one octet a read, counts its reads, and fails at read number `fails_at`, counted from 0.
+/// A reader that counts its reads: the first of them, so many, are interrupted, the others give an octet each, and the read
+/// number `fails_at`, counted from 0, fails.
 #[derive(Drop)]
-pub struct FailingReader<'a> {
-    left: &'a [u8],
-    reads: &'a Cell<usize>,
-    fails_at: usize,
+pub struct Reader<'a> {
+    pub left: &'a [u8],
+    pub reads: &'a Cell<usize>,
+    pub interrupts: usize,
+    pub fails_at: usize,
 }
 
-impl<'a> FailingReader<'a> {
-    pub fn new(left: &'a [u8], reads: &'a Cell<usize>, fails_at: usize) -> FailingReader<'a> {
-        FailingReader {
-            left,
-            reads,
-            fails_at,
-        }
-    }
-}
-
-impl Read for FailingReader<'_> {
+impl Read for Reader<'_> {
     fn read(&mut self, into: &mut [u8]) -> io::Result<usize> {
         let reads = self.reads.get();
         self.reads.set(reads.saturating_add(1));
+        if reads < self.interrupts {
+            return Err(io::Error::from(ErrorKind::Interrupted));
+        }
         if reads == self.fails_at {
             return Err(io::Error::from(ErrorKind::Other));
         }
@@ -40,65 +35,29 @@ impl Read for FailingReader<'_> {
     }
 }
 
-/// A reader that counts its reads, and of which the first so many are interrupted; the next gives all that it has.
+/// A writer that takes at most 16 octets a write, if they are those that are wanted next, counts them, and fails at write
+/// number `fails_at`, counted from 0.
 #[derive(Drop)]
-pub struct InterruptedReader<'a> {
-    left: &'a [u8],
-    reads: &'a Cell<usize>,
-    interrupts: usize,
+pub struct Writer<'a> {
+    pub wanted: &'a [u8],
+    pub held: &'a Cell<usize>,
+    pub writes: usize,
+    pub fails_at: usize,
 }
 
-impl<'a> InterruptedReader<'a> {
-    pub fn new(left: &'a [u8], reads: &'a Cell<usize>, interrupts: usize) -> InterruptedReader<'a> {
-        InterruptedReader {
-            left,
-            reads,
-            interrupts,
-        }
-    }
-}
-
-impl Read for InterruptedReader<'_> {
-    fn read(&mut self, into: &mut [u8]) -> io::Result<usize> {
-        let reads = self.reads.get();
-        self.reads.set(reads.saturating_add(1));
-        if reads < self.interrupts {
-            return Err(io::Error::from(ErrorKind::Interrupted));
-        }
-        self.left.read(into)
-    }
-}
-
-/// A writer that takes at most 16 octets a write, keeps them, and fails at write number `fails_at`, counted from 0.
-#[derive(Drop)]
-pub struct FailingWriter<'a> {
-    held: &'a RefCell<Vec<u8>>,
-    writes: usize,
-    fails_at: usize,
-}
-
-impl<'a> FailingWriter<'a> {
-    pub fn new(held: &'a RefCell<Vec<u8>>, fails_at: usize) -> FailingWriter<'a> {
-        FailingWriter {
-            held,
-            writes: 0,
-            fails_at,
-        }
-    }
-}
-
-impl Write for FailingWriter<'_> {
+impl Write for Writer<'_> {
     fn write(&mut self, bytes: &[u8]) -> io::Result<usize> {
         let writes = self.writes;
         self.writes = writes.saturating_add(1);
-        if writes == self.fails_at {
-            return Err(io::Error::from(ErrorKind::Other));
+        let (taken, _) = bytes.split_at(bytes.len().min(16));
+        match self.wanted.strip_prefix(taken) {
+            Some(wanted) if writes != self.fails_at => {
+                self.wanted = wanted;
+                self.held.set(self.held.get().saturating_add(taken.len()));
+                Ok(taken.len())
+            }
+            _ => Err(io::Error::from(ErrorKind::Other)),
         }
-        let taken = bytes.len().min(16);
-        self.held
-            .try_borrow_mut()?
-            .extend_from_slice(&bytes[..taken])?;
-        Ok(taken)
     }
 
     fn flush(&mut self) -> io::Result<()> {

@@ -1,10 +1,11 @@
-//! The words and the numbers of all refusals (docs/FORMATS.md, Refusals), and the statuses of runs that fail: no file or
-//! standard input gives too many reads.
+//! The words and the numbers of all refusals (docs/FORMATS.md, Refusals).
 
+use super::shown_tests::shows;
+use crate::expecting::expect;
 use giop_cdr::CdrFault;
 use giop_decode::Kind;
 use giop_print::OutFault;
-use giop_run::{ProgramFault, RunFault, SourceFault};
+use giop_run::{RunFault, SourceFault};
 use giop_sig::{ListFaultKind, SigFaultKind};
 use giop_stream::{LoadFault, NewFault, Stop, StreamFault};
 use std::fmt::Display;
@@ -12,124 +13,119 @@ use std::io::ErrorKind;
 use std::process::Abort;
 use std::test::Fail;
 
-const PRIMITIVE: [(CdrFault, u8, &str); 1] = [(CdrFault::Boolean, 1, "boolean")];
+/// A refusal, its number, the number that is wanted, and its word.
+type Row<T> = (T, u8, u8, &'static str);
 
-const SIGNATURES: [(SigFaultKind, u8, &str); 9] = [
-    (SigFaultKind::Token, 1, "token"),
-    (SigFaultKind::Syntax, 2, "syntax"),
-    (SigFaultKind::UnknownType, 3, "unknown-type"),
-    (SigFaultKind::Duplicate, 4, "duplicate"),
-    (SigFaultKind::Limit, 5, "limit"),
-    (SigFaultKind::Depth, 6, "depth"),
-    (SigFaultKind::Label, 7, "label"),
-    (SigFaultKind::Empty, 8, "empty"),
-    (SigFaultKind::OutOfMemory, 9, "out-of-memory"),
-];
-
-const REQUESTS: [(ListFaultKind, u8, &str); 3] = [
-    (ListFaultKind::Syntax, 1, "syntax"),
-    (ListFaultKind::Limit, 2, "limit"),
-    (ListFaultKind::OutOfMemory, 3, "out-of-memory"),
-];
-
-const VALUE: [(Kind, u8, &str); 7] = [
-    (Kind::Boolean, 1, "boolean"),
-    (Kind::StringEnd, 2, "string-end"),
-    (Kind::Enum, 3, "enum"),
-    (Kind::Bound, 4, "bound"),
-    (Kind::Disposition, 5, "disposition"),
-    (Kind::EncapShort, 6, "encap-short"),
-    (Kind::EncapOrder, 7, "encap-order"),
-];
-
-const STREAM: [(StreamFault, u8, &str); 4] = [
-    (StreamFault::Magic, 1, "magic"),
-    (StreamFault::Version, 2, "version"),
-    (StreamFault::ByteOrder, 3, "byte-order"),
-    (StreamFault::StreamLimit, 5, "stream-limit"),
-];
-
-const NEW: [(NewFault, u8, &str); 1] = [(NewFault::OutOfMemory, 1, "out of memory")];
-
-const CHECKPOINT: [(LoadFault, u8, &str); 6] = [
-    (LoadFault::Magic, 1, "magic"),
-    (LoadFault::Version, 2, "version"),
-    (LoadFault::Catalogue, 3, "catalogue"),
-    (LoadFault::Length, 4, "length"),
-    (LoadFault::State, 5, "state"),
-    (LoadFault::OutOfMemory, 6, "out-of-memory"),
-];
-
-const STOP: [(Stop, u8, &str); 2] = [
-    (Stop::Out(OutFault), 1, "write failed"),
-    (Stop::Failed, 2, "the engine was failed"),
-];
-
-const RUN: [(RunFault, u8, &str); 4] = [
-    (RunFault::Read, 1, "read failed"),
-    (RunFault::Turns, 2, "too many reads"),
-    (RunFault::Out, 3, "write failed"),
-    (RunFault::Failed, 4, "engine failed"),
-];
-
-/// Checks the word of a refusal and its number.
-fn is_named<T: Display + Copy>(
-    rt: &(impl Abort + AllocGlobal),
-    refusal: T,
-    number: u8,
-    want: u8,
-    word: &str,
-) -> Result<(), Fail> {
-    let text = format!(in rt.alloc(); "{refusal}")?;
-    assert!(rt; text.as_str() == word && number == want, "{want} {word}");
-    Ok(())
+/// The rows of an enum of refusals, by the names, numbers and words that are wanted.
+macro_rules! numbered {
+    ($kind:ident: $($name:ident $number:literal $word:literal,)*) => {
+        [$(($kind::$name, $kind::$name as u8, $number, $word)),*]
+    };
 }
 
+const PRIMITIVE: [Row<CdrFault>; 1] = numbered! {
+    CdrFault:
+    Boolean 1 "boolean",
+};
+
+const SIGNATURES: [Row<SigFaultKind>; 9] = numbered! {
+    SigFaultKind:
+    Token 1 "token",
+    Syntax 2 "syntax",
+    UnknownType 3 "unknown-type",
+    Duplicate 4 "duplicate",
+    Limit 5 "limit",
+    Depth 6 "depth",
+    Label 7 "label",
+    Empty 8 "empty",
+    OutOfMemory 9 "out-of-memory",
+};
+
+const REQUESTS: [Row<ListFaultKind>; 3] = numbered! {
+    ListFaultKind:
+    Syntax 1 "syntax",
+    Limit 2 "limit",
+    OutOfMemory 3 "out-of-memory",
+};
+
+const VALUE: [Row<Kind>; 7] = numbered! {
+    Kind:
+    Boolean 1 "boolean",
+    StringEnd 2 "string-end",
+    Enum 3 "enum",
+    Bound 4 "bound",
+    Disposition 5 "disposition",
+    EncapShort 6 "encap-short",
+    EncapOrder 7 "encap-order",
+};
+
+const STREAM: [Row<StreamFault>; 4] = numbered! {
+    StreamFault:
+    Magic 1 "magic",
+    Version 2 "version",
+    ByteOrder 3 "byte-order",
+    StreamLimit 5 "stream-limit",
+};
+
+const NEW: [Row<NewFault>; 1] = numbered! {
+    NewFault:
+    OutOfMemory 1 "out of memory",
+};
+
+const CHECKPOINT: [Row<LoadFault>; 6] = numbered! {
+    LoadFault:
+    Magic 1 "magic",
+    Version 2 "version",
+    Catalogue 3 "catalogue",
+    Length 4 "length",
+    State 5 "state",
+    OutOfMemory 6 "out-of-memory",
+};
+
+const RUN: [Row<RunFault>; 4] = numbered! {
+    RunFault:
+    Read 1 "read failed",
+    Turns 2 "too many reads",
+    Out 3 "write failed",
+    Failed 4 "engine failed",
+};
+
 /// Checks the words and the numbers of a table.
-macro_rules! are_named {
-    ($rt:ident, $table:ident) => {
-        for (refusal, number, word) in $table {
-            is_named(&$rt, refusal, refusal as u8, number, word)?;
-        }
-    };
+fn are_named<T: Display + Copy>(
+    rt: &(impl Abort + AllocGlobal),
+    rows: &[Row<T>],
+) -> Result<(), Fail> {
+    for (refusal, number, wanted, word) in rows {
+        expect(
+            rt,
+            shows(rt.alloc(), *refusal, word)? && number == wanted,
+            word,
+        );
+    }
+    Ok(())
 }
 
 #[test]
 fn each_refusal_has_its_word_and_its_number(rt: HostRuntime) -> Result<(), Fail> {
-    are_named!(rt, PRIMITIVE);
-    are_named!(rt, SIGNATURES);
-    are_named!(rt, REQUESTS);
-    are_named!(rt, VALUE);
-    are_named!(rt, STREAM);
-    are_named!(rt, NEW);
-    are_named!(rt, CHECKPOINT);
-    are_named!(rt, RUN);
-    for (refusal, number, word) in STOP {
-        is_named(&rt, refusal, refusal.number(), number, word)?;
-    }
-    is_named(&rt, OutFault, 0, 0, "write failed")?;
-    let fault = SourceFault {
-        kind: ErrorKind::Other,
-    };
-    is_named(&rt, fault, 0, 0, "read failed")
-}
-
-/// Checks the text of a fault and its status.
-fn says(
-    rt: &(impl Abort + AllocGlobal),
-    fault: ProgramFault,
-    want: &str,
-    status: u8,
-) -> Result<(), Fail> {
-    let text = format!(in rt.alloc(); "{fault}")?;
-    assert!(rt; text.as_str() == want && fault.status() == status, "{want}");
-    Ok(())
+    are_named(&rt, &PRIMITIVE)?;
+    are_named(&rt, &SIGNATURES)?;
+    are_named(&rt, &REQUESTS)?;
+    are_named(&rt, &VALUE)?;
+    are_named(&rt, &STREAM)?;
+    are_named(&rt, &NEW)?;
+    are_named(&rt, &CHECKPOINT)?;
+    are_named(&rt, &RUN)?;
+    are_named(&rt, &[(OutFault, 0, 0, "write failed")])
 }
 
 #[test]
-fn a_run_that_fails_is_told(rt: HostRuntime) -> Result<(), Fail> {
-    says(&rt, ProgramFault::Run(RunFault::Read), "read failed", 4)?;
-    says(&rt, ProgramFault::Run(RunFault::Turns), "too many reads", 4)?;
-    says(&rt, ProgramFault::Run(RunFault::Out), "write failed", 4)?;
-    says(&rt, ProgramFault::OutOfMemory, "out of memory", 5)
+fn a_stop_has_its_word_and_its_number(rt: HostRuntime) -> Result<(), Fail> {
+    let (out, failed) = (Stop::Out(OutFault), Stop::Failed);
+    are_named(&rt, &[(out, out.number(), 1, "write failed")])?;
+    are_named(
+        &rt,
+        &[(failed, failed.number(), 2, "the engine was failed")],
+    )?;
+    let kind = ErrorKind::Other;
+    are_named(&rt, &[(SourceFault { kind }, 0, 0, "read failed")])
 }

@@ -1,51 +1,50 @@
 //! What a file that is read whole has, and what an interrupted or failed read of it does.
 
-use super::fakes::{FailingReader, InterruptedReader};
+use super::fakes::Reader;
+use crate::expecting::expect_at;
 use giop_run::{Reading, front};
+use std::alloc::Global;
 use std::cell::Cell;
 use std::io::ErrorKind;
-use std::process::Abort;
 
-/// Reads a text of three octets from a reader whose first reads are interrupted.
-fn tries_again(rt: &(impl Abort + AllocGlobal), interrupts: usize) {
+/// How many octets of a text of six are wanted, how many reads of an octet are interrupted, which one fails, and what is read
+/// then, if it doesn't fail, after how many reads.
+type Row = (u64, usize, usize, Option<&'static str>, usize);
+
+const ROWS: [Row; 12] = [
+    (0, 0, 100_000, Some("a"), 1),
+    (3, 0, 100_000, Some("abcd"), 4),
+    (5, 0, 100_000, Some("abcdef"), 6),
+    (9, 0, 100_000, Some("abcdef"), 7),
+    (9, 0, 0, None, 1),
+    (9, 0, 3, None, 4),
+    (9, 0, 6, None, 7),
+    (9, 1, 100_000, Some("abcdef"), 8),
+    (9, 2, 100_000, Some("abcdef"), 9),
+    (9, 65_535, 100_000, Some("abcdef"), 65_542),
+    (9, 65_536, 100_000, None, 65_536),
+    (9, 2, 4, None, 5),
+];
+
+/// Whether this comes of a row.
+fn is_row(alloc: Global, row: &Row) -> bool {
     let reads = Cell::new(0);
-    let reader = InterruptedReader::new(b"abc", &reads, interrupts);
-    let is_right = match front(rt.alloc(), &mut Reading::new(reader), 10) {
-        Ok(octets) => interrupts < 65_536 && octets.as_slice() == b"abc".as_slice(),
-        Err(_) => interrupts == 65_536 && reads.get() == 65_536,
+    let reader = Reader {
+        left: b"abcdef",
+        reads: &reads,
+        interrupts: row.1,
+        fails_at: row.2,
     };
-    assert!(rt; is_right, "{interrupts} interrupted");
+    let is_read = match front(alloc, &mut Reading::new(reader), row.0) {
+        Ok(octets) => Some(octets.as_slice()) == row.3.map(str::as_bytes),
+        Err(error) => row.3.is_none() && (row.2 > 99) == (error.kind() != ErrorKind::Other),
+    };
+    is_read && reads.get() == row.4
 }
 
 #[test]
-fn an_interrupted_read_of_a_file_is_tried_again(rt: HostRuntime) {
-    for interrupts in [0, 1, 2, 65_535, 65_536] {
-        tries_again(&rt, interrupts);
+fn a_file_is_read_up_to_an_octet_past_the_limit_unless_a_read_fails(rt: HostRuntime) {
+    for row in &ROWS {
+        expect_at(&rt, is_row(rt.alloc(), row), row.4);
     }
-}
-
-/// Reads a text of six octets, by an octet a read, of which one may fail.
-fn reads_up_to(rt: &(impl Abort + AllocGlobal), most: u64, fails_at: usize, due: &[u8]) {
-    let reads = Cell::new(0);
-    let reader = FailingReader::new(b"abcdef", &reads, fails_at);
-    let is_right = match front(rt.alloc(), &mut Reading::new(reader), most) {
-        Ok(octets) => fails_at == 100 && octets.as_slice() == due,
-        Err(error) => error.kind() == ErrorKind::Other && reads.get() == fails_at.saturating_add(1),
-    };
-    assert!(rt; is_right, "up to {most}, read {fails_at} fails");
-}
-
-#[test]
-fn a_file_is_read_up_to_an_octet_past_the_limit(rt: HostRuntime) {
-    reads_up_to(&rt, 0, 100, b"a");
-    reads_up_to(&rt, 3, 100, b"abcd");
-    reads_up_to(&rt, 5, 100, b"abcdef");
-    reads_up_to(&rt, 9, 100, b"abcdef");
-}
-
-#[test]
-fn a_failed_read_of_a_file_is_told_by_its_kind(rt: HostRuntime) {
-    reads_up_to(&rt, 9, 0, b"");
-    reads_up_to(&rt, 9, 3, b"");
-    reads_up_to(&rt, 9, 6, b"");
 }

@@ -6,6 +6,8 @@ mod close;
 #[cfg(test)]
 mod console_tests;
 #[cfg(test)]
+mod expecting;
+#[cfg(test)]
 mod fakes;
 #[cfg(test)]
 mod fault_tests;
@@ -15,7 +17,5 @@ mod files_tests;
 mod reason_tests;
 #[cfg(test)]
 mod run_tests;
-#[cfg(test)]
-mod save_tests;
 #[cfg(test)]
 mod shown_tests;

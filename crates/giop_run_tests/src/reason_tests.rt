@@ -1,7 +1,11 @@
-//! What is said after a fault (docs/FORMATS.md, The program giopcap), and a writer whose reader has gone.
+//! What is told of a fault, the status, what is said after it (docs/FORMATS.md, The program giopcap), and a writer whose reader
+//! has gone.
 
-use giop_run::{Look, ProgramFault, Reason, Watched};
+use super::shown_tests::shows;
+use crate::expecting::expect;
+use giop_run::{Look, ProgramFault, Reason, RunFault, Watched, status};
 use giop_sig::{SigFault, SigFaultKind};
+use giop_stream::Totals;
 use std::io;
 use std::io::{ErrorKind, Write};
 use std::process::Abort;
@@ -44,34 +48,52 @@ const LOOKS: [(&[u8], &str); 22] = [
 
 const IDL: &str = ": IDL: omniidl -bgiopdump_signatures";
 
+/// Faults of a run, what is told of each, and the status.
+const FAULTS: [(ProgramFault<'static>, &str, u8); 4] = [
+    (ProgramFault::Run(RunFault::Read), "read failed", 4),
+    (ProgramFault::Run(RunFault::Turns), "too many reads", 4),
+    (ProgramFault::Run(RunFault::Out), "write failed", 4),
+    (ProgramFault::OutOfMemory, "out of memory", 5),
+];
+
 /// Checks the text of a fault, its words, and its status.
 fn says(
     rt: &(impl Abort + AllocGlobal),
     fault: ProgramFault,
-    want: &str,
+    wanted: &str,
     words: &str,
-    status: u8,
+    code: u8,
 ) -> Result<(), Fail> {
-    let text = format!(in rt.alloc(); "{fault}")?;
-    assert!(rt;
-        text.as_str() == want && fault.words() == words,
-        "{want}{words}"
+    let is_said = shows(rt.alloc(), fault, wanted)? && fault.words() == words;
+    expect(
+        rt,
+        is_said && fault.status() == code && status(&Err(fault)) == code,
+        wanted,
     );
-    assert_eq!(rt; fault.status(), status, "{want}");
     Ok(())
 }
 
 #[test]
-fn a_file_that_cannot_be_read_has_its_reason(rt: HostRuntime) -> Result<(), Fail> {
+fn a_fault_and_a_file_that_cannot_be_read_are_told(rt: HostRuntime) -> Result<(), Fail> {
+    for faults in 0..2 {
+        let totals = Totals {
+            messages: 1,
+            faults,
+            octets: 12,
+        };
+        expect(
+            &rt,
+            u64::from(status(&Ok(totals))) == faults,
+            "a run that ends",
+        );
+    }
+    for (fault, wanted, code) in FAULTS {
+        says(&rt, fault, wanted, "", code)?;
+    }
     for (kind, words) in REASONS {
         let why = Reason::of(kind);
-        says(
-            &rt,
-            ProgramFault::Unreadable { name: "a\n", why },
-            "a\\x0a: cannot read",
-            words,
-            4,
-        )?;
+        let fault = ProgramFault::Unreadable { name: "a\n", why };
+        says(&rt, fault, "a\\x0a: cannot read", words, 4)?;
     }
     Ok(())
 }
@@ -116,7 +138,6 @@ fn a_reader_that_has_gone_is_noted(rt: HostRuntime) {
     ] {
         let mut writer = Watched::new(Failing(kind));
         assert!(rt; !writer.reader_is_gone);
-        assert!(rt; writer.write(b"a line").is_err());
-        assert_eq!(rt; writer.reader_is_gone, is_gone);
+        assert!(rt; writer.write(b"a line").is_err() && writer.reader_is_gone == is_gone);
     }
 }

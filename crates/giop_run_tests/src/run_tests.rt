@@ -1,67 +1,61 @@
-//! Runs whose reads are interrupted, engines that failed, and outs with too little room.
+//! Runs whose reads are interrupted or fail, engines that failed, and outs with too little room.
 
 ghost use Rattle.giop_stream.specs.EngineHolds.{AreOf};
 
 use super::close::{CLOSE, CLOSED, COMPLETED, built_in, engine};
-use super::fakes::{FailingReader, InterruptedReader};
-use giop_print::{Out, Sheet};
-use giop_run::{Ending, Reading, RunFault, Source, run};
+use super::fakes::Reader;
+use crate::expecting::expect_same_at;
+use giop_print::Sheet;
+use giop_run::{Ending, Reading, RunFault, run};
 use giop_sig::{Catalogue, Requests};
-use giop_stream::{Engine, Status, Stop, Totals};
+use giop_stream::{Engine, Stop, Totals};
+use giop_testing::front;
 use std::cell::Cell;
 use std::process::Abort;
 use std::test::Fail;
 
-/// Runs a source to the stream's end; returns the totals.
-fn finished<S: Source, O: Out>(
-    source: &mut S,
-    out: &mut O,
-    engine: Engine,
-) -> Result<Totals, RunFault> {
-    match run(source, out, engine, Ending::Finish) {
-        Ok(report) => Ok(report.totals),
-        Err(fault) => Err(fault),
-    }
+/// A run of a CloseConnection: how many reads are interrupted, which one fails, how much room the lines have, and how it ends.
+#[derive(Clone, Copy)]
+struct Setup {
+    interrupts: usize,
+    fails_at: usize,
+    room: usize,
+    ending: Ending,
 }
 
-/// What differs where so many reads are interrupted: 65,536 of them are a failure.
-fn interrupt_differs(
-    ran: Result<Totals, RunFault>,
+/// Why it fails, if it does, after how many reads, and how many octets of lines there are.
+#[derive(Clone, Copy)]
+struct Wanted {
+    fault: Option<RunFault>,
     reads: usize,
-    held: &[u8],
-    interrupts: usize,
-) -> &'static str {
-    let fails = interrupts > 65_535;
-    if ran.is_ok() == fails || (ran == Err(RunFault::Read)) != fails {
+    held: usize,
+}
+
+/// What differs of a run; empty if nothing does.
+fn run_differs(engine: Engine, setup: Setup, wanted: Wanted) -> &'static str {
+    let mut octets = [0; 84];
+    let mut sheet = Sheet::new(&mut octets[..setup.room.min(84)]);
+    let reads = Cell::new(0);
+    let mut source = Reading::new(Reader {
+        left: CLOSE,
+        reads: &reads,
+        interrupts: setup.interrupts,
+        fails_at: setup.fails_at,
+    });
+    if run(&mut source, &mut sheet, engine, setup.ending).err() != wanted.fault {
         return "the answer";
     }
-    if reads
-        != if fails {
-            65_536
-        } else {
-            interrupts.saturating_add(2)
-        }
-    {
+    if reads.get() != wanted.reads {
         return "the reads";
     }
-    if held == if fails { b"" } else { CLOSED } {
+    if sheet.held() == front(CLOSED, wanted.held) {
         ""
     } else {
         "the lines"
     }
 }
 
-/// Runs a CloseConnection from a reader whose first reads are interrupted.
-fn tries_again(rt: &impl Abort, engine: Engine, interrupts: usize) {
-    let mut room = [0; 512];
-    let mut sheet = Sheet::new(&mut room);
-    let reads = Cell::new(0);
-    let mut source = Reading::new(InterruptedReader::new(CLOSE, &reads, interrupts));
-    let ran = finished(&mut source, &mut sheet, engine);
-    let differs = interrupt_differs(ran, reads.get(), sheet.held(), interrupts);
-    assert!(rt; differs.is_empty(), "{interrupts} interrupted: {differs}");
-}
-
+/// Interrupted reads are tried again: 65,536 of them are a failure.
 fn each_interrupt(
     rt: &(impl Abort + AllocGlobal),
     catalogue: &Catalogue,
@@ -69,27 +63,82 @@ fn each_interrupt(
 ) -> Result<(), Fail>
     requires of { AreOf catalogue.now requests.now }
 {
-    for interrupts in [0, 1, 2, 65_535, 65_536] {
-        tries_again(rt, engine(rt.alloc(), catalogue, requests)?, interrupts);
+    for (interrupts, fault, reads, held) in [
+        (0, None, 13, 83),
+        (1, None, 14, 83),
+        (2, None, 15, 83),
+        (65_535, None, 65_548, 83),
+        (65_536, Some(RunFault::Read), 65_536, 0),
+    ] {
+        let setup = Setup {
+            interrupts,
+            fails_at: 100_000,
+            room: 84,
+            ending: Ending::Finish,
+        };
+        let wanted = Wanted { fault, reads, held };
+        let engine = engine(rt.alloc(), catalogue, requests)?;
+        expect_same_at(rt, run_differs(engine, setup, wanted), interrupts);
     }
     Ok(())
 }
 
-#[test]
-fn an_interrupted_read_is_tried_again(rt: HostRuntime) -> Result<(), Fail> {
-    let known = built_in(rt.alloc())?;
-    each_interrupt(&rt, &known.0, &known.1)
+/// A read that fails leaves the lines of what was read, and no engine is kept.
+fn each_read(
+    rt: &(impl Abort + AllocGlobal),
+    catalogue: &Catalogue,
+    requests: &Requests,
+) -> Result<(), Fail>
+    requires of { AreOf catalogue.now requests.now }
+{
+    for fails_at in 0..13 {
+        let setup = Setup {
+            interrupts: 0,
+            fails_at,
+            room: 84,
+            ending: Ending::Keep,
+        };
+        let wanted = Wanted {
+            fault: Some(RunFault::Read),
+            reads: fails_at.saturating_add(1),
+            held: if fails_at == 12 { COMPLETED } else { 0 },
+        };
+        let engine = engine(rt.alloc(), catalogue, requests)?;
+        expect_same_at(rt, run_differs(engine, setup, wanted), fails_at);
+    }
+    Ok(())
 }
 
-/// What differs in an engine after a failed put.
-fn failed_differs(engine: &Engine, fed: Result<Status, Stop>) -> &'static str {
-    if !matches!(fed, Err(Stop::Out(_))) {
-        return "the answer";
+/// A sheet keeps what fits, and no engine is kept where a line doesn't. The first two lines have 47 octets, all three 83.
+fn each_room(
+    rt: &(impl Abort + AllocGlobal),
+    catalogue: &Catalogue,
+    requests: &Requests,
+    ending: Ending,
+    size: usize,
+) -> Result<(), Fail>
+    requires of { AreOf catalogue.now requests.now }
+{
+    for room in 0..84 {
+        let setup = Setup {
+            interrupts: 0,
+            fails_at: 100,
+            room,
+            ending,
+        };
+        let wanted = Wanted {
+            fault: if room < size {
+                Some(RunFault::Out)
+            } else {
+                None
+            },
+            reads: if room < COMPLETED { 12 } else { 13 },
+            held: room.min(size),
+        };
+        let engine = engine(rt.alloc(), catalogue, requests)?;
+        expect_same_at(rt, run_differs(engine, setup, wanted), room);
     }
-    if engine.totals() != NO_TOTALS {
-        return "the totals";
-    }
-    if engine.is_failed() { "" } else { "the engine" }
+    Ok(())
 }
 
 const NO_TOTALS: Totals = Totals {
@@ -98,31 +147,35 @@ const NO_TOTALS: Totals = Totals {
     octets: 0,
 };
 
-/// Feeds a CloseConnection to an engine with too little room for its lines, and then runs that engine with enough.
-fn fails_for_good(rt: &impl Abort, engine: Engine, room: usize) {
+/// What differs where an engine with too little room for its lines is fed, and then fed and run again; empty if nothing does.
+fn failed_differs(engine: Engine, room: usize) -> &'static str {
     let mut engine = engine;
     let mut octets = [0; COMPLETED];
     let mut sheet = Sheet::new(&mut octets[..room.min(COMPLETED)]);
-    let fed = engine.feed(CLOSE, &mut sheet);
-    let differs = failed_differs(&engine, fed);
-    assert!(rt; differs.is_empty(), "room {room}: {differs}");
-    let again = engine.feed(CLOSE, &mut sheet);
-    assert!(rt; matches!(again, Err(Stop::Failed)), "room {room}");
-    reads_nothing(rt, engine);
+    if !matches!(engine.feed(CLOSE, &mut sheet), Err(Stop::Out(_))) {
+        return "the answer";
+    }
+    if engine.totals() != NO_TOTALS || !engine.is_failed() {
+        return "the engine";
+    }
+    if !matches!(engine.feed(CLOSE, &mut sheet), Err(Stop::Failed)) {
+        return "the second answer";
+    }
+    let setup = Setup {
+        interrupts: 0,
+        fails_at: 100,
+        room: 84,
+        ending: Ending::Finish,
+    };
+    let wanted = Wanted {
+        fault: Some(RunFault::Failed),
+        reads: 0,
+        held: 0,
+    };
+    run_differs(engine, setup, wanted)
 }
 
-/// Runs a failed engine.
-fn reads_nothing(rt: &impl Abort, engine: Engine) {
-    let mut wide = [0; 512];
-    let mut sheet = Sheet::new(&mut wide);
-    let reads = Cell::new(0);
-    let mut source = Reading::new(FailingReader::new(CLOSE, &reads, 100));
-    let ran = finished(&mut source, &mut sheet, engine);
-    let untouched = reads.get() == 0 && sheet.held().is_empty();
-    assert!(rt; ran == Err(RunFault::Failed) && untouched);
-}
-
-fn each_room_fails(
+fn each_failed(
     rt: &(impl Abort + AllocGlobal),
     catalogue: &Catalogue,
     requests: &Requests,
@@ -130,67 +183,28 @@ fn each_room_fails(
     requires of { AreOf catalogue.now requests.now }
 {
     for room in 0..COMPLETED {
-        fails_for_good(rt, engine(rt.alloc(), catalogue, requests)?, room);
+        let engine = engine(rt.alloc(), catalogue, requests)?;
+        expect_same_at(rt, failed_differs(engine, room), room);
     }
     Ok(())
 }
 
-#[test]
-fn a_failed_engine_reads_and_writes_nothing(rt: HostRuntime) -> Result<(), Fail> {
-    let known = built_in(rt.alloc())?;
-    each_room_fails(&rt, &known.0, &known.1)
-}
-
-/// What differs on a sheet with so much room.
-fn kept_differs(
-    fed: Result<Status, Stop>,
-    finished: Result<Totals, Stop>,
-    room: usize,
-) -> &'static str {
-    if room < COMPLETED {
-        return match (fed, finished) {
-            (Err(Stop::Out(_)), Err(Stop::Failed)) => "",
-            _ => "the failure",
-        };
-    }
-    if !matches!(fed, Ok(Status::Running)) {
-        return "the answer";
-    }
-    if finished.is_ok() == (room == 83) {
-        ""
-    } else {
-        "the end"
-    }
-}
-
-/// Dumps a CloseConnection on a sheet with so much room.
-fn keeps_what_fits(rt: &impl Abort, engine: Engine, room: usize) {
-    let mut engine = engine;
-    let mut octets = [0; 84];
-    let mut sheet = Sheet::new(&mut octets[..room.min(84)]);
-    let fed = engine.feed(CLOSE, &mut sheet);
-    let finished = engine.finish(&mut sheet);
-    let differs = kept_differs(fed, finished, room);
-    let held = sheet.held();
-    let fits = held.len() == room && CLOSED.starts_with(held);
-    assert!(rt; fits && differs.is_empty(), "room {room}: {differs}");
-}
-
-fn each_room(
+fn each(
     rt: &(impl Abort + AllocGlobal),
     catalogue: &Catalogue,
     requests: &Requests,
 ) -> Result<(), Fail>
     requires of { AreOf catalogue.now requests.now }
 {
-    for room in 0..84 {
-        keeps_what_fits(rt, engine(rt.alloc(), catalogue, requests)?, room);
-    }
-    Ok(())
+    each_interrupt(rt, catalogue, requests)?;
+    each_read(rt, catalogue, requests)?;
+    each_room(rt, catalogue, requests, Ending::Finish, 83)?;
+    each_room(rt, catalogue, requests, Ending::Keep, COMPLETED)?;
+    each_failed(rt, catalogue, requests)
 }
 
 #[test]
-fn a_full_sheet_keeps_what_fits(rt: HostRuntime) -> Result<(), Fail> {
+fn a_run_ends_by_its_reads_and_its_room(rt: HostRuntime) -> Result<(), Fail> {
     let known = built_in(rt.alloc())?;
-    each_room(&rt, &known.0, &known.1)
+    each(&rt, &known.0, &known.1)
 }

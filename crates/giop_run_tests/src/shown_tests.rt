@@ -1,7 +1,9 @@
 //! How what stands on the command line is shown (docs/FORMATS.md, The program).
 
+use crate::expecting::expect;
 use giop_run::{ShownName, marked};
-use std::process::Abort;
+use std::alloc::Global;
+use std::fmt::Display;
 use std::test::Fail;
 
 /// Names and how they are shown.
@@ -21,33 +23,28 @@ const WORDS: [(&str, &str); 3] = [
     ("", ""),
 ];
 
-/// Checks how a name is shown.
-fn is_shown(rt: &(impl Abort + AllocGlobal), name: &str, want: &str) -> Result<(), Fail> {
-    let text = format!(in rt.alloc(); "{}", ShownName(name))?;
-    assert!(rt; text.as_str() == want, "{want}");
-    Ok(())
+/// Whether this is how something is shown.
+pub fn shows<T: Display + Copy>(alloc: Global, shown: T, wanted: &str) -> Result<bool, Fail> {
+    let text = format!(in alloc; "{shown}")?;
+    Ok(text.as_str() == wanted)
+}
+
+/// Whether this is how a word is marked.
+fn is_marked(alloc: Global, word: &str, wanted: &str) -> Result<bool, Fail> {
+    let words = [String::from_str(alloc, word)?];
+    let found = marked(alloc, &words)?;
+    Ok(found.len() == 1 && found[0].as_str() == wanted)
 }
 
 #[test]
-fn octets_of_a_name_that_cannot_be_printed_are_escaped(rt: HostRuntime) -> Result<(), Fail> {
-    for (name, want) in NAMES {
-        is_shown(&rt, name, want)?;
+fn octets_that_cannot_be_printed_are_escaped_and_line_feeds_marked(
+    rt: HostRuntime,
+) -> Result<(), Fail> {
+    for (name, wanted) in NAMES {
+        expect(&rt, shows(rt.alloc(), ShownName(name), wanted)?, wanted);
     }
-    Ok(())
-}
-
-/// Checks how a word is marked.
-fn is_marked(rt: &(impl Abort + AllocGlobal), word: &str, want: &str) -> Result<(), Fail> {
-    let words = [String::from_str(rt.alloc(), word)?];
-    let found = marked(rt.alloc(), &words)?;
-    assert!(rt; found.len() == 1 && found[0].as_str() == want, "{want}");
-    Ok(())
-}
-
-#[test]
-fn line_feeds_of_words_are_marked(rt: HostRuntime) -> Result<(), Fail> {
-    for (word, want) in WORDS {
-        is_marked(&rt, word, want)?;
+    for (word, wanted) in WORDS {
+        expect(&rt, is_marked(rt.alloc(), word, wanted)?, wanted);
     }
     Ok(())
 }

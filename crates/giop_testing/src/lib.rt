@@ -7,5 +7,5 @@ mod octets;
 mod tally;
 
 pub use difference::{LineDifference, compare, first_line};
-pub use octets::{front, spelled};
+pub use octets::{front, part, spelled};
 pub use tally::Tally;

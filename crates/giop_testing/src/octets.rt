@@ -1,4 +1,4 @@
-//! Octets in hexadecimal digits.
+//! Octets in hexadecimal digits, and the parts of a row.
 
 use std::io::Write;
 
@@ -12,6 +12,11 @@ pub fn spelled<'r>(text: &str, room: &'r mut [u8]) -> &'r mut [u8] {
         None => 0,
     };
     room.split_at_mut(count.min(size)).0
+}
+
+/// The part of a row at a place, counted from 0, between `|`; nothing after the last.
+pub fn part(row: &str, place: usize) -> &str {
+    row.split('|').nth(place).unwrap_or("")
 }
 
 /// So many octets, from the front.
