@@ -1,6 +1,7 @@
-//! Captures, a row each: its name, its octets in words of hexadecimal digits, `ff*8` for eight of them, and what comes of
-//! it: each packet, by how many octets the capture has up to its last, its link type, its time in nanoseconds or `-`, and
-//! its octets; and then the fault, or `-`.
+//! Captures, one in each row: its name; its octets in words of hexadecimal digits, with `ff*8` for
+//! eight of the same; and the outcome: first each packet, with the number of octets that the
+//! capture has up to the packet's last, its link type, its time in nanoseconds or `-`, and its
+//! octets; then the fault, or `-`.
 
 pub static CAPTURES: &str = "\
 empty|00*0|truncated at 0

@@ -1,4 +1,5 @@
-//! Tests of capture files: rows of worked captures, captures that tools wrote, and some that hold by computation.
+//! Tests of capture files: rows of worked captures, captures that tools wrote, and some captures
+//! whose outcome holds by computation.
 #![tactic(auto)]
 
 #[cfg(test)]

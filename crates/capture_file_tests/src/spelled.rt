@@ -1,4 +1,4 @@
-//! Captures as their rows spell them, and what comes of them.
+//! Captures as their rows spell them, and their outcomes.
 
 ghost use Rattle.std.specs.Prelude.{◌<◌};
 
@@ -7,24 +7,24 @@ use std::alloc::{AllocError, Global};
 use std::fmt::{self, Write};
 use std::test::Fail;
 
-/// No capture of a row is longer.
+/// No capture of a row has more octets.
 const MOST: u64 = 1_000_000;
 
-/// Puts the octets of hexadecimal digits.
+/// Appends the octets that hexadecimal digits give.
 fn put_digits(octets: &mut Vec<u8>, digits: &str) -> Result<(), AllocError> {
     let mut high = None;
     for digit in digits.chars() {
         let digit = digit.to_digit(16).unwrap_or(0);
         match high.take() {
             None => high = Some(digit),
-            // A digit is below 16; the remainders show that to the check.
+            // A digit is below 16. The remainders show that to the checker.
             Some(first) => octets.push((first % 16 * 16 + digit % 16) as u8)?,
         }
     }
     Ok(())
 }
 
-/// The octets that words spell, `ff*8` for eight of one.
+/// The octets that words spell; `ff*8` stands for eight of the same.
 pub fn octets_of(alloc: Global, text: &str) -> Result<Vec<u8>, Fail> {
     let mut octets = Vec::new(alloc);
     for word in text.split(' ') {
@@ -42,7 +42,8 @@ pub fn octets_of(alloc: Global, text: &str) -> Result<Vec<u8>, Fail> {
     Ok(octets)
 }
 
-/// Writes a packet as its row has it, with how many octets the capture has up to its last.
+/// Writes a packet as its row shows it, with the number of octets that the capture has up to the
+/// packet's last.
 fn write_packet(text: &mut String, place: u64, packet: Packet<'_>) -> fmt::Result {
     let link = packet.link;
     match packet.time {
@@ -70,7 +71,7 @@ fn take_piece(capture: &mut Capture, piece: &[u8], text: &mut String) -> fmt::Re
     Err(fmt::Error)
 }
 
-/// What comes of a capture that is taken in pieces of this size, as its row has it.
+/// The outcome of a capture that is taken in pieces of this size, as its row shows it.
 pub fn outcome_of(alloc: Global, octets: &[u8], size: usize) -> Result<String, Fail>
     requires { 0 < size }
 {
@@ -86,7 +87,7 @@ pub fn outcome_of(alloc: Global, octets: &[u8], size: usize) -> Result<String, F
     Ok(text)
 }
 
-/// Whether this comes of the capture of a row, in pieces of this size.
+/// Whether the capture of a row has the outcome of the row, if it is taken in pieces of this size.
 pub fn is_row(alloc: Global, row: &str, size: usize) -> Result<bool, Fail>
     requires { 0 < size }
 {

@@ -1,4 +1,4 @@
-//! What comes of captures, in pieces of some sizes and of all.
+//! The outcomes of captures, taken in pieces of some sizes and as a whole.
 
 use crate::capture_rows::CAPTURES;
 use crate::real_rows::REAL;
@@ -64,7 +64,7 @@ fn a_fault_is_answered_again_and_nothing_is_taken(rt: HostRuntime) -> Result<(),
     Ok(())
 }
 
-/// The first octets of files that are no captures, and what they are.
+/// The first octets of files that are no captures, and which files they are.
 const OTHERS: [(&[u8], OtherFile); 9] = [
     (b"\x1f\x8b\x08\x00", OtherFile::Gzip),
     (b"\x1f\x8c\x08\x00", OtherFile::Unknown),

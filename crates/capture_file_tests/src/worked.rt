@@ -2,7 +2,8 @@
 
 ghost use Rattle.capture_file_tests.specs.Worked.{OfRecords, OfBlocks, OfLengths, OfEnd};
 
-/// The packets and the faults of these captures, by the definition. It has no body, and is called for its contract.
+/// The packets and the faults of these captures, by the definition. The function has no body; it is
+/// called for its contract.
 pub fn worked_captures()
     ensures packets { OfRecords }
     ensures blocks { OfBlocks }

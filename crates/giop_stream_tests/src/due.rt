@@ -1,4 +1,5 @@
-//! After which octets of a stream the reading stops for a correspondent, and which message began in them.
+//! After which octets of a stream the reading stops for a correspondent, and which message has
+//! begun in them.
 
 ghost use Rattle.giop_stream.specs.EngineHolds.{AreOf};
 
@@ -12,9 +13,9 @@ use giop_testing::spelled;
 use std::alloc::Global;
 use std::test::Fail;
 
-/// A stream, whether its correspondent awaits messages alone or what it is told of a Reply alone, and after how many
-/// octets the reading stops: at three places with the number of the message that began last before each. It stops at the
-/// stream's end in any case.
+/// A stream; whether its correspondent awaits only messages, or only what it is told of a Reply;
+/// and after how many octets the reading stops: at three places, each with the number of the
+/// message that began last before it. The reading stops at the stream's end in any case.
 #[derive(Clone, Copy)]
 struct Row {
     name: &'static str,
@@ -86,7 +87,7 @@ const ROWS: [Row; 10] = [
     },
 ];
 
-/// Feeds octets by a correspondent of the row that isn't due.
+/// Feeds octets for the correspondent of the row, which isn't due.
 fn fed(engine: &mut Engine<'_>, row: &Row, octets: &[u8], out: &mut Sheet) -> Result<Fed, Stop> {
     if row.awaits_messages {
         engine.feed_by(&mut Timer, octets, out)
@@ -95,8 +96,8 @@ fn fed(engine: &mut Engine<'_>, row: &Row, octets: &[u8], out: &mut Sheet) -> Re
     }
 }
 
-/// What differs of the octets that are read by each call, where a call is given all that are left, or those alone that it
-/// is to read; empty if nothing does.
+/// What differs in the octets that each call reads. A call is given all octets that are left, or
+/// only those that it must read. The text is empty if nothing differs.
 fn stops_differ(engine: &mut Engine<'_>, row: &Row, is_cut: bool) -> &'static str {
     let mut room = [0; 256];
     let mut left = &*spelled(row.octets, &mut room);
@@ -126,7 +127,8 @@ fn stops_differ(engine: &mut Engine<'_>, row: &Row, is_cut: bool) -> &'static st
     }
 }
 
-/// What differs for a row by an engine that has read nothing; empty if nothing does.
+/// What differs for a row, if the engine has read nothing before. The text is empty if nothing
+/// differs.
 fn row_differs(
     alloc: Global,
     catalogue: &Catalogue,

@@ -1,4 +1,4 @@
-//! A stream that is read on from its checkpoint to its end.
+//! A stream that is read from its checkpoint to its end.
 
 ghost use Rattle.giop_stream.specs.EngineHolds.{AreOf};
 
@@ -9,12 +9,13 @@ use giop_stream::{Engine, LoadFault, Totals, go_on, has_checkpoint};
 use std::alloc::Global;
 use std::test::Fail;
 
-/// The Fragments that end the two Requests of the stream: one for the first, that of the second, the last of the first.
+/// The Fragments that end the two Requests of the stream. The first Request has two, and the
+/// Fragment of the second comes between them.
 const REST: &[u8] = b"GIOP\x01\x02\x02\x07\x00\x00\x00\x06\x00\x00\x00\x05\x05\x06\
 GIOP\x01\x02\x00\x07\x00\x00\x00\x04\x00\x00\x00\x06\
 GIOP\x01\x02\x00\x07\x00\x00\x00\x06\x00\x00\x00\x05\x07\x08";
 
-/// What is written of them and of the end.
+/// The lines that are written of these Fragments and of the end.
 const LINES: &[u8] = b"m3 start 1.2 big Fragment size 6 more
 m3 header.request_id ulong 5
 m3 continues m1
@@ -30,15 +31,15 @@ m1 end
 total messages 5 faults 0 octets 152
 ";
 
-/// What they come to.
+/// The totals at the end of the stream.
 const TOTALS: Totals = Totals {
     messages: 5,
     faults: 0,
     octets: 152,
 };
 
-/// What differs where the stream is read on from its checkpoint, and from one without its last octet; empty if nothing
-/// does.
+/// What differs if the stream is read on from its checkpoint, and from a checkpoint without its
+/// last octet. The text is empty if nothing differs.
 fn rest_differs(
     alloc: Global,
     catalogue: &Catalogue,
@@ -68,7 +69,7 @@ fn rest_differs(
     }
 }
 
-/// What differs where the stream is read, saved and read on; empty if nothing does.
+/// What differs if the stream is read, saved and read on. The text is empty if nothing differs.
 fn going_on_differs(alloc: Global, catalogue: &Catalogue, requests: &Requests) -> &'static str
     requires { AreOf catalogue.now requests.now }
 {

@@ -1,4 +1,4 @@
-//! How many messages may be open at once: one to 4,096.
+//! How many messages may be open at once: from one to 4,096.
 
 ghost use Rattle.std.specs.Prelude.{◌≤◌};
 ghost use Rattle.giop_stream.specs.Rules.{most_open};
@@ -14,14 +14,15 @@ use std::test::Fail;
 /// A signature file that declares nothing.
 const BUILT_IN: &[u8] = b"signatures 1;\n";
 
-/// A 1.2 Request with this id and with fragments to follow.
+/// A 1.2 Request with this id, which fragments follow.
 fn opener(id: u32) -> [u8; 16] {
     let mut octets = *b"GIOP\x01\x02\x02\x00\x00\x00\x00\x04\x00\x00\x00\x00";
     [octets[12], octets[13], octets[14], octets[15]] = id.to_be_bytes();
     octets
 }
 
-/// The lines of the last of 4,097, where 4,096 may be open, and those at the end of them all: the first and the last.
+/// The lines of the last of 4,097 messages, if 4,096 may be open. The two texts below are the first
+/// and the last lines at the end.
 const LAST: &[u8] = b"m4097 start 1.2 big Request size 4 more\n\
 m4097 header.request_id ulong 4097\n\
 m4097 fault too-many-open at 65552\n";
@@ -32,7 +33,7 @@ const LAST_UNFINISHED: &[u8] = b"m4095 unfinished\n\
 m4096 unfinished\n\
 total messages 4097 faults 1 octets 65552\n";
 
-/// Feeds 4,096 openers; returns whether each opens a message.
+/// Feeds 4,096 openers, and returns whether each of them opens a message.
 fn are_open(engine: &mut Engine<'_>) -> bool {
     for id in 1..4097 {
         let mut room = [0; 128];
@@ -44,14 +45,14 @@ fn are_open(engine: &mut Engine<'_>) -> bool {
     engine.totals().faults == 0
 }
 
-/// Whether the lines of one more are those.
+/// Whether the lines of one more message are `LAST`.
 fn is_next_faulted(engine: &mut Engine<'_>) -> bool {
     let mut room = [0; 128];
     let mut sheet = Sheet::new(&mut room);
     engine.feed(&opener(4097), &mut sheet).is_ok() && sheet.held() == LAST
 }
 
-/// Whether the closing lines are those.
+/// Whether the closing lines begin and end with the two texts above.
 fn are_unfinished(engine: Engine<'_>) -> bool {
     let mut room = [0; 70_000];
     let mut sheet = Sheet::new(&mut room);
@@ -61,7 +62,7 @@ fn are_unfinished(engine: Engine<'_>) -> bool {
         && sheet.held().ends_with(LAST_UNFINISHED)
 }
 
-/// What differs where 4,097 messages begin; empty if nothing does.
+/// What differs if 4,097 messages begin. The text is empty if nothing differs.
 fn differs(alloc: Global, catalogue: &Catalogue, requests: &Requests) -> &'static str
     requires { AreOf catalogue.now requests.now }
 {
@@ -89,7 +90,7 @@ fn where_4096_are_open_the_next_is_faulted(rt: HostRuntime) -> Result<(), Fail> 
     Ok(())
 }
 
-/// Whether an engine is made for so many open messages, which has read nothing.
+/// Whether an engine in which this many messages may be open can be made, and has read nothing.
 fn is_made(alloc: Global, catalogue: &Catalogue, requests: &Requests, most: u32) -> bool
     requires of { AreOf catalogue.now requests.now }
     requires range { (1 ≤ most) × (most ≤ most_open) }

@@ -9,7 +9,7 @@ use giop_stream::{Engine, Stop};
 use std::alloc::Global;
 use std::test::Fail;
 
-/// Counts the lines that are put to it, and keeps none of their text.
+/// Counts the lines that are put to it, and keeps no text of them.
 #[derive(Drop)]
 struct LineCount {
     lines: u64,
@@ -34,7 +34,8 @@ fn line_feeds(octets: &[u8]) -> u64 {
     octets.iter().filter(|octet| **octet == b'\n').count() as u64
 }
 
-/// How many lines an engine writes for a stream that is fed in pieces of a kibibyte, and for its end.
+/// How many lines an engine writes for the end of a stream, and for the stream, which is fed in
+/// pieces of 1,024 octets.
 fn lines_of(engine: Engine<'_>, stream: &[u8]) -> Result<u64, Stop> {
     let mut out = LineCount { lines: 0, puts: 0 };
     let mut engine = engine;
@@ -45,7 +46,7 @@ fn lines_of(engine: Engine<'_>, stream: &[u8]) -> Result<u64, Stop> {
     Ok(out.lines)
 }
 
-/// The built-in types, and no requests.
+/// The catalogue of the built-in types, and no requests.
 fn built_in(alloc: Global) -> Result<(Catalogue, Requests), Fail>
     ensures { IfOk result (λ known. AreOf known.0 known.1) }
 {
@@ -54,7 +55,8 @@ fn built_in(alloc: Global) -> Result<(Catalogue, Requests), Fail>
     Ok((catalogue, requests))
 }
 
-/// A header of CloseConnection in 1.0, big endian, without a payload; and the front of another.
+/// A header of CloseConnection in GIOP 1.0, big endian, without a payload; and the front of another
+/// header.
 const CLOSED: &[u8] = b"GIOP\x01\x00\x00\x05\x00\x00\x00\x00GIOP";
 
 #[test]

@@ -1,4 +1,5 @@
-//! Saves that fail: of an engine that is failed, and to an out that has less room than the checkpoint needs.
+//! Saves that fail: the save of an engine that has failed, and saves to an out that has less room
+//! than the checkpoint needs.
 
 ghost use Rattle.giop_stream.specs.EngineHolds.{AreOf};
 
@@ -12,10 +13,12 @@ use std::test::Fail;
 /// How many octets the checkpoint of the stream has.
 const LENGTH: usize = 656;
 
-/// A header of CloseConnection in 1.0, big endian, without a payload: its line has more than 20 octets.
+/// A header of CloseConnection in GIOP 1.0, big endian, without a payload. Its line has more than
+/// 20 octets.
 const CLOSED: &[u8] = b"GIOP\x01\x00\x00\x05\x00\x00\x00\x00";
 
-/// What differs where an engine is saved whose out had no room; empty if nothing does.
+/// What differs if an engine is saved after its out had no room. The text is empty if nothing
+/// differs.
 fn failed_differs(alloc: Global, catalogue: &Catalogue, requests: &Requests) -> &'static str
     requires { AreOf catalogue.now requests.now }
 {
@@ -44,7 +47,8 @@ fn a_failed_engine_saves_nothing(rt: HostRuntime) -> Result<(), Fail> {
     Ok(())
 }
 
-/// What differs in a save to an out with so little room, and in a save after it; empty if nothing does.
+/// What differs in a save to an out with only this much room, and in a save after it. The text is
+/// empty if nothing differs.
 fn stopped_differs(engine: &Engine, whole: &[u8], room: usize) -> &'static str {
     let mut octets = [0; 2048];
     let mut out = Sheet::new(&mut octets[..room.min(2048)]);
@@ -62,7 +66,8 @@ fn stopped_differs(engine: &Engine, whole: &[u8], room: usize) -> &'static str {
     ""
 }
 
-/// What differs in saves to outs that each have less room than the checkpoint needs; empty if nothing does.
+/// What differs in saves to outs that each have less room than the checkpoint needs. The text is
+/// empty if nothing differs.
 fn stops_differ(engine: &Engine) -> &'static str {
     let mut octets = [0; 2048];
     let mut out = Sheet::new(&mut octets);
@@ -78,7 +83,8 @@ fn stops_differ(engine: &Engine) -> &'static str {
     ""
 }
 
-/// What differs in such saves of an engine that has read the stream; empty if nothing does.
+/// What differs in such saves of an engine that has read the stream. The text is empty if nothing
+/// differs.
 fn read_differs(alloc: Global, catalogue: &Catalogue, requests: &Requests) -> &'static str
     requires { AreOf catalogue.now requests.now }
 {

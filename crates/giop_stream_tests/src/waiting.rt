@@ -1,11 +1,11 @@
-//! A correspondent that waits for messages, and answers no operation.
+//! A correspondent that waits for messages, and gives no operation as an answer.
 
 ghost use Rattle.std.specs.Prelude.{None, true, false};
 
 use giop_message::Correspondent;
 use giop_sig::OpId;
 
-/// It awaits messages, and is due for nothing else.
+/// The correspondent awaits messages, and is due for nothing else.
 #[derive(Clone, Copy, Debug, PartialEq, Eq)]
 pub struct Timer;
 

@@ -1,5 +1,6 @@
-//! Counts what a capture on standard input has: packets, TCP segments, octets of their payloads, and octets of the capture,
-//! with the fault that ends its reading. It measures what the reading of captures costs.
+//! Counts what a capture on standard input has: packets, TCP segments, octets of their payloads,
+//! and octets of the capture. Prints these with the fault that ends the reading. It measures how
+//! long the reading of captures takes.
 #![tactic(auto)]
 
 ghost use Rattle.capture_file.specs.CaptureState.{IsIn};
@@ -11,20 +12,20 @@ use tcp_segment::segment;
 /// The greatest number of reads: 2^40.
 const TURNS: u64 = 1 << 40;
 
-/// How many octets a read may give.
+/// The most octets that a read may give.
 const ROOM: usize = 65_536;
 
-/// No more octets of a capture are read: 2^63.
+/// At most this many octets of a capture are read: 2^63.
 const MOST: u64 = 1 << 63;
 
-/// What a capture has.
+/// How many TCP segments a capture has, and how many octets their payloads have.
 #[derive(Clone, Copy)]
 struct Counts {
     segments: u64,
     payload: u64,
 }
 
-/// Counts the packet that stands in these octets.
+/// Counts the packet that is in these octets.
 fn count_packet(capture: &Capture, octets: &[u8], counts: &mut Counts)
     requires { IsIn capture.now octets.now }
 {
@@ -35,7 +36,8 @@ fn count_packet(capture: &Capture, octets: &[u8], counts: &mut Counts)
     }
 }
 
-/// Takes octets of a capture, and counts the packets that they complete. Returns whether the reading goes on.
+/// Takes octets of a capture, and counts the packets that they complete. Returns whether the
+/// reading goes on.
 fn take_octets(capture: &mut Capture, octets: &[u8], counts: &mut Counts) -> bool {
     let mut rest = octets;
     while capture.octets() < MOST {

@@ -9,14 +9,14 @@ use Rattle.tcp_segment.specs.EndpointText.{endpoint_text}
 unfoldable pub digit : ℕ → ℕ
 digit c = if nat_lt c 58 then c - 48 else c - 87
 
--- hexadecimal digits with spaces between octets
+-- the octets that hexadecimal digits give, with spaces between octets
 unfoldable pub octets : List ℕ → List ℕ
 octets [] = []
 octets (a ∷ []) = []
 octets (a ∷ (b ∷ more)) =
     if a == 32 then octets (b ∷ more) else (16 * digit a + digit b) ∷ octets more
 
--- 192.0.2.1 and 2001:db8::1
+-- an endpoint: its address in hexadecimal digits, of IPv4 here and of IPv6 below, and its port
 unfoldable pub v4 : List ℕ → ℕ → Endpoint
 v4 address port = record { address = V4 (octets address); port = port }
 
@@ -25,7 +25,7 @@ v6 address port = record { address = V6 (octets address); port = port }
 
 -- ---- Packets.
 
--- Ethernet, a tag, IPv4, TCP with SYN, and two octets of padding.
+-- A packet of Ethernet with a tag, IPv4, TCP with SYN, and two octets of padding.
 abbrev pub Tagged : Type 0
 Tagged =
     segment 1
@@ -42,8 +42,8 @@ Tagged =
       payload = 0x47 ∷ [];
     })
 
--- Cooked 2, IPv6, hop-by-hop options of 16 octets and a fragment header of a whole packet, TCP with
--- ACK and FIN.
+-- A packet of Linux cooked capture 2, IPv6, hop-by-hop options of 16 octets, a fragment header of a
+-- whole packet, and TCP with ACK and FIN.
 abbrev pub Extended : Type 0
 Extended =
     segment 276
@@ -63,7 +63,7 @@ Extended =
       payload = 0x47 ∷ [];
     })
 
--- A loopback frame of the other byte order, and a fragment that isn't the first.
+-- A loopback frame in the other byte order. Its fragment isn't the first.
 abbrev pub Fragment : Type 0
 Fragment =
     segment 0
@@ -90,7 +90,7 @@ abbrev pub OfIpv6 : Type 0
 OfIpv6 = endpoint_text (v6 (codes "20010db8000000000000000000000001") 2809)
     ≡ codes "[2001:db8::1]:2809"
 
--- The first of two equal runs of zeros, and one group of zeros that stays.
+-- The first of two equal runs of zeros is shortened, and a single group of zeros stays.
 abbrev pub OfEqualRuns : Type 0
 OfEqualRuns = endpoint_text (v6 (codes "2001 0000 0000 00ab 0000 0000 0001 0000") 0)
     ≡ codes "[2001::ab:0:0:1:0]:0"

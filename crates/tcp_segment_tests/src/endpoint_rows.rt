@@ -1,4 +1,5 @@
-//! Endpoints, a row each: the octets of the address in hexadecimal digits, the port, and the text.
+//! Endpoints, one in each row: the octets of the address in hexadecimal digits, the port, and the
+//! text.
 
 pub static ENDPOINTS: &str = "\
 c0000201|2809|192.0.2.1:2809

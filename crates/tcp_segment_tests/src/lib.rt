@@ -1,4 +1,4 @@
-//! Tests of segments and of the texts of endpoints, and some of both that hold by computation.
+//! Tests of segments and of the texts of endpoints; some of both hold by computation.
 #![tactic(auto)]
 
 #[cfg(test)]

@@ -1,6 +1,7 @@
-//! Packets of captures, a row each: its name, the link type, the octets in hexadecimal digits, and the segment: who sends
-//! to whom, the sequence number, the acknowledgement or `-`, the flags SYN, FIN and RST as `S`, `F` and `R` or `.`, and the
-//! payload in hexadecimal digits or `.`; `none` where there is no segment.
+//! Packets of captures, one in each row: its name, the link type, the octets in hexadecimal digits,
+//! and the segment. A segment is written as: who sends to whom, the sequence number, the
+//! acknowledgement or `-`, the flags SYN, FIN and RST as `S`, `F` and `R` or `.`, and the payload
+//! in hexadecimal digits or `.`. If there is no segment, the row has `none`.
 
 pub static SEGMENTS: &str = "\
 Ethernet|1|000000000000000000000000 0800 450000340000400040060000 0a000001 0a000002 03e8 0af9 00000005 00000000 5010 ffff 0000 0000 47494f50 0100 00 05 00000000|10.0.0.1:1000 > 10.0.0.2:2809 5 0 . 47494f500100000500000000

@@ -1,4 +1,4 @@
-//! Segments and endpoints against the rows of the tables.
+//! Segments and endpoints, compared with the rows of the tables.
 
 use arrayvec::ArrayString;
 use std::fmt::{self, Write};
@@ -8,10 +8,11 @@ use tcp_segment::{Address, Endpoint, Segment, endpoint_text, segment};
 /// Room for the octets of a row.
 const ROOM: usize = 512;
 
-/// A text of at most so many octets.
+/// A text of at most 1,024 octets.
 type Line = ArrayString<1024>;
 
-/// The octets that words of hexadecimal digits spell, in this room; none where they don't, or don't fit.
+/// The octets that words of hexadecimal digits spell, in this room. There are none if a word
+/// doesn't spell octets, or if the octets don't fit.
 pub fn octets_of<'a>(text: &str, room: &'a mut [u8; ROOM]) -> Option<&'a [u8]> {
     let mut len = 0;
     for word in text.split(' ') {
@@ -62,7 +63,7 @@ fn write_payload(line: &mut Line, payload: &[u8]) -> fmt::Result {
     Ok(())
 }
 
-/// Writes a segment as its row has it.
+/// Writes a segment as its row shows it.
 fn write_segment(line: &mut Line, segment: &Segment<'_>) -> fmt::Result {
     write_endpoint(line, segment.flow.from)?;
     line.write_str(" > ")?;
@@ -101,7 +102,7 @@ fn address_of(octets: &[u8]) -> Option<Address> {
     Some(Address::V6(<[u8; 16]>::try_from(octets).ok()?))
 }
 
-/// The endpoint of a row, and its text there.
+/// The endpoint of a row, and the text in that row.
 pub fn endpoint_row(row: &str) -> Option<(Endpoint, &str)> {
     let mut parts = row.split('|');
     let mut room = [0; ROOM];

@@ -2,7 +2,8 @@
 
 ghost use Rattle.tcp_segment_tests.specs.Worked.{Tagged, Extended, Fragment, ToItself, OfIpv4, OfIpv6, OfEqualRuns, OfMapped};
 
-/// The segments of these packets, by the definition. It has no body, and is called for its contract.
+/// The segments of these packets, by the definition. The function has no body; it is called for its
+/// contract.
 pub fn worked_segments()
     ensures ipv4 { Tagged }
     ensures ipv6 { Extended }
@@ -10,7 +11,8 @@ pub fn worked_segments()
     ensures same { ToItself }
 {}
 
-/// The texts of these endpoints, by the definition. It has no body, and is called for its contract.
+/// The texts of these endpoints, by the definition. The function has no body; it is called for its
+/// contract.
 pub fn worked_texts()
     ensures ipv4 { OfIpv4 }
     ensures ipv6 { OfIpv6 }

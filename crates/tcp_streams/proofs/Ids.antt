@@ -1,4 +1,4 @@
--- The flows whose streams live have ids, each once, so there is room for them.
+-- The flows of the live streams have ids, and no id comes twice, so there is room for them.
 use Rattle.std.proofs.Common.{◌≡◌, ℕ, ◌<◌, ◌≤◌, Bool, true, false, cond, eqb, nat_eq, nat_lt, List, [], ◌∷◌, ◌++◌, length, sym, subst, arith, inl, inr, length-append}
 use Rattle.std.specs.List.{AllByRecursion, IsDistinct, list_any}
 use Rattle.std.proofs.lemmas.Bool.{cases_Bool, cond-true, cond-false, eqb-true, eq-eqb, ne_eqb, or_cases, ltb-true}
@@ -44,7 +44,7 @@ distinct_without n [] h = tt
 distinct_without n (x ∷ xs) h = distinct_case x xs (without n xs) (nat_eq x n) h.1
     (all_without (λ y. eqb x y ≡ false) n xs h.0) (distinct_without n xs h.1)
 
--- what is taken away of ids that differ stands there no longer
+-- if the ids differ, an id that is taken away isn't among the others
 pub none_left : (n : ℕ) (xs : List ℕ) → IsDistinct eqb xs →
     AllByRecursion (λ y. eqb n y ≡ false) (without n xs)
 unfolding without IsDistinct
@@ -80,7 +80,7 @@ below_any n (x ∷ xs) q h e =
       | inr a ↦ below_any n xs q h.1 a
     ]
 
--- after one that is taken away and stands last again
+-- the same after an id was taken away and was added at the end again
 pub again_ids : (id : ℕ) (xs : List ℕ) → id < most_ids → AreIds xs →
     AreIds (without id xs ++ id ∷ [])
 again_ids id xs l h = (
@@ -102,7 +102,7 @@ begun_ids id xs h =
 pub without_ids : (id : ℕ) (xs : List ℕ) → AreIds xs → AreIds (without id xs)
 without_ids id xs h = (all_without (λ x. x < most_ids) id xs h.0, distinct_without id xs h.1)
 
--- there is room for one more, where a flow's own is taken away
+-- there is room for one more id after the flow's own was taken away
 pub fewer_ids : (id : ℕ) (xs : List ℕ) → id < most_ids → AreIds xs →
     length (without id xs) < most_ids
 fewer_ids id xs l h =
@@ -116,7 +116,7 @@ pub none_ids : AreIds []
 unfolding IsDistinct
 none_ids = (tt, tt)
 
--- so they do after a close
+-- the same after a close
 pub ended_ids : (id : ℕ) (cause : CloseCause) (live : List ℕ) → AreIds live →
     AreIds (ended id cause live)
 ended_ids id Gap live h = h

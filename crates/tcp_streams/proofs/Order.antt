@@ -1,4 +1,4 @@
--- Which streams live after one more event, and where a number stands.
+-- Which streams live after one more event, and at which index a number stands.
 use Rattle.std.proofs.Common.{◌≡◌, ℕ, zero, suc, ◌+◌, ◌<◌, ◌≤◌, Bool, true, false, cond, nat_eq, List, [], ◌∷◌, ◌++◌, length, drop, get_or, Option, Some, None, is_some, IfSome, refl, sym, ◌∙◌, ap, subst, arith, add-one, true≢false}
 use Rattle.std.specs.Option.{option_map}
 use Rattle.std.specs.List.{remove}
@@ -19,7 +19,7 @@ with_case n x xs true r h = refl
 with_case n x xs false None h = tt
 with_case n x xs false (Some i) h = ap (λ (ys : List ℕ). x ∷ ys) h
 
--- what is taken away stands where it is first
+-- to remove the first number equal to `n` is to remove the number at its index
 pub found_without : (n : ℕ) (xs : List ℕ) → IfSome (index_of n xs) (λ i. remove xs i ≡ without n xs)
 unfolding index_of without
 found_without n [] = tt

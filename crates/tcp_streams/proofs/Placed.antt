@@ -1,4 +1,4 @@
--- Where ids stand among places, and what is left where one goes.
+-- At which place an id stands, and what is left after an id goes.
 use Rattle.std.proofs.Common.{◌≡◌, ℕ, zero, suc, ◌+◌, ◌-◌, ◌<◌, ◌≤◌, Bool, true, false, cond, eqb, nat_eq, ◌&&◌, List, [], ◌∷◌, ◌++◌, length, get_or, set, take, Option, Some, None, IfSome, refl, sym, ◌∙◌, ap, subst, arith, inl, inr, length-append}
 use Rattle.std.specs.Option.{option_map}
 use Rattle.std.specs.List.{AllByRecursion, IsDistinct}
@@ -21,7 +21,7 @@ and_not : (a b : Bool) → (a ≡ true → b ≡ false) → (a && b) ≡ false
 and_not true b h = h refl
 and_not false b h = refl
 
--- ---- Of ids that stand there.
+-- ---- The ids that stand in places.
 
 head_case : (P : ℕ → Type 0) (x : ℕ) (ys : List ℕ) (b : Bool) → b ≡ true →
     AllByRecursion P (cond b (x ∷ ys) ys) → P x
@@ -53,9 +53,9 @@ at_ids P (x ∷ xs) zero l some h =
 at_ids P (x ∷ xs) (suc i) l some h =
     at_ids P xs i (omega (arith, l)) some (rest_case P x (ids_of xs) (is_id x) h)
 
--- ---- Where an id stands.
+-- ---- The place of an id.
 
--- of ids that differ, one stands where it stands
+-- if the ids differ, an id that is found at a place stands at that place
 pub place_at : (n : ℕ) (xs : List ℕ) (i : ℕ) → i < length xs → n < most_ids →
     IsDistinct eqb (ids_of xs) → get_or xs i 0 ≡ n → place_of n xs ≡ Some i
 unfolding place_of
@@ -73,7 +73,7 @@ place_at n (x ∷ xs) (suc i) l some d e =
           (fewer_case x (ids_of xs) (is_id x) d) e,
     ) refl
 
--- one without a stamp stands nowhere
+-- an id without a stamp has no place
 pub place_unstamped : (stamps : List ℕ) (n : ℕ) (xs : List ℕ) → get_or stamps n 1 ≡ 0 →
     AreStamped stamps (ids_of xs) → place_of n xs ≡ None
 unfolding place_of
@@ -88,7 +88,7 @@ place_unstamped stamps n (x ∷ xs) z h =
           (rest_case (λ y. 0 < get_or stamps y 1) x (ids_of xs) (is_id x) h),
     ) refl
 
--- nor does what is no id
+-- a number that is no id has no place
 pub place_none : (n : ℕ) (xs : List ℕ) → most_ids ≤ n → place_of n xs ≡ None
 unfolding place_of
 place_none n [] l = refl
@@ -98,7 +98,7 @@ place_none n (x ∷ xs) l =
     ne_eqb x n (λ e. omega (arith, e, less, l))) in
     rw (other, place_none n xs l) refl
 
--- an id stands where its number stands first
+-- the place of an id is the first index of its number
 pub place_index : (n : ℕ) (xs : List ℕ) → n < most_ids → place_of n xs ≡ index_of n xs
 unfolding place_of index_of
 place_index n [] l = refl
@@ -135,7 +135,7 @@ place_id n [] = tt
 place_id n (x ∷ xs) =
     own_case n x xs (is_id x) (nat_eq x n) (place_of n xs) refl refl (place_id n xs)
 
--- ---- One goes.
+-- ---- One id goes.
 
 gone_case : (n x : ℕ) (xs : List ℕ) (b e : Bool) (r : Option ℕ) → is_id x ≡ b → nat_eq x n ≡ e →
     IfSome r (λ i. ids_of (set xs i most_ids) ≡ without n (ids_of xs)) →
@@ -177,7 +177,7 @@ stays_case n x ys false e (Some i) he o h = absurd (true≢false (ap some o))
     some None = false
     some (Some k) = true
 
--- one that stands nowhere can't go
+-- if an id has no place, taking it away changes nothing
 pub none_without : (n : ℕ) (xs : List ℕ) → place_of n xs ≡ None →
     without n (ids_of xs) ≡ ids_of xs
 unfolding place_of without
@@ -185,7 +185,7 @@ none_without n [] o = refl
 none_without n (x ∷ xs) o = stays_case n x (ids_of xs) (is_id x) (nat_eq x n) (place_of n xs) refl o
     (none_without n xs)
 
--- ---- How many ids stand at the front.
+-- ---- How many ids stand among the first places.
 
 count_case : (x : ℕ) (xs ys : List ℕ) (b : Bool) → suc (length ys) ≡ length xs →
     suc (length (cond b (x ∷ ys) ys)) ≡ length (cond b (x ∷ xs) xs)
@@ -206,7 +206,7 @@ get_front (x ∷ xs) i zero l = absurd (omega (arith, l))
 get_front (x ∷ xs) zero (suc n) l = refl
 get_front (x ∷ xs) (suc i) (suc n) l = get_front xs i n (omega (arith, l))
 
--- so many more, where each place is an id's
+-- if each place after the front is one of an id, t more places have t more ids
 pub count_more : (xs : List ℕ) (front t : ℕ) → front + t ≤ length xs
     → ((k : ℕ) → front ≤ k → k < length xs → get_or xs k 0 < most_ids)
     → length (ids_of (take (front + t) xs)) ≡ length (ids_of (take front xs)) + t
@@ -240,7 +240,7 @@ count_all xs front l whole =
     ap (λ (ys : List ℕ). length (ids_of ys)) (sym (take-length xs))
     ∙ count_to xs front (length xs) l (omega arith) whole
 
--- where one went, none stands
+-- the place of an id that went counts no id
 pub count_gone : (xs : List ℕ) (i : ℕ) → i < length xs →
     length (ids_of (take (i + 1) (set xs i most_ids))) ≡ length (ids_of (take i xs))
 count_gone xs i l =
@@ -251,7 +251,7 @@ count_gone xs i l =
     let before = ap (λ (zs : List ℕ). length (ids_of zs)) (take-set xs i most_ids) in
     omega (arith, here, own, before)
 
--- ---- The id of a rank.
+-- ---- The id at a rank.
 
 rank_case : (x v m : ℕ) (ys zs : List ℕ) (b : Bool) → length zs ≡ m → get_or ys m 0 ≡ v →
     get_or (cond b (x ∷ ys) ys) (length (cond b (x ∷ zs) zs)) 0 ≡ v
@@ -299,7 +299,7 @@ only_at [] k h l = absurd (omega (arith, l))
 only_at (x ∷ xs) zero h l = h.0
 only_at (x ∷ xs) (suc k) h l = only_at xs k h.1 (omega (arith, l))
 
--- a stamp more
+-- the ids have stamps after one more stamp was noted
 pub stamped_note : (stamps : List ℕ) (n s : ℕ) (xs : List ℕ) → 0 < s → AreStamped stamps xs →
     AreStamped (set stamps n s) xs
 stamped_note stamps n s [] l h = tt
@@ -311,7 +311,8 @@ stamped_note stamps n s (x ∷ xs) l h = (
   stamped_note stamps n s xs l h.1,
 )
 
--- ---- What is so of places, after one goes, comes, or all that are no id's are given up.
+-- ---- What stays true of places after an id goes or comes, or after all places without an id are
+-- given up.
 
 few_case : (x : ℕ) (xs ys : List ℕ) (b : Bool) → length ys ≤ length xs →
     length (cond b (x ∷ ys) ys) ≤ suc (length xs)
@@ -352,7 +353,7 @@ goes_front n i xs stamps front count h l own gone before =
           omega (arith, is, id);
     }
 
--- how many stand at the front, where one of it goes
+-- if an id of the front goes, the front has at least one id before that
 pub front_some : (i : ℕ) (xs stamps : List ℕ) (front count : ℕ) →
     IsQueue xs stamps front count → get_or xs i 0 < most_ids → i < front → 1 ≤ count
 front_some i xs stamps front count h own before =
@@ -438,7 +439,7 @@ packed xs stamps few d h =
       whole = λ k l m. only_at (ids_of xs) k (all_ids xs) m;
     }
 
--- ---- Which of a room's streams is the first.
+-- ---- Which stream of a room is the first.
 
 elder_by : (room x : ℕ) (xs : List ℕ) (b : Bool) → is_id x ≡ b →
     elder_side room (ids_of xs) ≡ first_side (place_of (flow_id room FromLesser) xs)

@@ -1,5 +1,5 @@
--- The flows whose streams live have stamps, so one without a stamp isn't among them; and where one
--- stands.
+-- The flows of the live streams have stamps, so a flow without a stamp isn't among them; and at
+-- which place a flow stands.
 use Rattle.std.proofs.Common.{◌≡◌, ℕ, suc, ◌<◌, Bool, true, false, cond, eqb, nat_eq, nat_lt, List, [], ◌∷◌, ◌++◌, length, get_or, set, Option, Some, None, refl, sym, ◌∙◌, ap, subst, arith, inl, inr}
 use Rattle.std.specs.Option.{option_map}
 use Rattle.std.specs.List.{AllByRecursion, IsDistinct}
@@ -10,7 +10,7 @@ use Rattle.tcp_streams.specs.Lives.{without}
 use Rattle.tcp_streams.specs.Stamped.{AreStamped, first_side}
 use Rattle.tcp_streams.proofs.Ids.{all_without, none_left, push_all}
 
--- ---- Where one stands.
+-- ---- The place of a flow.
 
 pub not_own : (stamps : List ℕ) (n x : ℕ) → get_or stamps n 1 ≡ 0 → 0 < get_or stamps x 1 →
     nat_eq x n ≡ false
@@ -18,7 +18,7 @@ not_own stamps n x z l =
     ne_eqb x n (λ e. absurd (let same = ap (λ (k : ℕ). get_or stamps k 1) e in
     omega (arith, z, l, same)))
 
--- ---- Who has a stamp.
+-- ---- Which flows have a stamp.
 
 pub set_elsewhere : (stamps : List ℕ) (n s x : ℕ) → nat_eq n x ≡ false → 0 < get_or stamps x 1 →
     0 < get_or (set stamps n s) x 1
@@ -26,20 +26,20 @@ set_elsewhere stamps n s x e l =
     subst (λ (k : ℕ). 0 < k) (sym (get_or-set_other stamps n x s 1
     (λ o. eqb-false n x e (sym o)))) l
 
--- others keep theirs
+-- the other flows keep their stamps
 pub stamped_others : (stamps : List ℕ) (n s : ℕ) (xs : List ℕ) →
     AllByRecursion (λ x. eqb n x ≡ false) xs → AreStamped stamps xs → AreStamped (set stamps n s) xs
 stamped_others stamps n s [] d h = tt
 stamped_others stamps n s (x ∷ xs) d h =
     (set_elsewhere stamps n s x d.0 h.0, stamped_others stamps n s xs d.1 h.1)
 
--- so they have after one is taken away
+-- the flows that are left have stamps after one was taken away
 pub stamped_without : (stamps : List ℕ) (n s : ℕ) (xs : List ℕ) → IsDistinct eqb xs →
     AreStamped stamps xs → AreStamped (set stamps n s) (without n xs)
 stamped_without stamps n s xs d h = stamped_others stamps n s (without n xs) (none_left n xs d)
     (all_without (λ x. 0 < get_or stamps x 1) n xs h)
 
--- a stamp that is noted, or no memory for it
+-- a flow has the stamp that was noted for it, or there is no memory for one
 pub own_stamp : (stamps : List ℕ) (n s : ℕ) → 0 < s → 0 < get_or (set stamps n s) n 1
 own_stamp stamps n s l =
     elim (cases_lt n (length stamps)) [
@@ -49,14 +49,14 @@ own_stamp stamps n s l =
           (omega arith)
     ]
 
--- so they have after one more stands there
+-- the flows have stamps after one more was added
 pub stamped_push : (stamps : List ℕ) (n s : ℕ) (xs : List ℕ) → 0 < s →
     AllByRecursion (λ x. eqb n x ≡ false) xs → AreStamped stamps xs →
     AreStamped (set stamps n s) (xs ++ n ∷ [])
 stamped_push stamps n s xs l d h = push_all (λ x. 0 < get_or (set stamps n s) x 1) xs n
     (stamped_others stamps n s xs d h) (own_stamp stamps n s l)
 
--- ---- Which of a room's streams is the first, by where the two stand.
+-- ---- Which stream of a room is the first, from the places of the two.
 
 lesser_first : (g : Option ℕ) → first_side (Some 0) (option_map suc g) ≡ FromLesser
 unfolding first_side

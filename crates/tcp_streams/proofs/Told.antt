@@ -1,4 +1,4 @@
--- What a listener was told beside the streams that live.
+-- What a listener was told, in addition to what is known of the live streams.
 use Rattle.std.specs.Prelude.{Result, Ok, Err, OnOk, IfOk}
 use Rattle.tcp_flow.specs.declared.flow.ListenerFault.{ListenerFault}
 

@@ -1,4 +1,5 @@
--- Which streams live, or were closed by a gap, by the order of their beginnings (meaning).
+-- Which streams live, or were closed by a gap or by the end of the capture, in the order in which
+-- they began (meaning).
 use Rattle.std.specs.Prelude.{ℕ, suc, ◌<◌, cond, eqb, nat_eq, nat_lt, List, [], ◌∷◌, ◌++◌, Option, Some, None}
 use Rattle.std.specs.Option.{option_map}
 use Rattle.std.specs.List.{AllByRecursion, IsDistinct}
@@ -9,31 +10,32 @@ use Rattle.tcp_flow.specs.declared.flow.CloseCause.{CloseCause}
 use Rattle.tcp_flow.specs.declared.flow.CloseCause.TheVariants.{Fin, Reset, Syn, Fault, Gap, Room, End}
 use Rattle.tcp_flow.specs.Flow.{Event, Opens, Begins, Delivers, Closes, OfCapture}
 
--- where a number stands first
+-- the index of the first element that is this number
 unfoldable pub index_of : ℕ → List ℕ → Option ℕ
 index_of n [] = None
 index_of n (x ∷ xs) = cond (nat_eq x n) (Some 0) (option_map suc (index_of n xs))
 
--- the first such number is taken away
+-- the list without the first element that is this number
 unfoldable pub without : ℕ → List ℕ → List ℕ
 without n [] = []
 without n (x ∷ xs) = cond (nat_eq x n) xs (x ∷ without n xs)
 
--- the ids that flows have are below this: two for each of 65,536 connections
+-- the ids of flows are below this: two for each of 65,536 connections
 abbrev pub most_ids : ℕ
 most_ids = 131072
 
--- each is the id of a flow, and stands there once
+-- each number is the id of a flow, and no number comes twice
 abbrev pub AreIds : List ℕ → Type 0
 AreIds ids = AllByRecursion (λ id. id < most_ids) ids × IsDistinct eqb ids
 
--- the flows of streams, after the beginning of one: it is the last, and the only one of its flow
+-- the flows of the streams after a stream has begun: its flow comes last, and nowhere else. A
+-- number that is no id changes nothing
 unfoldable pub begun : ℕ → List ℕ → List ℕ
 begun id live = cond (nat_lt id most_ids) (without id live ++ id ∷ []) live
 
--- the same after the close of one. What a gap closed keeps its place, since its flow may wait for the
--- next stream and hold what is of it; so does what the end of the capture closes, so that the order
--- stands while all close
+-- the flows of the streams after a stream was closed. If a gap closed it, its flow keeps its place,
+-- since the flow may wait for its next stream and hold octets of it. If the end of the capture
+-- closed it, its flow keeps its place too, so that the order stays while all streams are closed
 abbrev pub ended : ℕ → CloseCause → List ℕ → List ℕ
 ended id Gap live = live
 ended id Fin live = without id live
@@ -43,7 +45,7 @@ ended id Fault live = without id live
 ended id Room live = without id live
 ended id End live = live
 
--- the same after one more event
+-- the flows of the streams after one more event
 unfoldable pub behind : List ℕ → Event → List ℕ
 behind live (Opens id endpoints) = live
 behind live (Begins id start) = begun id live
@@ -51,17 +53,18 @@ behind live (Delivers id octets) = live
 behind live (Closes id cause) = ended id cause live
 behind live (OfCapture event) = live
 
--- those after all events, from these on
+-- the flows of the streams after all events, if these were the flows before them
 unfoldable pub lives_from : List ℕ → List Event → List ℕ
 lives_from live [] = live
 lives_from live (e ∷ es) = lives_from (behind live e) es
 
--- the flows whose last streams live after all events, or were closed by a gap, by the order in which
--- these streams began: that of their numbers
+-- the flows whose last streams live after all events, or were closed by a gap or by the end of the
+-- capture, in the order in which these streams began; this is the order of their numbers
 abbrev pub lives : List Event → List ℕ
 lives events = lives_from [] events
 
--- of a room's streams among these, the side of the first
+-- the side of the first of these flows that belongs to this room; the side of the lesser endpoint
+-- if none does
 unfoldable pub elder_side : ℕ → List ℕ → Side
 elder_side room [] = FromLesser
 elder_side room (id ∷ ids) =

@@ -1,4 +1,4 @@
--- Between whom a connection is, and the ids of its two flows (meaning).
+-- The endpoints of a connection, and the ids of its two flows (meaning).
 use Rattle.std.specs.Prelude.{ℕ, ◌+◌, ◌*◌}
 use Rattle.std.specs.declared.cmp.Ordering.{Ordering}
 use Rattle.std.specs.declared.cmp.Ordering.TheVariants.{Less, Equal, Greater}
@@ -10,11 +10,11 @@ use Rattle.tcp_streams.specs.declared.pair.Side.{Side}
 use Rattle.tcp_streams.specs.declared.pair.Side.TheVariants.{FromLesser, FromGreater}
 use Rattle.tcp_streams.specs.contracts.pair.EndpointPairOrd.TheImpl as pair_order
 
--- by address, then by port
+-- compares endpoints by address, and then by port
 abbrev pub compare_endpoints : Endpoint → Endpoint → Ordering
 compare_endpoints = (endpoint_order.ghosts).cmp
 
--- by the lesser endpoints, then by the greater
+-- compares pairs by the lesser endpoints, and then by the greater ones
 abbrev pub compare_pairs : EndpointPair → EndpointPair → Ordering
 compare_pairs = (pair_order.ghosts).cmp
 
@@ -22,13 +22,13 @@ compare_pairs = (pair_order.ghosts).cmp
 abbrev pub pair : Endpoint → Endpoint → EndpointPair
 pair lesser greater = record { lesser = lesser; greater = greater }
 
--- a flow's endpoints by how they compare, and who sends
+-- the endpoints of a flow in their order, and which of them sends
 abbrev pub ordered : Ordering → Flow → EndpointPair × Side
 ordered Greater flow = (pair flow.to flow.from, FromGreater)
 ordered Less flow = (pair flow.from flow.to, FromLesser)
 ordered Equal flow = (pair flow.from flow.to, FromLesser)
 
--- between whom a flow goes, and who sends
+-- the endpoints of a flow, the lesser first, and which of them sends
 abbrev pub pair_of : Flow → EndpointPair × Side
 pair_of flow = ordered (compare_endpoints flow.from flow.to) flow
 
@@ -37,12 +37,12 @@ abbrev pub opposite : Side → Side
 opposite FromLesser = FromGreater
 opposite FromGreater = FromLesser
 
--- a connection's flows have ids by its room
+-- the id of a flow, from the room of its connection and the side that sends
 abbrev pub flow_id : ℕ → Side → ℕ
 flow_id room FromLesser = 2 * room
 flow_id room FromGreater = 2 * room + 1
 
--- the flow of a pair, by who sends
+-- the flow between two endpoints, if this side sends
 abbrev pub flow_from : EndpointPair → Side → Flow
 flow_from p FromLesser = record { from = p.lesser; to = p.greater }
 flow_from p FromGreater = record { from = p.greater; to = p.lesser }

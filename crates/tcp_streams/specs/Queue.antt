@@ -1,4 +1,4 @@
--- The flows whose streams live, in their order: what is kept of them (state).
+-- The flows of the live streams, in their order: what is kept of them (state).
 use Rattle.std.specs.Prelude.{ℕ, ◌≤◌, List}
 use Rattle.std.specs.Vec.{vec_capacity}
 use Rattle.tcp_streams.specs.declared.queue.Queue.TheInside.{Inside}
@@ -11,7 +11,7 @@ pub record QueueView : Type 0 where
 abbrev pub queue_of : Inside → QueueView
 queue_of a = record { items = ids_of a.ids.items }
 
--- there is room for each id in places
+-- the places have room for each id
 pub record IsKept (a : Inside) : Type 0 where
   pub queue : IsQueue a.ids.items a.stamps.flows.items a.front.places a.front.count
   pub room : 262144 ≤ vec_capacity a.ids

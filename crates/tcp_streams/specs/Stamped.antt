@@ -1,14 +1,15 @@
--- Which flows have a stamp, and which of two stands first (meaning).
+-- Which flows have a stamp, and which of two flows stands first (meaning).
 use Rattle.std.specs.Prelude.{ℕ, ◌<◌, cond, nat_lt, List, get_or, Option, Some, None}
 use Rattle.std.specs.List.{AllByRecursion}
 use Rattle.tcp_streams.specs.declared.pair.Side.{Side}
 use Rattle.tcp_streams.specs.declared.pair.Side.TheVariants.{FromLesser, FromGreater}
 
--- each flow whose stream stands in a list has a stamp other than 0, or no memory for one
+-- each flow of the list has a stamp other than 0, or there is no memory for its stamp
 abbrev pub AreStamped : List ℕ → List ℕ → Type 0
 AreStamped stamps live = AllByRecursion (λ id. 0 < get_or stamps id 1) live
 
--- of the two flows of a room, the side of the one that stands first, by where each stands
+-- which of the two flows of a room stands first, from the places of both; the side of the lesser
+-- endpoint if neither has a place
 unfoldable pub first_side : Option ℕ → Option ℕ → Side
 first_side None None = FromLesser
 first_side (Some l) None = FromLesser

@@ -1,4 +1,5 @@
-//! The two flows of a connection, and the streams that live in the flows of all connections, in the order of their beginnings.
+//! The two flows of a connection, and the live streams in the flows of all connections, in the
+//! order in which they began.
 #![tactic(auto)]
 
 mod pair;

@@ -1,8 +1,8 @@
-//! Between whom a connection is, whoever sends.
+//! The endpoints of a connection, whichever of them sends.
 
 use tcp_segment::Endpoint;
 
-/// The endpoints of a connection, in their order: by address, then by port.
+/// The endpoints of a connection in their order: by address, and then by port.
 #[derive(Clone, Copy, Debug, PartialEq, Eq, PartialOrd, Ord)]
 pub struct EndpointPair {
     pub lesser: Endpoint,

@@ -1,4 +1,4 @@
-//! The places of flows in an order. Where an id went, its place stays, and is no id's.
+//! The places of flows in an order. If an id goes, its place stays, but has no id.
 
 ghost use Rattle.std.specs.Prelude.{◌≡◌, ◌≤◌, ◌<◌, ◌++◌, ◌∷◌, [], eqb, false, length, get_or, IfSome, None};
 ghost use Rattle.std.specs.List.{AllByRecursion};
@@ -10,20 +10,23 @@ ghost use Rattle.tcp_streams.specs.Stamped.{AreStamped, first_side as spec_first
 use crate::pair::Side;
 use crate::stamps::Stamps;
 
-/// Flows have ids below this: two for each of 65,536 connections. It stands where an id was.
+/// The ids of flows are below this: two for each of 65,536 connections. A place whose id went has
+/// this number.
 pub(crate) const MOST_IDS: u32 = 131_072;
 
-/// How many places there are. When all are in use, those where an id was are given up.
+/// How many places there are. When all are in use, the places without an id are given up.
 pub(crate) const PLACES: usize = 262_144;
 
-/// So many places at the front, with so many ids: after them each place is an id's.
+/// How many places the front has, and how many of them have an id. Each place after the front has
+/// an id.
 #[derive(Drop)]
 pub(crate) struct Front {
     pub(crate) places: usize,
     pub(crate) count: usize,
 }
 
-/// Of the two flows of a room, the side of the one that stands first, by where each stands.
+/// Which of the two flows of a room stands first, from the places of both. It is the side of the
+/// lesser endpoint if neither has a place.
 #[tactic(auto, unfolding(crate::specs::Stamped::first_side))]
 pub(crate) fn first_side(lesser: Option<usize>, greater: Option<usize>) -> Side
     ensures { result ≡ spec_first_side lesser greater }
@@ -35,7 +38,8 @@ pub(crate) fn first_side(lesser: Option<usize>, greater: Option<usize>) -> Side
     }
 }
 
-/// Where an id stands: by its stamp, but by a walk if another stands there.
+/// The place at which an id stands. It is found by the id's stamp; if another id stands at that
+/// place, it is found by a walk.
 pub(crate) fn place_of(ids: &Vec<u32>, stamps: &Stamps, front: &Front, flow: u32) -> Option<usize>
     requires { IsQueue ids.now.items stamps.now.flows.items front.now.places front.now.count }
     ensures { result ≡ spec_place_of flow ids.now.items }
@@ -53,7 +57,7 @@ pub(crate) fn place_of(ids: &Vec<u32>, stamps: &Stamps, front: &Front, flow: u32
     walk(ids, flow)
 }
 
-/// Where a number stands first.
+/// The index of the first number that is the wanted one.
 fn walk(numbers: &Vec<u32>, wanted: u32) -> Option<usize>
     ensures { result ≡ index_of wanted numbers.now.items }
 {
@@ -67,7 +71,7 @@ fn walk(numbers: &Vec<u32>, wanted: u32) -> Option<usize>
     None
 }
 
-/// The id of a rank, by a walk.
+/// The id at a rank, found by a walk.
 pub(crate) fn walk_to(ids: &Vec<u32>, rank: usize) -> Option<u32>
     ensures none { (result ≡ None) → length (ids_of ids.now.items) ≤ rank }
     ensures some { IfSome result (λ id. (rank < length (ids_of ids.now.items))
@@ -87,7 +91,7 @@ pub(crate) fn walk_to(ids: &Vec<u32>, rank: usize) -> Option<u32>
     None
 }
 
-/// An id goes, if it stands there: its place is no id's from now on.
+/// Takes an id away if it has a place. The place has no id afterwards.
 pub(crate) fn take_away(ids: &mut Vec<u32>, stamps: &mut Stamps, front: &mut Front, flow: u32)
     requires { IsQueue ids.old.items stamps.old.flows.items front.old.places front.old.count }
     ensures queue { IsQueue ids.new.items stamps.new.flows.items front.new.places front.new.count }
@@ -107,7 +111,7 @@ pub(crate) fn take_away(ids: &mut Vec<u32>, stamps: &mut Stamps, front: &mut Fro
     }
 }
 
-/// An id that stands nowhere stands last from now on.
+/// Adds an id that has no place. It comes last.
 pub(crate) fn push(ids: &mut Vec<u32>, stamps: &mut Stamps, front: &Front, flow: u32)
     requires queue { IsQueue ids.old.items stamps.old.flows.items front.now.places
         front.now.count }
@@ -123,7 +127,7 @@ pub(crate) fn push(ids: &mut Vec<u32>, stamps: &mut Stamps, front: &Front, flow:
     stamps.note(flow, ids.len() as u32);
 }
 
-/// A place is free for one more, while fewer ids than may be stand there.
+/// Makes a place free for one more id, if there are fewer ids than there may be.
 pub(crate) fn make_place(ids: &mut Vec<u32>, stamps: &mut Stamps, front: &mut Front)
     requires queue { IsQueue ids.old.items stamps.old.flows.items front.old.places
         front.old.count }
@@ -138,7 +142,7 @@ pub(crate) fn make_place(ids: &mut Vec<u32>, stamps: &mut Stamps, front: &mut Fr
     }
 }
 
-/// The places that are no id's are given up.
+/// Gives up the places without an id.
 pub(crate) fn pack(ids: &mut Vec<u32>, stamps: &mut Stamps, front: &mut Front)
     requires { IsQueue ids.old.items stamps.old.flows.items front.old.places front.old.count }
     ensures queue { IsQueue ids.new.items stamps.new.flows.items front.new.places front.new.count }
@@ -151,7 +155,7 @@ pub(crate) fn pack(ids: &mut Vec<u32>, stamps: &mut Stamps, front: &mut Front)
     front.count = 0;
 }
 
-/// Each has the stamp of where it stands.
+/// Notes the place of each id as its stamp.
 fn stamp(ids: &Vec<u32>, stamps: &mut Stamps)
     requires few { length ids.now.items ≤ 262144 }
     requires stamped { AreStamped stamps.old.flows.items ids.now.items }

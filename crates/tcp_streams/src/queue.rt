@@ -1,4 +1,5 @@
-//! The flows of streams in an order: an id goes where it stands, and what stands behind it isn't moved.
+//! The flows of streams in an order. An id can be taken away from its place, and the ids after it
+//! aren't moved.
 
 ghost use Rattle.std.specs.Prelude.{◌≡◌, ◌≤◌, ◌<◌, ◌^◌, [], length, get_or, IfOk, IfSome, None};
 ghost use Rattle.tcp_streams.specs.Lives.{without, begun, elder_side};
@@ -12,7 +13,7 @@ use crate::stamps::Stamps;
 use std::alloc::{AllocError, Global};
 use std::marker::Model;
 
-/// The ids of flows, each once, in an order. All of its memory is allocated when it is made.
+/// The ids of flows in an order; no id comes twice. All memory is allocated when the queue is made.
 #[derive(Drop)]
 pub(crate) struct Queue {
     ids: Vec<u32>,
@@ -31,7 +32,8 @@ impl Model for Queue {
 }
 
 impl Queue {
-    /// No id stands there. There is room for each id; those below `flows` are found at once, and any other by a walk.
+    /// A queue without ids. There is room for each id. The ids below `flows` are found at once, and
+    /// any other by a walk.
     pub(crate) fn new(alloc: Global, flows: usize) -> Result<Queue, AllocError>
         ensures { IfOk result (λ q. q.items ≡ []) }
     {
@@ -47,7 +49,7 @@ impl Queue {
         })
     }
 
-    /// How many ids stand there.
+    /// How many ids there are.
     pub(crate) fn len(&self) -> usize
         ensures live { result ≡ length self.now.items }
         ensures few { result ≤ 262144 }
@@ -55,7 +57,7 @@ impl Queue {
         self.front.count + (self.ids.len() - self.front.places)
     }
 
-    /// The id of a rank.
+    /// The id at a rank.
     pub(crate) fn at(&self, rank: usize) -> Option<u32>
         ensures none { (result ≡ None) → length self.now.items ≤ rank }
         ensures some { IfSome result (λ id. (rank < length self.now.items)
@@ -72,7 +74,7 @@ impl Queue {
         Some(self.ids[self.front.places + after])
     }
 
-    /// Of the flows of a room, the side of the one that stands first.
+    /// Which of the two flows of a room stands first.
     pub(crate) fn elder_side(&self, room: u32) -> Side
         requires { room < 2 ^ 31 }
         ensures { result ≡ elder_side room self.now.items }
@@ -85,14 +87,15 @@ impl Queue {
         )
     }
 
-    /// An id goes, if it stands there.
+    /// Takes an id away, if it is there.
     pub(crate) fn take_away(&mut self, flow: u32)
         ensures { self.new.items ≡ without flow self.old.items }
     {
         take_away(&mut self.ids, &mut self.stamps, &mut self.front, flow);
     }
 
-    /// An id stands last from now on.
+    /// Puts an id at the end, and takes it away from where it was. A number that is no id changes
+    /// nothing.
     pub(crate) fn begin(&mut self, flow: u32)
         ensures { self.new.items ≡ begun flow self.old.items }
     {
@@ -103,7 +106,7 @@ impl Queue {
         }
     }
 
-    /// The places where an id was are given up, so that each rank is found at once.
+    /// Gives up the places without an id, so that the id at each rank is found at once.
     pub(crate) fn pack(&mut self)
         ensures { self.new.items ≡ self.old.items }
     {

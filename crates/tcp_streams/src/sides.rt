@@ -1,4 +1,4 @@
-//! The two flows of a connection, and the ids that they have while it is known.
+//! The two flows of a connection, and the ids that they have while the connection is known.
 
 ghost use Rattle.std.specs.Prelude.{◌≡◌, ◌≤◌, ◌+◌, ◌*◌, ◌<◌, ◌^◌};
 ghost use Rattle.tcp_streams.specs.Pairs.{pair_of as spec_pair_of, flow_id as spec_flow_id, opposite, flow_from as spec_flow_from};
@@ -7,7 +7,7 @@ use crate::pair::{EndpointPair, Side};
 use std::cmp::Ordering;
 use tcp_segment::Flow;
 
-/// Between whom a flow goes, and who sends.
+/// The endpoints of a flow, the lesser first, and which of them sends.
 pub fn pair_of(flow: Flow) -> (EndpointPair, Side)
     ensures { result ≡ spec_pair_of flow }
 {
@@ -29,7 +29,7 @@ pub fn pair_of(flow: Flow) -> (EndpointPair, Side)
     }
 }
 
-/// The id of a flow: twice the room of its connection, and 1 more where the greater endpoint sends.
+/// The id of a flow: twice the room of its connection, and 1 more if the greater endpoint sends.
 pub fn flow_id(room: u32, side: Side) -> u32
     requires { room < 2 ^ 31 }
     ensures id { result ≡ spec_flow_id room side }
@@ -51,7 +51,7 @@ pub fn other(side: Side) -> Side
     }
 }
 
-/// The flow of a pair, by who sends.
+/// The flow between the endpoints of a pair, if this side sends.
 pub fn flow_from(pair: EndpointPair, side: Side) -> Flow
     ensures { result ≡ spec_flow_from pair side }
 {

@@ -1,11 +1,11 @@
-//! Where the stream of each flow stands, in memory that is allocated once.
+//! At which place the stream of each flow stands, in memory that is allocated once.
 
 ghost use Rattle.std.specs.Prelude.{◌≡◌, IfOk, get_or, set, replicate};
 
 use std::alloc::{AllocError, Global};
 
-/// The stamp of each flow whose last stream lives or was closed by a gap: one more than where it stands. Other flows have the
-/// stamp 0.
+/// The stamp of each flow whose last stream lives, or was closed by a gap or by the end of the
+/// capture: one more than the index of its place. Other flows have the stamp 0.
 #[derive(Drop)]
 pub(crate) struct Stamps {
     flows: Vec<u32>,
@@ -20,14 +20,14 @@ impl Stamps {
         Ok(Stamps { flows })
     }
 
-    /// The stamp of a flow. One that has no memory here has 1.
+    /// The stamp of a flow. If there is no memory for its stamp, this is 1.
     pub(crate) fn of(&self, flow: u32) -> u32
         ensures { result ≡ get_or self.now.flows.items flow 1 }
     {
         self.flows.get(flow as usize).copied().unwrap_or(1)
     }
 
-    /// A flow has this stamp from now on, if it has memory here.
+    /// Notes the stamp of a flow, if there is memory for it.
     pub(crate) fn note(&mut self, flow: u32, stamp: u32)
         ensures { self.new.flows.items ≡ set self.old.flows.items flow stamp }
     {

@@ -1,4 +1,5 @@
-//! The streams that live or were closed by a gap, in the order of their beginnings, beside the listener to which they are told.
+//! The streams that live, or were closed by a gap or by the end of the capture, in the order in
+//! which they began; and the listener to which they are told.
 
 ghost use Rattle.std.specs.Prelude.{◌≡◌, ◌≤◌, ◌<◌, ◌^◌, [], length, get_or, IfOk, IfSome, None};
 ghost use Rattle.tcp_streams.specs.Lives.{lives, ended, elder_side};
@@ -10,18 +11,19 @@ use tcp_flow::{CloseCause, Listener, ListenerFault, Start};
 use tcp_segment::Flow;
 use tcp_waiting::Arrival;
 
-/// A listener, and the flows whose last streams live, or were closed by a gap, by the order in which these began. There is room
-/// for one stream of each flow.
+/// A listener, and the flows whose last streams live, or were closed by a gap or by the end of the
+/// capture, in the order in which these streams began. There is room for one stream of each flow.
 #[derive(Drop)]
 pub struct Streams<L: Listener + Drop> {
-    /// What happens is told to it.
+    /// The listener is told what happens.
     pub listener: L,
     live: Queue,
 }
 
 impl<L: Listener + Drop> Streams<L> {
-    /// No stream lives. There is memory for one stream of each flow; no other call allocates. A flow of the
-    /// first `connections` rooms is found at once, and any other by a walk.
+    /// No stream lives at first. There is memory for one stream of each flow; no other call
+    /// allocates. A flow of the first `connections` rooms is found at once, and any other by a
+    /// walk.
     pub fn new(alloc: Global, connections: u32, listener: L) -> Result<Streams<L>, AllocError>
         ensures is { IfOk result (λ s. s.listener ≡ listener) }
         ensures empty { IfOk result (λ s. s.live.items ≡ []) }
@@ -30,7 +32,8 @@ impl<L: Listener + Drop> Streams<L> {
         Ok(Streams { listener, live })
     }
 
-    /// The flow whose last stream has the number of this rank among those that live or were closed by a gap.
+    /// The flow of the stream at this rank, counted from 0, among those that live or were closed by
+    /// a gap or by the end of the capture.
     pub fn live(&self, rank: usize) -> Option<u32>
         ensures none { (result ≡ None) → length self.now.live.items ≤ rank }
         ensures some { IfSome result (λ id. (rank < length self.now.live.items)
@@ -40,7 +43,7 @@ impl<L: Listener + Drop> Streams<L> {
         self.live.at(rank)
     }
 
-    /// Of the streams of a room, the side whose stream began first.
+    /// The side of the stream of a room that began first.
     pub fn elder_side(&self, room: u32) -> Side
         requires { room < 2 ^ 31 }
         ensures { result ≡ elder_side room self.now.live.items }
@@ -48,7 +51,7 @@ impl<L: Listener + Drop> Streams<L> {
         self.live.elder_side(room)
     }
 
-    /// How many streams live or were closed by a gap.
+    /// How many streams live, or were closed by a gap or by the end of the capture.
     pub fn len(&self) -> usize
         ensures live { result ≡ length self.now.live.items }
         ensures few { result ≤ 262144 }
@@ -56,7 +59,8 @@ impl<L: Listener + Drop> Streams<L> {
         self.live.len()
     }
 
-    /// Each rank is found at once from now on, while no stream goes before one that is asked for.
+    /// Gives up the places of the streams that were taken away. After this, the stream at each rank
+    /// is found at once, until a stream after it is taken away.
     pub fn pack(&mut self)
         ensures live { self.new.live ≡ self.old.live }
         ensures listener { self.new.listener ≡ self.old.listener }
@@ -65,8 +69,9 @@ impl<L: Listener + Drop> Streams<L> {
     }
 }
 
-/// A stream of a flow closes: it goes, but for one that a gap closes, whose flow may wait for the next, and for those that the
-/// end of the capture closes, which may be gone through in their order.
+/// Closes the stream of a flow: the flow is taken away. If a gap closes the stream, the flow stays,
+/// since it may wait for its next stream. If the end of the capture closes it, the flow stays too,
+/// so that a caller can go through all streams in their order.
 fn end(live: &mut Queue, flow: u32, cause: CloseCause)
     ensures { live.new.items ≡ ended flow cause live.old.items }
 {

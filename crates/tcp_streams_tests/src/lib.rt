@@ -1,4 +1,4 @@
-//! Tests of the flows of a connection, and of the streams that live.
+//! Tests of the flows of a connection, and of the live streams.
 #![tactic(auto)]
 
 #[cfg(test)]

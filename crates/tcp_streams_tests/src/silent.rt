@@ -6,7 +6,8 @@ use tcp_flow::{CloseCause, Listener, ListenerFault, Start};
 use tcp_segment::Flow;
 use tcp_waiting::Arrival;
 
-/// Keeps nothing. Its readers are never at a fault, and don't know where a message ends.
+/// A listener that keeps nothing. Its readers never have a fault, and don't know where a message
+/// ends.
 #[derive(Drop)]
 pub struct Silent;
 

@@ -1,4 +1,4 @@
-//! A pair and its flows, and streams by the order of their beginnings.
+//! A pair and its flows, and streams in the order in which they began.
 
 use crate::silent::Silent;
 use tcp_flow::{CloseCause, Listener, Start};
@@ -69,7 +69,7 @@ fn streams_stand_in_the_order_of_their_beginnings(rt: HostRuntime) {
         assert!(rt; streams.closes(0, CloseCause::Fin).is_ok());
         assert!(rt; streams.begins(0, start).is_ok());
         assert!(rt; streams.delivers(0, b"GIOP").is_ok());
-        // What a gap closes keeps its place.
+        // The flow of a stream that a gap closes keeps its place.
         assert!(rt; streams.closes(5, CloseCause::Gap).is_ok());
         assert_eq!(rt; streams.lacks(5), Ok(None));
         streams.passes(b"MUCH");
