@@ -1,5 +1,5 @@
-"""Requests of all versions with an any, a TypeCode or wide text, made by a seed: of types that the file has and of others, in
-each other, and described in both byte orders. The file, DESCRIBED, is of version 3."""
+"""Requests of all versions with an any, a TypeCode, wide text or arrays in arrays, made by a seed: of types that the file has
+and of others, in each other, and described in both byte orders. The file, DESCRIBED, is of version 3."""
 
 from __future__ import annotations
 
@@ -21,15 +21,18 @@ struct Two "{LONG_ID}Two:1.0" {{ longlong first; string second; }};
 struct Deep "{LONG_ID}{LONG_ID[4:]}Deep:1.0" {{ One one; Two two; any more; sequence<One, 2> ones; }};
 union Either "{LONG_ID}Either{"r" * 40}:1.0" switch (Colour) {{ case red: long n; default: any value; }};
 struct Wide "IDL:Wide:1.0" {{ octet n; wstring text; wchar mark; }};
+struct Grid "IDL:Grid:1.0" {{ octet at[2][3]; }};
 operation void push(in any v);
 operation void typ(in TypeCode t, in octet o);
 operation void both(in octet a, in Deep d, in any v, in octet z);
 operation void held(in encapsulation<any> e, in octet z);
+operation void grid(in octet a, in short at[2][1][2], in Grid g, in octet z);
 operation void text(in octet a, in wchar c, in Wide w, in sequence<wstring<2>> s, in encapsulation<wchar> e, in octet z);
 """
 ID = {
     "Colour": "IDL:Colour:1.0", "One": "IDL:One:1.0", "Two": f"{LONG_ID}Two:1.0",
     "Deep": f"{LONG_ID}{LONG_ID[4:]}Deep:1.0", "Either": f"{LONG_ID}Either{'r' * 40}:1.0", "Wide": "IDL:Wide:1.0",
+    "Grid": "IDL:Grid:1.0",
 }  # fmt: skip
 KINDS = {
     "null": 0, "void": 1, "short": 2, "long": 3, "ushort": 4, "ulong": 5, "float": 6, "double": 7, "boolean": 8,
@@ -74,7 +77,8 @@ DEEP = Named(
 )
 EITHER = Named(UNION, ID["Either"], (("n", Simple("long")), ("value", Simple("any"))))
 WIDE = Named(STRUCT, ID["Wide"], (("n", Simple("octet")), ("text", Simple("wstring")), ("mark", Simple("wchar"))))
-KNOWN: Sequence[Described] = (COLOUR, ONE, TWO, DEEP, EITHER, WIDE)
+GRID = Named(STRUCT, ID["Grid"], (("at", Around(ARRAY, Around(ARRAY, Simple("octet"), 3), 2)),))
+KNOWN: Sequence[Described] = (COLOUR, ONE, TWO, DEEP, EITHER, WIDE, GRID)
 
 
 class Draw:
@@ -213,7 +217,7 @@ def headed(order: Order, minor: int, operation: str) -> Values:
 
 def payload(draw: Draw, order: Order, minor: int) -> bytes:
     """What follows a message's header."""
-    operation = draw.random.choice(("push", "push", "push", "typ", "both", "held", "text"))
+    operation = draw.random.choice(("push", "push", "push", "typ", "both", "held", "text", "grid"))
     values = headed(order, minor, operation)
     if operation == "push":
         draw.any(values, 0)
@@ -224,6 +228,10 @@ def payload(draw: Draw, order: Order, minor: int) -> bytes:
         values.put(("octet", 1))
         draw.value(values, DEEP, 1)
         draw.any(values, 0)
+        values.put(("octet", 2))
+    elif operation == "grid":
+        values.put(("octet", 1), *(("short", n) for n in range(4)))
+        draw.value(values, GRID, 1)
         values.put(("octet", 2))
     elif operation == "text":
         values.put(("octet", 1), ("wchar", b"cc"))

@@ -1,8 +1,9 @@
-"""Streams made by seeds from the examples, from messages with encapsulations and anys, and from requests to objects whose keys have
-interfaces, by signature files that are made by seeds too: messages are taken in any order, and octets of them changed, left out, put in and repeated. Of each the program writes the text that the reference reads in the whole
-stream, and the same text however its reads are cut, and in parts, each gone on from where the one before it was saved; and a
-front of it when the stream ends early. It ends with status 0 or 1, its total line is right, and it makes as many requests for
-memory as ever. From a checkpoint that is changed so it goes on, or refuses it."""
+"""Streams made by seeds from the examples, from messages with encapsulations, anys and numbers that have names, and from
+requests to objects whose keys have interfaces, by signature files that are made by seeds too: messages are taken in any order,
+and octets of them changed, left out, put in and repeated. Of each the program writes the text that the reference reads in the
+whole stream, and the same text however its reads are cut, and in parts, each gone on from where the one before it was saved;
+and a front of it when the stream ends early. It ends with status 0 or 1, its total line is right, and it makes as many requests
+for memory as ever. From a checkpoint that is changed so it goes on, or refuses it."""
 
 from __future__ import annotations
 
@@ -21,6 +22,7 @@ from typing import Dict, List, Sequence, Tuple
 
 import described
 import encapsulated
+import named
 from failing import CHECKPOINT, EXAMPLES, PROGRAM, SECONDS, Case, Differences, Ended, checkpoint_of, run
 from keyed import keyed
 from rows import FOLDER, TOUR, TOUR_TYPES, TOUR_WORDS
@@ -87,7 +89,7 @@ def messages() -> List[bytes]:
     """The messages of any file, each with its header."""
     streams = [(EXAMPLES / name).read_bytes() for name in ("naming.giop", "naming-replies.giop")]
     streams.append(TOUR)
-    found = encapsulated.messages() + described.messages(60)
+    found = encapsulated.messages() + described.messages(60) + named.messages(60)
     for stream in streams:
         while len(stream) >= 12 and stream.startswith(b"GIOP"):
             size = 12 + int.from_bytes(stream[8:12], ORDERS[stream[6] & 1])

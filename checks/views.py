@@ -125,7 +125,8 @@ def leaves(made: Any, path: str = "") -> Iterator[Leaf]:
 
 
 def values_of(lines: Sequence[str]) -> List[Leaf]:
-    """The values that lines of one message tell, with their paths: of floating-point numbers the bits as octets."""
+    """The values that lines of one message tell, with their paths: of floating-point numbers the bits as octets, and of a number
+    that has a name both."""
     told: List[Leaf] = []
     for line in lines:
         path, kind, text = [*(line if not line.startswith("rest ") else "rest " + line).split(" ", 2), ""][:3]
@@ -139,6 +140,9 @@ def values_of(lines: Sequence[str]) -> List[Leaf]:
                 told[-1] = (told[-1][0], told[-1][1] + piece)
             else:
                 told.append((path + "@rest" if kind == "rest" and path != "rest" else path, piece))
+        elif kind == "ulong" and " " in text:
+            number, _, name = text.partition(" ")
+            told += [(path, int(number)), (f"{path}_name", name)]
         else:
             told.append((path, text.encode() if kind in ("float", "double") else value_of(kind, text)))
     return told

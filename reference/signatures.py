@@ -158,11 +158,14 @@ class Parser:
         return item
 
     def item(self) -> Tuple[str, Type]:
-        """A type and a name, and where it is an array its length."""
+        """A type and a name, and where it is an array its lengths, of which the first is the outermost."""
         made, name = self.type(), self.taken()
-        if self.found("["):
-            made = Array(made, int(self.taken()))
+        lengths: List[int] = []
+        while self.found("["):
+            lengths.append(int(self.taken()))
             self.wanted("]")
+        for length in reversed(lengths):
+            made = Array(made, length)
         return name, made
 
     def union(self) -> Type:

@@ -290,7 +290,8 @@ class Reading:
         self._message = message
         self._known = known
         self._closed = closed
-        self._reader = Reader(bytes(message.octets), message.header.order, message.header.minor < 2, self._tell)
+        narrow, naming = message.header.minor < 2, known.table.version == 3
+        self._reader = Reader(bytes(message.octets), message.header.order, narrow, naming, self._tell)
         self.lines: List[Tuple[int, int, str]] = []
         self.header_ends: List[HeaderEnd] = []
         self.raised: List[Raised] = []

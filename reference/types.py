@@ -44,12 +44,15 @@ def behind(text: str) -> str:
 class Reader:
     """Reads the octets of one joined message, its header included; `at` is how many were read. What is complete goes to
     `tell`, with the number of the octets up to its last. In a message of 1.0 or 1.1, which is `narrow`, wide text has no
-    room."""
+    room; numbers that have names are told with them if it is `naming`."""
 
-    def __init__(self, octets: bytes, order: Order, narrow: bool, tell: Callable[[int, str], None]) -> None:
+    def __init__(
+        self, octets: bytes, order: Order, narrow: bool, naming: bool, tell: Callable[[int, str], None]
+    ) -> None:
         self.octets = octets
         self.order = order
         self.narrow = narrow
+        self.naming = naming
         self.tell = tell
         self.at = HEADER
         self.parts = 0  # that have begun and not ended
@@ -163,6 +166,18 @@ class Integer(Type):
     def read(self, reader: Reader, path: str) -> int:
         value = reader.number(self.size, self.signed)
         reader.tell(reader.at, f"{path} {self.word} {value}")
+        return value
+
+
+@dataclass(frozen=True)
+class Named(Type):
+    """An unsigned long of the standard's, whose numbers may have names."""
+
+    name: Callable[[int], str]  # empty if the number has none
+
+    def read(self, reader: Reader, path: str) -> int:
+        value = reader.number(4)
+        reader.tell(reader.at, f"{path} ulong {value}{behind(self.name(value) if reader.naming else '')}")
         return value
 
 
@@ -364,13 +379,14 @@ class Encapsulation(Type):
 class Tagged(Type):
     """Octets after a number, which are an encapsulation where that is one known number."""
 
-    number: str
+    number: Tuple[str, Type]
     known: int
     data: str
     value: Type
 
     def read(self, reader: Reader, path: str) -> None:
-        number = ULONG.read(reader, f"{path}.{self.number}")
+        name, numbered = self.number
+        number = numbered.read(reader, f"{path}.{name}")
         data = Encapsulation(self.value) if number == self.known else Octets()
         reader.value(data, f"{path}.{self.data}")
 
@@ -387,15 +403,42 @@ BASE: Dict[str, Type] = {
     "boolean": Boolean(), "char": Char(), "float": Real("float", 4), "double": Real("double", 8),
 }  # fmt: skip
 
-CODE_SETS = Struct([("char_data", ULONG), ("wchar_data", ULONG)])
-SERVICE_CONTEXTS = Series(Tagged("context_id", 1, "context_data", CODE_SETS))
+# The names of numbers: of service contexts and profiles from 0 on, of code sets, and of the vendors of minor codes by all but
+# the lowest 12 bits.
+CONTEXT_NAMES = (
+    "TransactionService CodeSets ChainBypassCheck ChainBypassInfo LogicalThreadId BI_DIR_IIOP SendingContextRunTime "
+    "INVOCATION_POLICIES FORWARDED_IDENTITY UnknownExceptionInfo RTCorbaPriority RTCorbaPriorityRange FT_GROUP_VERSION FT_REQUEST "
+    "ExceptionDetailMessage SecurityAttributeService ActivityService RMICustomMaxStreamFormat"
+).split()
+PROFILE_NAMES = "TAG_INTERNET_IOP TAG_MULTIPLE_COMPONENTS TAG_SCCP_IOP TAG_UIPMC".split()
+CODE_SET_NAMES = {
+    0x00010001: "ISO_8859_1", 0x00010020: "ISO_646", 0x00010100: "UCS_2", 0x00010106: "UCS_4", 0x00010109: "UTF_16",
+    0x05010001: "UTF_8",
+}  # fmt: skip
+VENDORS = {0x4F4D0: "OMG", 0x41540: "omniORB", 0x54410: "TAO"}
+
+
+def among(names: Sequence[str]) -> Callable[[int], str]:
+    """The name of a number, which is its place among these."""
+    return lambda number: names[number] if number < len(names) else ""
+
+
+def minor_name(number: int) -> str:
+    """The vendor of a minor code, and the code that it is among those of the vendor."""
+    vendor = VENDORS.get(number >> 12)
+    return f"{vendor} {number & 0xFFF}" if vendor else ""
+
+
+CODE_SET = Named(lambda number: CODE_SET_NAMES.get(number, ""))
+CODE_SETS = Struct([("char_data", CODE_SET), ("wchar_data", CODE_SET)])
+SERVICE_CONTEXTS = Series(Tagged(("context_id", Named(among(CONTEXT_NAMES))), 1, "context_data", CODE_SETS))
 IIOP = Struct([("major", OCTET), ("minor", OCTET), ("host", String()), ("port", USHORT), ("object_key", Octets())])
-TAGGED_PROFILE = Tagged("tag", 0, "profile_data", IIOP)
+TAGGED_PROFILE = Tagged(("tag", Named(among(PROFILE_NAMES))), 0, "profile_data", IIOP)
 IOR = Struct([("type_id", String()), ("profiles", Series(TAGGED_PROFILE))])
 IOR_ADDRESS = Struct([("selected_profile_index", ULONG), ("ior", IOR)])
 TARGET = Union(Disposition(3), {0: ("object_key", Octets()), 1: ("profile", TAGGED_PROFILE), 2: ("ior", IOR_ADDRESS)})
 COMPLETED = Enum(("COMPLETED_YES", "COMPLETED_NO", "COMPLETED_MAYBE"))
-SYSTEM_EXCEPTION = Struct([("exception_id", String()), ("minor", ULONG), ("completed", COMPLETED)])
+SYSTEM_EXCEPTION = Struct([("exception_id", String()), ("minor", Named(minor_name)), ("completed", COMPLETED)])
 
 # The kinds of a TypeCode, by their numbers; `indirection` stands apart.
 KINDS = (

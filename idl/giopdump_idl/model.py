@@ -120,7 +120,7 @@ class Series:
 
 @dataclass(frozen=True)
 class Array:
-    """An array of one dimension, which can stand in an item alone."""
+    """An array, which can stand in an item alone, or in version 3 as the element of another."""
 
     element: Type
     length: int
@@ -128,6 +128,12 @@ class Array:
     @cached_property
     def depth(self) -> int:
         return 1 + self.element.depth
+
+    @property
+    def spread(self) -> Tuple[Type, List[int]]:
+        """What the innermost arrays have, and the lengths, the outermost first."""
+        made, lengths = self.element.spread if isinstance(self.element, Array) else (self.element, [])
+        return made, [self.length, *lengths]
 
 
 @dataclass(frozen=True)

@@ -94,9 +94,10 @@ class Sheet:
         return head + "\n  " + (between.rstrip() + "\n  ").join(parts) + "\n" + tail
 
     def _item(self, item: Item) -> str:
-        """A type and a name; an array has its length after the name."""
+        """A type and a name; an array has its lengths after the name, the outermost first."""
         if isinstance(item.type, Array):
-            return f"{self._type(item.type.element)} {item.name}[{item.type.length}]"
+            made, lengths = item.type.spread
+            return f"{self._type(made)} {item.name}" + "".join(f"[{length}]" for length in lengths)
         return f"{self._type(item.type)} {item.name}"
 
     def _type(self, made: Type) -> str:

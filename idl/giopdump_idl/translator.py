@@ -53,6 +53,7 @@ class Translator:
 
     def __init__(self, version: int) -> None:
         self._formless = FORMLESS if version == 3 else {**FORMLESS, **DESCRIBED, **WIDE}
+        self._has_arrays_of_arrays = version == 3
         self.refused: Dict[Tuple[str, ...], Tuple[Place, Unsayable]] = {}
         self._made: Dict[Tuple[str, ...], Type] = {}
         self._begun: Set[Tuple[str, ...]] = set()
@@ -105,7 +106,7 @@ class Translator:
         """The type of a declarator with these sizes, the outermost first."""
         made = element
         for length in reversed(sizes or []):
-            made = Array(self.element_of(made), unsigned(length))
+            made = Array(made if self._has_arrays_of_arrays else self.element_of(made), unsigned(length))
             if made.depth > MOST_NESTING:
                 raise TooDeep()
         return made
@@ -115,8 +116,7 @@ class Translator:
         if not isinstance(made, Array):
             return made
         if made not in self._around:
-            name = f"{word_of(made.element)}_x{made.length}"
-            self._around[made] = Struct((name,), Place("", 0), "", (Item("v", made),))
+            self._around[made] = Struct((word_of(made),), Place("", 0), "", (Item("v", made),))
         return self._around[made]
 
     def declared(self, decl: idlast.Decl, scoped_name: Sequence[str]) -> Type:
@@ -269,8 +269,11 @@ def word_of(made: Type) -> str:
         return made.word
     if isinstance(made, Reference):
         return "Object"
-    if isinstance(made, (Series, Array)):
+    if isinstance(made, Series):
         return f"{word_of(made.element)}_sequence"
+    if isinstance(made, Array):
+        element, lengths = made.spread
+        return "_x".join([word_of(element), *map(str, lengths)])
     return made.scoped[-1]
 
 

@@ -101,34 +101,34 @@ m1 call 7 all
 m1 body.one[0] long 1
 m1 body.one[1] long 2
 m1 body.one[2] long 3
-m1 body.two[0].v[0] long 11
-m1 body.two[0].v[1] long 12
-m1 body.two[0].v[2] long 13
-m1 body.two[1].v[0] long 21
-m1 body.two[1].v[1] long 22
-m1 body.two[1].v[2] long 23
+m1 body.two[0][0] long 11
+m1 body.two[0][1] long 12
+m1 body.two[0][2] long 13
+m1 body.two[1][0] long 21
+m1 body.two[1][1] long 22
+m1 body.two[1][2] long 23
 m1 end
-m2 body.return.v[0].v[0] long -1
-m2 body.return.v[0].v[1] long -2
-m2 body.return.v[0].v[2] long -3
-m2 body.return.v[1].v[0] long -4
-m2 body.return.v[1].v[1] long -5
-m2 body.return.v[1].v[2] long -6
-m2 body.two[0].v[0] long 31
-m2 body.two[0].v[1] long 32
-m2 body.two[0].v[2] long 33
-m2 body.two[1].v[0] long 41
-m2 body.two[1].v[1] long 42
-m2 body.two[1].v[2] long 43
+m2 body.return.v[0][0] long -1
+m2 body.return.v[0][1] long -2
+m2 body.return.v[0][2] long -3
+m2 body.return.v[1][0] long -4
+m2 body.return.v[1][1] long -5
+m2 body.return.v[1][2] long -6
+m2 body.two[0][0] long 31
+m2 body.two[0][1] long 32
+m2 body.two[0][2] long 33
+m2 body.two[1][0] long 41
+m2 body.two[1][1] long 42
+m2 body.two[1][2] long 43
 m2 end
 m3 call 8 flat
 m3 body.many count 1
-m3 body.many[0].v[0].v[0] long 1
-m3 body.many[0].v[0].v[1] long 2
-m3 body.many[0].v[0].v[2] long 3
-m3 body.many[0].v[1].v[0] long 4
-m3 body.many[0].v[1].v[1] long 5
-m3 body.many[0].v[1].v[2] long 6
+m3 body.many[0].v[0][0] long 1
+m3 body.many[0].v[0][1] long 2
+m3 body.many[0].v[0][2] long 3
+m3 body.many[0].v[1][0] long 4
+m3 body.many[0].v[1][1] long 5
+m3 body.many[0].v[1][2] long 6
 m3 end
 m4 body.return count 2
 m4 body.return[0].v[0] long 1
@@ -139,12 +139,12 @@ m4 body.return[1].v[1] long 5
 m4 body.return[1].v[2] long 6
 m4 end
 m5 exception string @0 "IDL:A/Off:1.0"
-m5 body.by[0].v[0] long 6
-m5 body.by[0].v[1] long 5
-m5 body.by[0].v[2] long 4
-m5 body.by[1].v[0] long 3
-m5 body.by[1].v[1] long 2
-m5 body.by[1].v[2] long 1
+m5 body.by[0][0] long 6
+m5 body.by[0][1] long 5
+m5 body.by[0][2] long 4
+m5 body.by[1][0] long 3
+m5 body.by[1][1] long 2
+m5 body.by[1][2] long 1
 m5 end
 """
     + "".join(f"m6 body.return.v[{n}] octet {n}\n" for n in range(16))

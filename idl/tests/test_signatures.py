@@ -20,8 +20,8 @@ sys.path.insert(0, str(HERE))
 from conversations import CONVERSATIONS  # noqa: E402
 
 ARGUMENTS: Dict[str, List[str]] = {"first": ["-Wbversion=1"], "only": ["-Wbonly=O::Wanted"]}
-# The texts that are written in version 2 too, in which operations have no interfaces, and wide text no form.
-OLDER = ("half_equal", "wide")
+# The texts that are written in version 2 too, in which operations have no interfaces, and wide text and arrays in arrays no form.
+OLDER = ("half_equal", "wide", "arrays")
 
 
 def omniidl(*words: str, cwd: Path = HERE) -> subprocess.CompletedProcess[str]:

@@ -1,4 +1,4 @@
--- Octets that begin with the fixed part pass the checks of it.
+-- Octets that begin with the fixed part pass its checks.
 use Rattle.std.proofs.Common.{◌≡◌, true, false, IsTrue, ℕ, List, Option, ◌++◌, length, take, drop, replicate, refl, ap, ◌∙◌, append_assoc, arith}
 use Rattle.std.proofs.lemmas.List.{length-append, take_at}
 use Rattle.giop_octets.specs.Fields.{four, eight}

@@ -81,7 +81,7 @@ pub record_same : (r : Record) (s : Record) → r.frames ≡ s.frames → r.reco
     r.number ≡ s.number → r.header ≡ s.header → r ≡ s
 record_same r s a b c d = rw (a, b, c, d) refl
 
--- ---- A record at the front of octets, with its message and its frames.
+-- ---- a record at the beginning of octets, with its message and its frames
 
 pub record Front (e : Entry) (s rest : List ℕ) : Type 0 where
   pub own : take 32 s ≡ own_octets e.record_is
@@ -112,7 +112,7 @@ front_of e s rest h is =
           ∙ behind 256 (FRAME_SIZE * e.record_is.frames) s e.frames rest at_frames h.frames);
     }
 
--- what is read after a record's own octets, where it is this record
+-- what is read after a record's own octets, if they are those of this record
 pub by_frames : (n m : ℕ) (s t u : List ℕ) → n ≡ m → s ≡ t → take (FRAME_SIZE * m) t ≡ u →
     take (FRAME_SIZE * n) s ≡ u
 by_frames n m s t u a b h = rw (a, b) h

@@ -1,5 +1,5 @@
--- At which offsets the fields after the counts are in their octets, and that they determine the
--- fixed part.
+-- At which offsets the fields after the counts are in their octets, and that these octets determine
+-- the fixed part.
 use Rattle.std.proofs.Common.{◌≡◌, ℕ, ◌^◌, ◌<◌, ◌≤◌, List, ◌∷◌, ◌++◌, drop, replicate, Option, Some, None, refl, sym, ap, ◌∙◌, append_assoc, arith}
 use Rattle.std.proofs.lemmas.List.{drop-drop}
 use Rattle.giop_octets.specs.Fields.{four, eight}
@@ -66,7 +66,7 @@ pub among_more : (records most : ℕ) (owner : Option ℕ) → records ≤ most 
 among_more records most None few h = h
 among_more records most (Some k) few h = omega (arith, few, h)
 
--- ---- after the place, since layout 3
+-- ---- the fields after the place, which layout 3 introduced
 
 pub number_is : (n : ℕ) (owner : Option ℕ) (s : List ℕ) → s ≡ limit_octets Third n owner →
     drop 4 s ≡ four (number_or 4294967295 owner) ++ replicate 8 0
@@ -80,7 +80,7 @@ pub number_small : (most : ℕ) (owner : Option ℕ) → most ≤ 4097 → IsAmo
 number_small most None few h = omega arith
 number_small most (Some k) few h = omega (arith, few, h)
 
--- ---- the whole
+-- ---- all fields after the counts
 
 pub fixed_is : (f : Fixed) (counts : Counts) (most_open records octets messages faults : ℕ)
     (place : Place) (owner : Option ℕ)

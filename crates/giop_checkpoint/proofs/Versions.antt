@@ -1,4 +1,4 @@
--- The octets of a version are of one layout.
+-- The octets of a version are those of one layout only.
 use Rattle.std.proofs.Common.{◌≡◌, List, ℕ, refl}
 use Rattle.giop_octets.specs.Fields.{four}
 use Rattle.giop_checkpoint.specs.Layouts.{version_of}

@@ -41,8 +41,9 @@ fault_octet faults.Version = 2
 fault_octet faults.ByteOrder = 3
 fault_octet faults.StreamLimit = 5
 
--- Four octets for the place, the stream fault's number, how many header octets are held and, in
--- layout 2, the payload's record; the header octets; the payload octets still to come.
+-- Four octets: the place, the stream fault's number, how many header octets are held, and, in
+-- layout 2, the payload's record. After them come the header octets, and how many payload octets
+-- are still to come.
 abbrev pub place_octets : Place → ℕ → List ℕ
 place_octets (Header held) owner =
     (0 ∷ 0 ∷ length held.items ∷ owner ∷ []) ++ held.items ++ replicate (12 - length held.items) 0
@@ -51,7 +52,7 @@ place_octets (Payload header left) owner = (1 ∷ 0 ∷ 0 ∷ owner ∷ []) ++ h
 place_octets (Stopped fault) owner = (2 ∷ fault_octet fault ∷ 0 ∷ owner ∷ []) ++ replicate 12 0
     ++ eight 0
 
--- Each of these fields alone.
+-- The fields of these octets, one by one.
 abbrev pub place_octet : Place → ℕ
 place_octet (Header held) = 0
 place_octet (Payload header left) = 1

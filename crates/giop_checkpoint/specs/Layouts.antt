@@ -8,50 +8,51 @@ use Rattle.giop_checkpoint.specs.declared.layout.Layout.TheVariants.{Second, Thi
 abbrev pub version_of : Layout → ℕ
 version_of Second = 2
 version_of Third = 3
-version_of Latest = 7
+version_of Latest = 8
 
--- ---- by the version of the signature file that a stream is read with, 1 if there is none
+-- ---- the layout is chosen by the version of the signature file of a stream, 1 if there is none
 
--- the layout in which its checkpoints are written
+-- the layout in which the checkpoints of the stream are written
 abbrev pub layout_of : ℕ → Layout
 layout_of version = if nat_le 3 version then Latest else Third
 
--- Whether checkpoints in a layout are read: with a file of version 3 those in the latest alone, and
--- those in the others with other files.
+-- Whether checkpoints in a layout are read. With a file of version 3, only those in the latest
+-- layout are read; with other files, only those in the other layouts.
 abbrev pub reads : ℕ → Layout → Bool
 reads version Latest = nat_le 3 version
 reads version layout = nat_lt version 3
 
 -- ---- ranges
 
--- so many messages may be open at once
+-- the range of the number of messages that may be open at once
 abbrev pub OpenHasRange : Layout → ℕ → Type 0
 OpenHasRange Second n = n ≡ LAYOUT_2_MOST_OPEN
 OpenHasRange layout n = (1 ≤ n) × (n ≤ MOST_OPEN)
 
--- the payload's record is one of so many
+-- the payload's record, if there is one, has a number below the number of records
 abbrev pub IsAmong : ℕ → Option ℕ → Type 0
 IsAmong records None = Unit {0}
 IsAmong records (Some k) = k < records
 
--- the number of the payload's record has room in the layout
+-- the layout has room for the number of the payload's record
 abbrev pub OwnerFits : Layout → Option ℕ → Type 0
 OwnerFits Second owner = IsAmong 255 owner
 OwnerFits layout owner = Unit {0}
 
 -- ---- octets
 
--- the number of the payload's record, or this one where there is none
+-- the number of the payload's record, or `nobody` if there is none
 abbrev pub number_or : ℕ → Option ℕ → ℕ
 number_or nobody None = nobody
 number_or nobody (Some k) = k
 
--- the octet of the place that names the payload's record, in layout 2
+-- the octet of the place that names the payload's record in layout 2
 abbrev pub owner_octet : Layout → Option ℕ → ℕ
 owner_octet Second owner = number_or 255 owner
 owner_octet layout owner = 0
 
--- after the place, since layout 3: how many messages may be open at once, and the payload's record
+-- the octets after the place, in layout 3 and later: how many messages may be open at once, and the
+-- payload's record
 abbrev pub limit_octets : Layout → ℕ → Option ℕ → List ℕ
 limit_octets Second n owner = replicate 16 0
 limit_octets layout n owner = four n ++ four (number_or 4294967295 owner) ++ replicate 8 0

@@ -13,7 +13,7 @@ RecordKindHasRange Current = Unit {0}
 RecordKindHasRange (Open id) = id < 2 ^ 32
 RecordKindHasRange (Over id) = id < 2 ^ 32
 
--- the ranges of any record of the code, by its types
+-- the ranges that the types of the code give the fields of each record
 pub record IsTyped (r : Record) : Type 0 where
   pub record_kind : RecordKindHasRange r.record_kind
   pub number : r.number < 2 ^ 64
@@ -35,7 +35,7 @@ id_of Current = 0
 id_of (Open id) = id
 id_of (Over id) = id
 
--- how many frames it has, and the kind of the record
+-- the first two octets: how many frames the record has, and its kind
 unfoldable pub kind_octets : Record → List ℕ
 kind_octets r = r.frames ∷ record_kind_octet r.record_kind ∷ []
 
@@ -44,7 +44,7 @@ unfoldable pub own_octets : Record → List ℕ
 own_octets r = kind_octets r ++ eight r.number ++ r.header ++ four (id_of r.record_kind)
     ++ replicate 6 0
 
--- A record with what is stored of its message: some octets, and its frames.
+-- A record with what is stored of its message: 224 octets, and its frames.
 pub record Entry : Type 0 where
   pub record_is : Record
   pub message : List ℕ
@@ -60,11 +60,11 @@ pub record EntryHasRange (e : Entry) : Type 0 where
 
 -- ---- lengths
 
--- how many octets a record has, by its first one
+-- how many octets a record has; the first of its octets is its number of frames
 abbrev pub used : List ℕ → ℕ
 used s = RECORD_SIZE + FRAME_SIZE * get_or s 0 0
 
--- so many records, each as long as its first octet gives, and nothing after them
+-- the octets are this many records, each as long as its first octet says, and nothing follows them
 abbrev pub AreRecords : ℕ → List ℕ → Type 0
 AreRecords zero s = s ≡ []
 AreRecords (suc n) s = (used s ≤ length s) × AreRecords n (drop (used s) s)

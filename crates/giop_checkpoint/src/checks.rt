@@ -16,7 +16,8 @@ use crate::sizes::FIXED_SIZE;
 use crate::state::{same, state_at};
 use arrayvec::ArrayVec;
 
-/// The layout and what follows the counts, where all up to there is as it is written in this layout with these counts.
+/// The layout, and what follows the counts, if the octets up to there are those that are written in
+/// this layout with these counts.
 fn after_counts<'a>(octets: &'a [u8], counts: Counts) -> Result<(Layout, &'a [u8]), LoadFault>
     ensures ours { IfOk result (λ r. IsOurs counts octets.now) }
     ensures layout { IfOk result (λ r. IsLaidOut octets.now r.0) }
@@ -42,12 +43,12 @@ fn after_counts<'a>(octets: &'a [u8], counts: Counts) -> Result<(Layout, &'a [u8
     Ok((layout, behind))
 }
 
-/// The fixed part of a checkpoint, and the octets of its records, each of which is whole. `counts` are those of the
-/// catalogue and the request list that it is read with.
+/// The fixed part of a checkpoint, and the octets of its records; no record is cut short. `counts`
+/// are those of the catalogue and the request list with which it is read.
 pub fn fixed_part<'a>(octets: &'a [u8], counts: Counts) -> Result<(Fixed, &'a [u8]), LoadFault>
     ensures passes { IfOk result (λ r. Passes counts octets.now r.0 r.1.now) }
     ensures refused { IfErr result (λ why. Refused counts octets.now why) }
-    // What is written in a layout that is read is read.
+    // If a layout is read, what is written in it is read.
     ensures again { (layout : LayoutOf) (f : FixedPart) (records : List ℕ) → f.counts ≡ counts →
         reads counts.version layout ≡ true → HasRange layout f → AreRecords f.records records →
         octets.now ≡ fixed_octets layout f ++ records → IsOkAnd result (λ r. (r.0 ≡ f)
@@ -68,7 +69,7 @@ pub fn fixed_part<'a>(octets: &'a [u8], counts: Counts) -> Result<(Fixed, &'a [u
 }
 
 impl Counts {
-    /// Whether octets are these counts.
+    /// Whether the octets are those of these counts.
     fn are(&self, octets: &[u8]) -> bool
         ensures { IsTrue result ↔ (octets.now ≡ counts_octets self.now) }
     {

@@ -10,8 +10,9 @@ use crate::layout::Layout;
 use arrayvec::ArrayVec;
 use giop_octets::{eight_at, four_at, put_eight, put_four, put_octets, put_zeros};
 
-/// What a checkpoint says of the catalogue and the request list that a stream is read by: the version of the signature
-/// file, by the layout; how many types, operations and exceptions it declares; how many different request ids the list has.
+/// What a checkpoint says of the catalogue and the request list by which a stream is read: the
+/// version of the signature file, by the layout; how many types, operations and exceptions the file
+/// declares; and how many different request ids the list has.
 #[derive(Clone, Copy, Debug, PartialEq, Eq)]
 pub struct Counts {
     pub version: u8,
@@ -24,9 +25,10 @@ pub struct Counts {
 /// Where in the stream the next octet is.
 #[derive(Drop)]
 pub enum Place {
-    /// In a header of which these octets were read, or before one.
+    /// In a header, after these octets of it, or before a header if there are none.
     Header(ArrayVec<u8, 11>),
-    /// In the payload of the message with this header, of which so many octets are still to come.
+    /// In the payload of the message with this header. `left` octets of the payload are still to
+    /// come.
     Payload { header: [u8; 12], left: u32 },
     /// After this stream fault.
     Stopped(StreamFault),
@@ -38,16 +40,16 @@ pub struct Fixed {
     pub counts: Counts,
     /// How many messages may be open at once: 1 to 4,096.
     pub most_open: u32,
-    /// How many records there are, at most one more than that.
+    /// How many records there are: at most one more than messages that may be open.
     pub records: u32,
-    /// The octets read, that of a stream fault included: at most 2^48 + 1.
+    /// How many octets were read, with the octet of a stream fault: at most 2^48 + 1.
     pub octets: u64,
-    /// The messages that have begun, at most 2^45.
+    /// How many messages have begun, at most 2^45.
     pub messages: u64,
-    /// The faults of messages and of the stream, at most 2^45 + 1.
+    /// How many faults there were, of messages and of the stream: at most 2^45 + 1.
     pub faults: u64,
     pub place: Place,
-    /// The record whose message the payload belongs to, counted from 0.
+    /// The record of the message to which the payload belongs, counted from 0.
     pub owner: Option<u32>,
 }
 

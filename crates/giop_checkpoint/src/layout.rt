@@ -11,20 +11,21 @@ use crate::state::same;
 use arrayvec::ArrayVec;
 use giop_octets::{put_four, put_zeros};
 
-/// How the octets of a checkpoint are arranged. All are read; the third and the latest are written.
+/// How the octets of a checkpoint are arranged. All layouts are read; the third and the latest are
+/// written.
 #[derive(Clone, Copy, Debug, PartialEq, Eq)]
 pub enum Layout {
-    /// It doesn't store how many messages may be open at once: they are 16.
+    /// The layout doesn't store how many messages may be open at once: there may be 16.
     Second = 2,
-    /// It stores how many messages may be open at once.
+    /// The layout stores how many messages may be open at once.
     Third = 3,
-    /// As the third, of a stream that is read with a signature file of version 3. Its version goes up if such files gain
-    /// types.
-    Latest = 7,
+    /// The same layout as the third, for a stream that is read with a signature file of version 3.
+    /// Its version goes up if such files gain types, or if the numbers of their types change.
+    Latest = 8,
 }
 
 impl Layout {
-    /// The octets of its version.
+    /// The octets of the layout's version.
     #[tactic(auto, unfolding(giop_octets::specs::Fields::four))]
     pub fn version(self) -> [u8; 4]
         ensures { result ≡ four (version_of self) }
@@ -32,7 +33,7 @@ impl Layout {
         match self {
             Layout::Second => [0, 0, 0, 2],
             Layout::Third => [0, 0, 0, 3],
-            Layout::Latest => [0, 0, 0, 7],
+            Layout::Latest => [0, 0, 0, 8],
         }
     }
 
@@ -88,7 +89,7 @@ impl Layout {
         }
     }
 
-    /// Whether so many messages may be open at once in this layout.
+    /// Whether this many messages may be open at once in this layout.
     pub(crate) fn allows(self, most_open: u32) -> bool
         ensures { IsTrue result ↔ OpenHasRange self most_open }
     {
@@ -98,7 +99,8 @@ impl Layout {
         }
     }
 
-    /// The octet of the place that names the payload's record, zero where other octets name it.
+    /// The octet of the place that names the payload's record. It is zero if other octets name the
+    /// record.
     pub(crate) fn owner_octet(self, owner: Option<u32>) -> u8
         requires { OwnerFits self owner }
         ensures { result ≡ owner_octet self owner }

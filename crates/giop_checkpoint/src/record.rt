@@ -18,16 +18,16 @@ use giop_octets::{
 pub enum RecordKind {
     /// The current message, which is neither open nor over.
     Current,
-    /// Open under this request id.
+    /// The message is open under this request id.
     Open(u32),
-    /// Open under this request id, and over.
+    /// The message is open under this request id, and over.
     Over(u32),
 }
 
 /// A record's own octets.
 #[derive(Clone, Copy, Debug)]
 pub struct Record {
-    /// How many frames it has, at most 24.
+    /// How many frames the record has, at most 24.
     pub frames: u8,
     pub record_kind: RecordKind,
     /// The message's number in its stream, from 1.
@@ -47,7 +47,7 @@ impl RecordKind {
         }
     }
 
-    /// The request id, 0 where it isn't open.
+    /// The request id, or 0 if the message isn't open.
     fn id(self) -> u32
         ensures { result ≡ id_of self }
     {
@@ -60,7 +60,7 @@ impl RecordKind {
 }
 
 impl Record {
-    /// Writes how many frames it has, and its kind.
+    /// Writes how many frames the record has, and its kind.
     #[tactic(auto, unfolding(crate::specs::Records::kind_octets))]
     fn write_kind<const N: usize>(&self, out: &mut ArrayVec<u8, N>)
         requires room { array_vec_len out.old + 2 ≤ N }
@@ -89,14 +89,14 @@ impl Record {
 #[derive(Clone, Copy, Debug)]
 pub struct FirstRecord<'a> {
     pub record: Record,
-    /// What is stored of its message, without the frames.
+    /// What is stored of the message, without the frames.
     pub message: [u8; 224],
     pub frames: &'a [u8],
-    /// The octets of the records after it.
+    /// The octets of the records after the first.
     pub rest: &'a [u8],
 }
 
-/// The first of these records, where each field is in its range, and unused octets are zero.
+/// The first of these records, if each field is in its range, and unused octets are zero.
 pub fn first_record<'a>(octets: &'a [u8]) -> Option<FirstRecord<'a>>
     requires whole { used octets.now ≤ length octets.now }
     ensures own { IfSome result (λ first. take 32 octets.now ≡ own_octets first.record) }
@@ -105,7 +105,7 @@ pub fn first_record<'a>(octets: &'a [u8]) -> Option<FirstRecord<'a>>
     ensures len { IfSome result (λ first.
         length first.frames.now ≡ FRAME_SIZE * first.record.frames) }
     ensures rest { IfSome result (λ first. first.rest.now ≡ drop (used octets.now) octets.now) }
-    // A record that was written is read.
+    // If a record was written, it is read.
     ensures again { (e : Entry) (rest : List ℕ) → EntryHasRange e →
         octets.now ≡ entry_octets e ++ rest →
         IsSomeAnd result (λ first. (first.record ≡ e.record_is) × (first.message ≡ e.message)
@@ -135,7 +135,8 @@ fn whole_message(octets: &[u8]) -> [u8; 224]
     message
 }
 
-/// The record whose own octets these are, where each field is in its range, and unused octets are zero.
+/// The record whose own octets these are, if each field is in its range, and unused octets are
+/// zero.
 fn record_at(octets: &[u8]) -> Option<Record>
     requires long { length octets.now ≡ 32 }
     ensures own { IfSome result (λ r. octets.now ≡ own_octets r) }
@@ -157,7 +158,7 @@ fn record_at(octets: &[u8]) -> Option<Record>
     Some(record)
 }
 
-/// The record that octets give; unused octets aren't checked.
+/// The record that octets give. Unused octets aren't checked.
 fn parsed(octets: &[u8]) -> Option<Record>
     requires long { length octets.now ≡ 32 }
     ensures range { IfSome result (λ r. RecordKindHasRange r.record_kind) }
@@ -175,7 +176,7 @@ fn parsed(octets: &[u8]) -> Option<Record>
     })
 }
 
-/// The kind of a record, by its octet and its request id.
+/// The kind of a record, from its octet and its request id.
 fn record_kind_of(octet: u8, id: u32) -> Option<RecordKind>
     ensures range { IfSome result (λ s. RecordKindHasRange s) }
     ensures again { (s : StandingOf) → octet ≡ record_kind_octet s → id ≡ id_of s →
@@ -189,7 +190,7 @@ fn record_kind_of(octet: u8, id: u32) -> Option<RecordKind>
     }
 }
 
-/// Whether octets are so many records, each as long as its first octet gives.
+/// Whether octets are this many records, each as long as its first octet says.
 pub fn are_records(records: u32, octets: &[u8]) -> bool
     ensures { IsTrue result ↔ AreRecords records octets.now }
 {

@@ -1,22 +1,22 @@
 //! The sizes of a checkpoint's parts.
 
-/// The octets of the fixed part.
+/// How many octets the fixed part has.
 pub const FIXED_SIZE: usize = 96;
 
-/// How many messages at most may be open at once.
+/// The most messages that may be open at once.
 pub const MOST_OPEN: u32 = 4096;
 
-/// How many messages may be open at once in layout 2, which doesn't store it.
+/// How many messages may be open at once in layout 2, which doesn't store the number.
 pub const LAYOUT_2_MOST_OPEN: u32 = 16;
 
-/// The octets of a record before its frames: 32 of its own, and those of its message.
+/// How many octets a record has before its frames: 32 of its own, and those of its message.
 pub const RECORD_SIZE: usize = 256;
 
-/// The octets that a record stores of its message, before the frames.
+/// How many octets a record stores of its message, before the frames.
 pub const MESSAGE_SIZE: usize = 224;
 
-/// The octets of a frame.
+/// How many octets a frame has.
 pub const FRAME_SIZE: usize = 24;
 
-/// The greatest number of a record's frames.
+/// The most frames that a record can have.
 pub const MOST_FRAMES: u8 = 24;

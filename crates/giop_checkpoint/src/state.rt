@@ -14,8 +14,8 @@ use crate::sizes::LAYOUT_2_MOST_OPEN;
 use arrayvec::ArrayVec;
 use giop_octets::{eight_at, four_at, octet_at, octets_at};
 
-/// The fixed part with these counts, where the octets after them are its fields in this layout: each in its range, and
-/// unused octets zero.
+/// The fixed part with these counts, if the octets after them are its fields in this layout: each
+/// field is in its range, and unused octets are zero.
 pub fn state_at(layout: Layout, counts: Counts, octets: &[u8]) -> Option<Fixed>
     requires long { length octets.now ≡ 68 }
     ensures counts { IfSome result (λ f. f.counts ≡ counts) }
@@ -38,7 +38,7 @@ pub fn state_at(layout: Layout, counts: Counts, octets: &[u8]) -> Option<Fixed>
     Some(fixed)
 }
 
-/// The fixed part that octets give; unused octets and the ranges aren't checked.
+/// The fixed part that octets give. Unused octets and the ranges aren't checked.
 fn parsed(layout: Layout, counts: Counts, octets: &[u8]) -> Option<Fixed>
     requires long { length octets.now ≡ 68 }
     ensures counts { IfSome result (λ f. f.counts ≡ counts) }
@@ -101,7 +101,7 @@ fn place_of(kind: u8, fault: u8, held: u8, header: [u8; 12], left: u64) -> Optio
     }
 }
 
-/// The header octets that are held: so many of these.
+/// The header octets that are held: the first `count` of these.
 fn front_of(header: &[u8; 12], count: u8) -> ArrayVec<u8, 11>
     ensures few { length result.items ≤ 11 }
     ensures again { (held rest : List ℕ) → length held ≤ 11 → length held ≡ count →
@@ -128,7 +128,7 @@ fn fault_of(number: u8) -> Option<StreamFault>
     }
 }
 
-/// How many messages may be open at once, by the octets after the place.
+/// How many messages may be open at once, from the octets after the place.
 fn open_at(layout: Layout, octets: &[u8]) -> u32
     requires long { length octets.now ≡ 16 }
     ensures { (n : ℕ) (owner : Option ℕ) → OpenHasRange layout n →
@@ -140,7 +140,7 @@ fn open_at(layout: Layout, octets: &[u8]) -> u32
     }
 }
 
-/// The payload's record, by the octet of the place that names it and the octets after the place.
+/// The payload's record, from the octet of the place that names it and the octets after the place.
 fn owner_at(layout: Layout, octet: u8, octets: &[u8]) -> Option<u32>
     requires long { length octets.now ≡ 16 }
     ensures { (n : ℕ) (owner : Option ℕ) → OpenHasRange layout n → IsAmong (n + 1) owner →
@@ -153,7 +153,7 @@ fn owner_at(layout: Layout, octet: u8, octets: &[u8]) -> Option<u32>
     }
 }
 
-/// The record that a number names, where the number `nobody` names none.
+/// The record that a number names. The number `nobody` names none.
 fn owner_of(number: u32, nobody: u32) -> Option<u32>
     ensures { (owner : Option ℕ) → IsAmong nobody owner → number ≡ number_or nobody owner →
         result ≡ owner }
@@ -161,7 +161,7 @@ fn owner_of(number: u32, nobody: u32) -> Option<u32>
     if number == nobody { None } else { Some(number) }
 }
 
-/// Whether octets are the same.
+/// Whether these octets and the others are the same.
 pub fn same(octets: &[u8], others: &[u8]) -> bool
     ensures { IsTrue result ↔ (octets.now ≡ others.now) }
 {
@@ -183,7 +183,7 @@ impl Fixed {
     }
 }
 
-/// Whether there is such a record, where one is named.
+/// Whether the record that is named is one of the records. If none is named, this is true.
 fn is_among(records: u32, owner: Option<u32>) -> bool
     ensures { IsTrue result ↔ IsAmong records owner }
 {

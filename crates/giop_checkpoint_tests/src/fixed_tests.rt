@@ -7,7 +7,7 @@ use giop_checkpoint::{Counts, Fixed, LoadFault, Place, StreamFault, fixed_part};
 use hex::FromHex;
 use std::test::Fail;
 
-/// The built-in catalogue and no requests.
+/// The counts of the built-in catalogue, without requests.
 const BUILT_IN: Counts = Counts {
     version: 1,
     types: 0,
@@ -16,27 +16,27 @@ const BUILT_IN: Counts = Counts {
     ids: 0,
 };
 
-/// After 5 octets of a header, where 16 messages may be open.
+/// The fixed part after 5 octets of a header, if 16 messages may be open.
 const IN_HEADER: &str =
     "47494f5044554d5000000003000000000000000000000000000000000000000000000000000000050000000000000000\
 00000000000000000000050047494f500100000000000000000000000000000000000010ffffffff0000000000000000";
 
-/// The same where 4,096 may be.
+/// The same, if 4,096 messages may be open.
 const OF_MANY: &str =
     "47494f5044554d5000000003000000000000000000000000000000000000000000000000000000050000000000000000\
 00000000000000000000050047494f500100000000000000000000000000000000001000ffffffff0000000000000000";
 
-/// After the wrong third octet of a stream.
+/// The fixed part after the wrong third octet of a stream.
 const STOPPED: &str =
     "47494f5044554d5000000003000000000000000000000000000000000000000000000000000000030000000000000000\
 000000000000000102010000000000000000000000000000000000000000000000000010ffffffff0000000000000000";
 
-/// After 10 of 16 payload octets of an open Request, whose record is the first.
+/// The fixed part after 10 of 16 payload octets of an open Request, whose record is the first.
 const IN_PAYLOAD: &str =
     "47494f5044554d5000000003000000000000000000000000000000000000000100000000000000160000000000000001\
 00000000000000000100000047494f500102020000000010000000000000000600000010000000000000000000000000";
 
-/// These by layout 2.
+/// The same fixed parts in layout 2.
 const SECOND_IN_HEADER: &str =
     "47494f5044554d5000000002000000000000000000000000000000000000000000000000000000050000000000000000\
 0000000000000000000005ff47494f500100000000000000000000000000000000000000000000000000000000000000";
@@ -137,12 +137,12 @@ fn with_a_file_of_version_3_the_layout_is_the_latest(rt: HostRuntime) -> Result<
         let octets = octets_of(third)?;
         assert!(rt; fixed_part(&octets, counts).is_err_and(|why| why == LoadFault::Version));
         let mut latest = octets;
-        latest[11] = 6;
-        assert!(rt; fixed_part(&latest, counts).is_err_and(|why| why == LoadFault::Version));
         latest[11] = 7;
+        assert!(rt; fixed_part(&latest, counts).is_err_and(|why| why == LoadFault::Version));
+        latest[11] = 8;
         assert!(rt; fixed_part(&latest, BUILT_IN).is_err_and(|why| why == LoadFault::Version));
         let Ok((fixed, _)) = fixed_part(&latest, counts) else {
-            return Err(Fail::from("layout 7 is read"));
+            return Err(Fail::from("layout 8 is read"));
         };
         let mut out: ArrayVec<u8, 96> = ArrayVec::new();
         fixed.write(&mut out);
@@ -151,7 +151,7 @@ fn with_a_file_of_version_3_the_layout_is_the_latest(rt: HostRuntime) -> Result<
     Ok(())
 }
 
-/// How many messages may be open, how many records there are, and what is answered.
+/// How many messages may be open, how many records there are, and what is returned.
 const OPEN: [(u32, u32, Option<LoadFault>); 9] = [
     (0, 0, Some(LoadFault::State)),
     (1, 0, None),
@@ -188,7 +188,7 @@ fn so_many_messages_may_be_open(rt: HostRuntime) -> Result<(), Fail> {
     Ok(())
 }
 
-/// An octet that is set to a value, and what is answered then.
+/// The index of an octet, the value to which it is set, and what is returned then.
 const REFUSED: [(usize, u8, LoadFault); 19] = [
     (0, 0x46, LoadFault::Magic),
     (7, 0x51, LoadFault::Magic),
@@ -232,7 +232,7 @@ fn refusal_of(octets: &[u8]) -> Option<LoadFault> {
     fixed_part(octets, BUILT_IN).err()
 }
 
-/// Octets read, and whether a stream may have so many.
+/// How many octets were read, and whether a stream may have that many.
 const READ: [(u64, bool); 3] = [
     (281_474_976_710_656, true),
     (281_474_976_710_657, true),

@@ -1,5 +1,5 @@
 -- A number with a mark is a value of its type, unless it is a kind without a word.
-use Rattle.std.proofs.Common.{◌≡◌, ℕ, ◌^◌, ◌<◌, List, [], Some, None, codes, refl}
+use Rattle.std.proofs.Common.{◌≡◌, ℕ, ◌^◌, ◌<◌, List, [], ◌++◌, Option, Some, None, codes, decimal, ap, append_assoc, refl}
 use Rattle.giop_cdr.specs.declared.number.Number.TheVariants as numbers
 use Rattle.giop_cdr.specs.declared.prim.Primitive.TheVariants as prims
 use Rattle.giop_decode.specs.declared.progress.Kind.TheVariants as kinds
@@ -8,8 +8,10 @@ use Rattle.giop_decode.specs.Reading.{sign_of, wrong}
 use Rattle.giop_decode.specs.ReadingSteps.{after}
 use Rattle.giop_decode.specs.Spelling.{value_text}
 use Rattle.giop_decode.specs.Transitions.{IsNumberOf}
-use Rattle.giop_print.specs.Lines.{kind_line, kind_word, number_text, spaced}
+use Rattle.giop_print.specs.Line.{headed}
+use Rattle.giop_print.specs.Lines.{kind_line, kind_word, named_text, number_text, spaced}
 use Rattle.giop_sig.specs.Kinds.{marked_word}
+use Rattle.giop_sig.specs.Names.{coded, marked_name}
 use Rattle.giop_sig.specs.Types.{Marked, MarkedNumber, Scalar, Single, Ty, interpreted_by}
 
 abbrev pub number_marked : (T : Ty) (mark n : ℕ) → T ≡ Single (Marked mark) →
@@ -37,26 +39,41 @@ same_marked scalar mark e = cc
 same_taken : (mark n m : ℕ) → interpreted_by (Marked mark) n ≡ Some (numbers.Unsigned m) → n ≡ m
 same_taken mark n m e = cc
 
-pub kind_text : (message : ℕ) (path word : List ℕ) (scalar : Scalar) (n m mark : ℕ) →
+pub marked_value : (message : ℕ) (path : List ℕ) (scalar : Scalar) (n m mark : ℕ) →
     Single scalar ≡ Single (Marked mark) → interpreted_by scalar n ≡ Some (numbers.Unsigned m) →
-    marked_word mark m ≡ Some word →
-    kind_line message path (codes " enum ") word ≡ value_text message path (Number scalar n)
-unfolding kind_line
-kind_text message path word scalar n m mark is taken named =
+    value_text message path (Number (Marked mark) m) ≡ value_text message path (Number scalar n)
+marked_value message path scalar n m mark is taken =
     let s = same_marked scalar mark is in
     let e = same_taken mark n m (rw s at taken) in
-    rw (s, e, named) refl
+    rw (s, e) refl
 
-pub bound_text : (message : ℕ) (path : List ℕ) (scalar : Scalar) (n m mark : ℕ) →
-    Single scalar ≡ Single (Marked mark) → interpreted_by scalar n ≡ Some (numbers.Unsigned m) →
-    marked_word mark m ≡ None →
-    kind_line message path (spaced (kind_word prims.ULong)) (number_text 4 (numbers.Unsigned m))
-    ≡ value_text message path (Number scalar n)
+pub word_value : (message : ℕ) (path word : List ℕ) (mark n : ℕ) → marked_word mark n ≡ Some word →
+    kind_line message path (codes " enum ") word ≡ value_text message path (Number (Marked mark) n)
 unfolding kind_line
-bound_text message path scalar n m mark is taken none =
-    let s = same_marked scalar mark is in
-    let e = same_taken mark n m (rw s at taken) in
-    rw (s, e, none) refl
+word_value message path word mark n is = rw is refl
+
+pub bare_value : (message : ℕ) (path : List ℕ) (mark n : ℕ) → marked_word mark n ≡ None →
+    marked_name mark n ≡ None →
+    kind_line message path (spaced (kind_word prims.ULong)) (number_text 4 (numbers.Unsigned n))
+    ≡ value_text message path (Number (Marked mark) n)
+unfolding kind_line
+bare_value message path mark n none unnamed = rw (none, unnamed) refl
+
+-- a name after a number, before the rest of its line
+named_before : (n : ℕ) (word : List ℕ) (code : Option ℕ) (rest : List ℕ) →
+    named_text n word code ++ rest ≡ decimal n ++ (codes " " ++ (coded word code ++ rest))
+named_before n word None rest = append_assoc (decimal n) (codes " " ++ word) rest
+named_before n word (Some code) rest =
+    append_assoc (decimal n) (codes " " ++ (word ++ (codes " " ++ decimal code))) rest
+
+pub named_value : (message : ℕ) (path word : List ℕ) (code : Option ℕ) (mark n : ℕ) →
+    marked_word mark n ≡ None → marked_name mark n ≡ Some (coded word code) →
+    kind_line message path (codes " ulong ") (named_text n word code)
+    ≡ value_text message path (Number (Marked mark) n)
+unfolding kind_line
+named_value message path word code mark n none named =
+    rw (none, named)
+    (ap (λ text. headed message path (codes " ulong " ++ text)) (named_before n word code (codes "\n")))
 
 -- and it is heard by its mark
 pub marked_sign : (scalar : Scalar) (n m mark : ℕ) → Single scalar ≡ Single (Marked mark) →

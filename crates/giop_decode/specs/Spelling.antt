@@ -10,6 +10,7 @@ use Rattle.giop_print.specs.Paths.{root_word, name_segment, index_segment}
 use Rattle.giop_print.specs.Text.{joined, quoted}
 use Rattle.giop_print.specs.declared.path.Root.{Root}
 use Rattle.giop_sig.specs.Kinds.{marked_word}
+use Rattle.giop_sig.specs.Names.{marked_name}
 use Rattle.giop_sig.specs.Types.{Plain, Enum, Marked, Text, OctetKind, Octets, Raw, WideText, WideChar, Encapsulation}
 
 -- the text of a segment: a name after a point, or an index in brackets
@@ -34,10 +35,11 @@ abbrev pub number_words : Primitive → Option Taken → List (List ℕ)
 number_words p None = []
 number_words p (Some number) = spaced (kind_word p) ∷ number_text (size_of p) number ∷ []
 
--- the words of a number with a mark: a kind has a word, and another number none
-abbrev pub marked_words : Option (List ℕ) → ℕ → List (List ℕ)
-marked_words (Some word) n = codes " enum " ∷ word ∷ []
-marked_words None n = codes " ulong " ∷ decimal n ∷ []
+-- the words of a number with a mark: a kind has a word, and another number may have a name after it
+abbrev pub marked_words : Option (List ℕ) → Option (List ℕ) → ℕ → List (List ℕ)
+marked_words (Some word) name n = codes " enum " ∷ word ∷ []
+marked_words None (Some name) n = codes " ulong " ∷ decimal n ∷ codes " " ∷ name ∷ []
+marked_words None None n = codes " ulong " ∷ decimal n ∷ []
 
 -- the word of a piece of octets of a kind
 abbrev pub octets_word : OctetKind → List ℕ
@@ -49,7 +51,7 @@ octets_word WideChar = codes " wchar @"
 abbrev pub value_words : Value → List (List ℕ)
 value_words (Number (Plain p) n) = number_words p (interpreted_as p n)
 value_words (Number (Enum count names) n) = codes " enum " ∷ names n ∷ []
-value_words (Number (Marked mark) n) = marked_words (marked_word mark n) n
+value_words (Number (Marked mark) n) = marked_words (marked_word mark n) (marked_name mark n) n
 value_words (Count n) = codes " count " ∷ decimal n ∷ []
 value_words (Piece (Text bound) offset octets more) =
     codes " string @" ∷ decimal offset ∷ (codes " " ++ quoted octets) ∷ more_word more ∷ []

@@ -10,6 +10,7 @@ ghost use Rattle.giop_decode.specs.Transitions.{AreKnown, IsNumberOf, HasOutput,
 ghost use Rattle.giop_decode.specs.Segments.{current_path_text};
 ghost use Rattle.giop_print.specs.Output.{Writes};
 ghost use Rattle.giop_sig.specs.Trees.{tree_at};
+ghost use Rattle.giop_sig.specs.Types.{Marked};
 
 use crate::current_path::CurrentPath;
 use crate::frame::Frame;
@@ -19,7 +20,7 @@ use giop_print::{
     Head, Out, OutFault, Piece, SplitPiece, Value, encapsulation_line, order_line,
     split_inner_rest_line, split_piece_line, value_line,
 };
-use giop_sig::{SeenCatalogue, Shape, TypeId, kind_word};
+use giop_sig::{NumberName, SeenCatalogue, Shape, TypeId, kind_word, number_name};
 
 /// The line of a value of a type of one number.
 #[tactic(auto, unfolding(giop_print::specs::Lines::kind_line))]
@@ -47,13 +48,36 @@ fn number_line<O: Out>(
             _ => unreachable!(),
         },
         Shape::Marked(mark) => match number {
-            Number::Unsigned(n) => match kind_word(mark, n as u32) {
-                Some(word) => value_line(out, path, Value::Enum(word)),
-                None => value_line(out, path, Value::Primitive(Prim::ULong, number)),
-            },
+            Number::Unsigned(n) => marked_line(path, mark, n as u32, out),
             _ => unreachable!(),
         },
         _ => unreachable!(),
+    }
+}
+
+/// The line of a number with this mark: that of its word, or of the number, which may have a name.
+#[inline(never)]
+fn marked_line<O: Out>(
+    path: &CurrentPath<'_>,
+    mark: u32,
+    n: u32,
+    out: &mut O,
+) -> Result<(), OutFault>
+    ensures { Writes result (O.log out.old) (O.log out.new)
+        (value_text path.now.head.message (current_path_text path.now)
+        (results.Number (Marked mark) n)) }
+{
+    match (kind_word(mark, n), number_name(mark, n)) {
+        (Some(word), _) => value_line(out, path, Value::Enum(word)),
+        (None, Some(name)) => {
+            let NumberName { word, code } = name;
+            let number = n;
+            value_line(out, path, Value::Named { number, word, code })
+        }
+        (None, None) => {
+            let number = Number::Unsigned(u64::from(n));
+            value_line(out, path, Value::Primitive(Prim::ULong, number))
+        }
     }
 }
 

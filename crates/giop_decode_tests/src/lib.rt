@@ -4,6 +4,8 @@
 #[cfg(test)]
 mod key_tests;
 #[cfg(test)]
+mod named_tests;
+#[cfg(test)]
 mod rows;
 #[cfg(test)]
 mod stored_tests;

@@ -1,4 +1,4 @@
--- What a message writes and answers at an octet, and at its close, are the lines of its reading.
+-- What a message writes and returns at an octet, and at its close, are the lines of its reading.
 use Rattle.std.proofs.Common.{◌≡◌, ℕ, suc, ◌+◌, ◌-◌, ◌≤◌, Bool, false, List, [], ◌∷◌, ◌++◌, length, map, drop, refl, sym, ap, ◌∙◌, arith, flat_map}
 use Rattle.std.specs.Prelude.{◌||◌, ◌==◌}
 use Rattle.std.specs.List.{filter, list_any, AllByRecursion as Each}
@@ -16,7 +16,7 @@ use Rattle.giop_message.proofs.Causal.{ToldAt, map_both, stands, one_more, order
 use Rattle.giop_message.proofs.Faults.{over_where_faulted}
 use Rattle.std.proofs.lemmas.List.{drop-map, length-map}
 
--- ---- the lines that a message has of an octet, and those of its reading
+-- ---- the lines that an octet adds to a message, and those that it adds to the reading
 
 none_before : (n : ℕ) (emitted : List LineAt) → Each (λ t. t.at ≤ 12 + n) emitted →
     filter (λ r. r.at == suc n) (map timed_line_of emitted) ≡ []
@@ -28,7 +28,7 @@ all_here : (n : ℕ) (emitted : List LineAt) → ToldAt ((12 + n) + 1) emitted �
 all_here n [] h = refl
 all_here n (t ∷ ts) h = search (arith, eq-eqb, all_here n ts h.1)
 
--- the lines of one octet more: they are at that octet, and the reading has them
+-- the lines of one more octet: they are at that octet, and the reading has them
 record One (S : Signatures) (header xs : List ℕ) (x : ℕ) : Type 0 where
   emitted : message_lines (message S header (xs ++ x ∷ []))
       ≡ message_lines (message S header xs) ++ due S header xs (x ∷ [])
@@ -59,7 +59,7 @@ one_octet S header xs x =
       said = said_is ∙ ap (map timed_line_of) (sym due_is);
     }
 
--- the lines of one octet more in the reading
+-- the lines that one more octet adds to the reading
 pub due_said_is : (S : Signatures) (header xs : List ℕ) (x : ℕ) →
     due_by S header xs x ≡ map timed_line_of (due S header xs (x ∷ []))
 due_said_is S header xs x = (one_octet S header xs x).said
@@ -71,7 +71,7 @@ unfolding message_lines_text numbered_lines message_line_text
 told_here number place offset [] h = refl
 told_here number place offset (t ∷ ts) h = search (arith, told_here number place offset ts h.1)
 
--- The text of an octet is that of its lines in the reading.
+-- The text of an octet is the text of its lines in the reading.
 pub octet_text : (S : Signatures) (number place : ℕ) (header xs : List ℕ) (x : ℕ) →
     due_text S number place header xs (x ∷ [])
     ≡ numbered_lines (suc place) number (due_by S header xs x)
@@ -106,7 +106,7 @@ over_more : (S : Signatures) (header xs : List ℕ) (x : ℕ) →
     (due_by S header xs x))
 over_more S header xs x = search (arith, one_octet, over_where_faulted, any_both, wrongs_are)
 
--- A message that isn't over is over after an octet exactly if the octet has the line of a fault.
+-- If a message isn't over, it is over after an octet exactly if the octet adds the line of a fault.
 pub octet_over : (S : Signatures) (header xs : List ℕ) (x : ℕ) →
     is_over (stage_of (message S header xs)) ≡ false →
     is_over (stage_of (message S header (xs ++ x ∷ [])))
@@ -115,7 +115,7 @@ octet_over S header xs x h = search (arith, over_more)
 
 -- ---- a close
 
--- A close has the line of a fault exactly if it is short.
+-- A close adds the line of a fault exactly if it is short.
 pub close_short : (S : Signatures) (header xs : List ℕ) →
     is_short (close (stage_of (message S header xs)))
     ≡ list_any (λ l. is_fault l.0) (closes_by S header xs)

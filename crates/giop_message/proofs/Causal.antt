@@ -1,5 +1,5 @@
--- The lines of a message with more octets begin with its lines so far, and the others come after
--- its octets; and the order of the lines of one octet.
+-- If more octets come, the lines of a message begin with those that it had before, and the other
+-- lines come after its earlier octets; and in which order the lines of one octet come.
 use Rattle.std.proofs.Common.{◌≡◌, ◌≢◌, ℕ, ◌+◌, ◌-◌, ◌<◌, ◌≤◌, Bool, true, false, List, [], ◌∷◌, ◌++◌, length, map, drop, Option, Some, None, refl, sym, ap, subst, ◌∙◌, append_assoc, append-nil, arith, add_assoc, add-zero, ◌⊎◌, inl, inr}
 use Rattle.std.specs.Prelude.{◌==◌, nat_lt, if◌then◌else◌}
 use Rattle.std.specs.List.{filter, AllByRecursion as Each}
@@ -30,7 +30,7 @@ use Rattle.giop_message.proofs.Going.{front_none, body_has, after_has, message_h
 abbrev pub ToldAt : ℕ → List LineAt → Type 0
 ToldAt n emitted = Each (λ t. t.at ≡ n) emitted
 
--- a message read from no octets has no line
+-- a message that was read from no octets has no line
 abbrev pub Silent : ℕ → Message → Type 0
 Silent n (ReadTo said at stage) = (said.lines ≡ []) × (at ≡ n)
 
@@ -38,7 +38,8 @@ Silent n (ReadTo said at stage) = (said.lines ≡ []) × (at ≡ n)
 abbrev pub Turn : ℕ → List LineAt → Type 0
 Turn n emitted = ToldAt n emitted × AreInLineOrder (map (λ t. line_class_of t.message_line) emitted)
 
--- a message after an octet, up to this offset
+-- a message after one octet: its lines are those of the octet, and it is at this offset unless it
+-- is over
 abbrev pub Prompt : ℕ → Message → Type 0
 Prompt n (ReadTo said at stage) = Turn n said.lines × ((at ≡ n) ⊎ (stage ≡ Over))
 
@@ -50,7 +51,7 @@ prompt_front : (n : ℕ) (front : Said) (m : Message) → Turn n front.lines →
 unfolding with_front
 prompt_front n front (ReadTo said at stage) h k = search (arith, append-nil)
 
--- one call line, or none
+-- there is one call line, or none
 abbrev pub MayCall : ℕ → List LineAt → Type 0
 MayCall n emitted = (emitted ≡ []) ⊎ ((id : ℕ) × (operation : List ℕ)
     × (interface : Option (List ℕ))
@@ -121,7 +122,7 @@ pub rest_silent : (n : ℕ) → Silent n (rest n [])
 unfolding rest rest_in
 rest_silent n = (refl, add-zero n)
 
--- a reader has no line of no octets
+-- a reader gives no line if there are no octets
 abbrev IsSilent : (ℕ → List ℕ → Message) → Type 0
 IsSilent reader = (n : ℕ) → Silent n (reader n [])
 
@@ -176,7 +177,7 @@ step_prompt S header at (In_padding t) b = go (nat_lt 1 (padding at 8))
 step_prompt S header at (In_rest offset held) b = search (arith, rest_by)
 step_prompt S header at Over b = ((tt, inl refl), inr refl)
 
--- a message after so many octets is at that offset, unless it is over
+-- a message after n octets is at the offset n, unless it is over
 abbrev pub Stands : ℕ → Message → Type 0
 Stands n (ReadTo said at stage) = (at ≡ n) ⊎ (stage ≡ Over)
 
@@ -208,7 +209,7 @@ stands S header xs = grown (λ xs. Stands (12 + length xs) (message S header xs)
         Stands (12 + length (xs ++ b ∷ [])) (message S header (xs ++ b ∷ []))
     more xs b h = search (arith, message_goes, length_one_more, add_assoc, stands_more)
 
--- lines after so many octets
+-- the lines come after the first n octets
 abbrev pub Behind : ℕ → List LineAt → Type 0
 Behind n emitted = Each (λ t. n < t.at) emitted
 
@@ -259,7 +260,7 @@ later_none : (n k : ℕ) (emitted : List LineAt) → Behind (12 + n) emitted →
 later_none n k [] h below = refl
 later_none n k (t ∷ ts) h below = search (arith, ne_eqb, later_none n k ts h.1 below)
 
--- More octets change no lines of those before them.
+-- More octets don't change the lines of the octets before them.
 pub is_causal : (S : ℕ → Signatures) → IsCausal (reader_by S)
 unfolding remarks_by
 is_causal S = record {
@@ -359,7 +360,7 @@ module _ (k : ℕ) where
     ordered xs = grown Ordered ordered_more [] xs
         (ordered_none (message S header []) (message_silent S header))
 
--- The lines of one octet come in their order, and no two are of one class.
+-- The lines of one octet come in their order, and no two have the same class.
 pub is_ordered : (S : ℕ → Signatures) → IsOrdered (reader_by S)
 unfolding remarks_by
 is_ordered S = record { ordered = λ number header xs k. (ordered k (S number) header xs).1 }

@@ -1,6 +1,6 @@
--- The lines of a close: it ends the message, and none of its lines is of a class that the last
--- octet has, since a message that is faulted there, or ends a part of its rest there, has no rest
--- left.
+-- The lines of a close: it ends the message, and none of its lines has a class that a line of the
+-- last octet has. If the message is faulted at its last octet, or a part of its rest ends there,
+-- nothing of the rest is left.
 use Rattle.std.proofs.Common.{arith, ◌≡◌, Bool, true, false, List, [], ◌∷◌, ◌++◌, map, inl, inr, refl, ap, ◌≢◌, ℕ, suc, length, ◌⊎◌}
 use Rattle.std.specs.Prelude.{if◌then◌else◌}
 use Rattle.giop_message.specs.MessageReader.{LineClass, Rest, End, AtClose, IsClosing, Value, Call, Fault, AreInLineOrder, is_fault}
@@ -28,7 +28,7 @@ closes_say (In_padding b) = search (arith, lack_says)
 closes_say (In_rest offset (x ∷ held)) = inr (inr refl)
 closes_say _ = inr (inl refl)
 
--- a close of the end alone has no part of the rest
+-- if a close has only the line of the end, it has no part of the rest
 ends_only : (stage : Stage) → LineClasses (close stage) ≡ End ∷ [] →
     LineClasses (close stage) ≡ Rest ∷ End ∷ [] → ⊥
 ends_only stage e f = absurd cc
@@ -47,7 +47,7 @@ leaves_end line_classes stage h (inr e) = rw (h.1 e) refl
 other : (a b : LineClass) → a ≢ b → AreApart (a ∷ b ∷ [])
 other a b h = ((h, tt), (tt, tt))
 
--- one line and those of a close, which are of other classes
+-- one line and the lines of a close, if none of these has its class
 one_apart : (a : LineClass) (line_classes : List LineClass) → AtClose line_classes → a ≢ Fault →
     a ≢ End →
     a ≢ Rest → AreApart (a ∷ line_classes)
@@ -92,6 +92,6 @@ octet_apart S number header xs x =
     (octet_leaves (S number) header xs x)
     ((is_closing S).closed number header (xs ++ x ∷ []))
 
--- No octet has two lines of one class, with those of a close at it.
+-- No two lines of one octet, with those of a close at it, have the same class.
 pub is_apart : (S : ℕ → Signatures) → IsApart (reader_by S)
 is_apart S = search (arith, octet_apart)

@@ -1,4 +1,5 @@
--- The close of a message that follows a list: its lines by the message's part, and its text.
+-- The close of a message that follows a list of octets: its lines, from the message's part, and its
+-- text.
 use Rattle.std.proofs.Common.{◌≡◌, ℕ, zero, suc, Bool, true, false, List, [], ◌∷◌, ◌++◌, refl, sym, ap, ◌∙◌, append-nil, arith}
 use Rattle.std.specs.Prelude.{◌==◌, codes, if◌then◌else◌, not}
 use Rattle.std.proofs.lemmas.Bool.{false≢true, ne_eqb}
@@ -55,7 +56,7 @@ unfolding body_may_be_missing
 lacks_none (Struct count names parts) other = absurd (other count refl)
 lacks_none T other = refl
 
--- ---- the part that it is in
+-- ---- the part in which the message is
 
 short_stage : (S : Signatures) (header : List ℕ) (section : Section) (h : Noted) (lines : List Line)
     (at : ℕ) (outer : List OpenPart) (leaf : Leaf) →
@@ -69,7 +70,7 @@ module _ {C : Table} {answers : Answers} {number : ℕ} {header : List ℕ} {m :
   abbrev At : Stage
   At = stage_of (message (signatures_of C (answers number)) header s)
 
-  -- inside a section it is short
+  -- inside a section, the close is short
   pub section_short : {section : Section} → m.part ≡ parts.Typed section →
       close At ≡ ShortLine ∷ []
   section_short {section} is = search (arith, stage_front, short_stage)
@@ -83,7 +84,7 @@ module _ {C : Table} {answers : Answers} {number : ℕ} {header : List ℕ} {m :
   unfolding stage_of
   rest_stage is = search (arith)
 
--- ---- its text
+-- ---- the text of the close
 
 lack_short : (test : Bool) → is_short (if test then EndLine ∷ [] else ShortLine ∷ []) ≡ not test
 unfolding is_short

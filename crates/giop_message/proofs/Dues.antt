@@ -1,4 +1,4 @@
--- The lines of more octets and their text, where the octets are taken in two parts.
+-- The lines of more octets and their text, if the octets are taken in two parts.
 use Rattle.std.proofs.Common.{◌≡◌, ℕ, ◌+◌, ◌-◌, ◌≤◌, true, false, List, [], ◌∷◌, ◌++◌, length, take, drop, flat_map, refl, sym, ap, subst, ◌∙◌, append_assoc, append-nil, arith, length-append, length-drop, take-add}
 use Rattle.std.proofs.Math.Seq.{drop-append_seam}
 use Rattle.std.proofs.lemmas.List.{length-take-le, take-append-drop}
@@ -17,7 +17,7 @@ due_both : (S : Signatures) (header s xs ys : List ℕ) →
 unfolding due
 due_both S header s xs ys = search (arith, append_assoc, told_more, drop, drop-append_seam)
 
--- lines after an offset have the same places, counted from a later one
+-- lines after an offset have the same places if they are counted from a later offset
 moved : (number place offset more : ℕ) (emitted : List LineAt) → Behind (offset + more) emitted →
     message_lines_text number place offset emitted
     ≡ message_lines_text number (place + more) (offset + more) emitted
@@ -65,7 +65,7 @@ text_none S number place header s =
     drop_all_of emitted = ap (drop (length emitted)) (sym (append-nil emitted))
         ∙ drop-append_seam emitted []
 
--- after a fault a message stays the same
+-- after a fault, a message stays the same
 over_goes : (S : Signatures) (header : List ℕ) (said : Said) (at : ℕ) (t : List ℕ) →
     goes_on S header (ReadTo said at Over) t ≡ ReadTo said at Over
 over_goes S header said at [] = refl
@@ -106,7 +106,7 @@ text_so_far S number place header s octets i more h = search (
   length-take-le,
 )
 
--- all of it, where the message is over
+-- if the message is over after the first n octets, the text of all octets is the text of these
 pub text_ended : (S : Signatures) (number place : ℕ) (header s octets : List ℕ) (n : ℕ) →
     is_over (stage_of (message S header (s ++ take n octets))) ≡ true →
     due_text S number place header s octets ≡ due_text S number place header s (take n octets)

@@ -71,7 +71,7 @@ rest_tallies (suc full) offset at s = search (
       (offset + 32) (at + 32) (drop 32 s),
 )
 
--- a reader's messages are all so
+-- each message of a reader has the line of a fault exactly if it is over
 abbrev AllTally : (ℕ → List ℕ → Message) → Type 0
 AllTally reader = (at : ℕ) (s : List ℕ) → Tallies (reader at s)
 

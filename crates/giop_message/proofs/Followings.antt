@@ -1,4 +1,5 @@
--- A message that follows a list isn't over, and its request id is the first that its lines have.
+-- If a message follows a list of octets, it isn't over, and its request id is the first one in its
+-- lines.
 use Rattle.std.proofs.Common.{◌&&◌, ◌≡◌, ℕ, ◌+◌, Bool, true, false, List, [], ◌∷◌, ◌++◌, length, drop, Option, Some, None, refl, sym, ap, subst, ◌∙◌, append-nil, arith, inl, inr, length-append}
 use Rattle.std.specs.Prelude.{cond}
 use Rattle.std.proofs.Math.Seq.{drop-append_seam}
@@ -36,7 +37,8 @@ none_over n (ReadTo said at stage) silent tallies = rw silent.0 at tallies
 
 module _ (S : Signatures) (header : List ℕ) (section : Section) (C : Table) (d : Decoder)
     (lines : List Line) (at : ℕ) where
-  -- a section whose decoder goes on isn't over, and the message has its lines
+  -- if the decoder of a section goes on, the section isn't over, and the message has the decoder's
+  -- lines
   standing_over : (leaf : Option Innermost) →
       is_over (stage_of (section_and_rest S header section nothing_noted
       (decoders.read_by_leaf C d leaf lines at)))
@@ -102,7 +104,7 @@ unfolding first_id
 first_none (Some a) = refl
 first_none None = refl
 
--- it stays where more lines have no request id
+-- if more lines have no request id, the request id stays
 pub id_stays : (S : Signatures) (header s more : List ℕ) →
     first_request_id (due S header s more) ≡ None →
     first_request_id (message_lines (message S header (s ++ more)))
@@ -119,7 +121,7 @@ unfolding first_request_id id_in line_at first_id
 wrongs_no_id (Done lines at s) = refl
 wrongs_no_id r = refl
 
--- one line more, with its call
+-- the request id of one more line, with its call
 line_id : (section : Section) (is : Calling) (h : Noted) (l : Line) (ls : List Line) →
     first_request_id (section_lines (root_of section) is h (l ∷ ls))
     ≡ first_id (id_in (ValueLine (root_of section) l.path l.value))
@@ -133,7 +135,7 @@ line_id section is h l ls =
     ∙ ap (λ id. first_id id (first_request_id (section_lines R is now ls)))
     (rw (call_no_id l.at (calls is l now) (calls_is is l now), first_none) refl)
 
--- outside of the header no line has one
+-- outside of the header, no line has a request id
 others_none : (section : Section) → is_header section ≡ false →
     (path : List PathSegment) (v : Value) →
     id_in (ValueLine (root_of section) path v) ≡ None
@@ -161,7 +163,7 @@ unfolding first_id
 first_same (Some n) b = refl
 first_same None b = refl
 
--- in the header it is what is noted
+-- in the header, the request id of a line is the one that is noted
 note_id : (h : Noted) (at : ℕ) (path : List PathSegment) (v : Value) →
     (note true h (record { at = at; path = path; value = v })).request_id
     ≡ first_id h.request_id (id_in (ValueLine roots.Header path v))
@@ -194,7 +196,7 @@ pub header_only : (section : Section) → is_header section ≡ true → section
 header_only sections.Header e = refl
 header_only section e = absurd (false≢true e)
 
--- the id that a header's decoder has noted is that of the message's lines
+-- the request id that a header's decoder has noted is the request id of the message's lines
 module _ {C : Table} {S : Signatures} {number : ℕ} {header s : List ℕ} {section : Section}
     {d : Decoder}
     (e : Decodes C S number header s section d) where
@@ -223,7 +225,7 @@ module _ {C : Table} {S : Signatures} {number : ℕ} {header s : List ℕ} {sect
       ∙ (lines_noted (calling S header sections.Header) nothing_noted e.reads.lines
       ∙ ap first_request_id (sym emitted)))
 
--- the request id that a message answers inside a section
+-- the request id that a message gives inside a section
 pub id_read : {C : Table} {answers : Answers} {number : ℕ} {header : List ℕ} {m : Struct_of}
     {s : List ℕ} {section : Section} → Follows C answers number header m s →
     m.part ≡ parts.Typed section →
@@ -242,9 +244,9 @@ id_read {C} {answers} {number} {header} {m} {s} {section} f is =
     go true e = id_noted stands (header_only section e)
     go false e = f.id ∙ rw (is, e) refl
 
--- ---- octets more
+-- ---- more octets
 
--- a message after so many octets more: its number, header and offset
+-- a message after `count` more octets: its number, its header and its offset
 pub record Moved (m n : Struct_of) (count : ℕ) : Type 0 where
   pub number : n.number ≡ m.number
   pub header : n.header ≡ m.header
@@ -278,14 +280,14 @@ module _ {C : Table} {answers : Answers} {number : ℕ} {header : List ℕ} {m :
         stands = stands;
       }
 
-  -- where no line has a request id the message keeps the one that it has
+  -- if no line has a request id, the message keeps the one that it has
   pub id_kept : first_request_id (due (signatures_of C (answers number)) header s more) ≡ None →
       in_header m.part ≡ false →
       m.id ≡ first_request_id (message_lines
       (message (signatures_of C (answers number)) header (s ++ more)))
   id_kept none past = search (arith, id_stays)
 
--- a message of the same fields follows what it does
+-- if two messages have the same fields, both follow the same octets
 pub same_fields : {C : Table} {answers : Answers} {number : ℕ} {header : List ℕ} {m n : Struct_of}
     {s : List ℕ} →
     Follows C answers number header m s → n.number ≡ m.number → n.header ≡ m.header → n.id ≡ m.id →

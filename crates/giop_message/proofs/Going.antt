@@ -1,4 +1,4 @@
--- Reading a message with one octet more is one step from where the message is.
+-- Reading a message with one more octet is one step from the stage of the message.
 use Rattle.std.proofs.Common.{◌≡◌, ℕ, zero, suc, ◌+◌, ◌-◌, ◌/◌, ◌<◌, ◌≤◌, Bool, true, false, List, [], ◌∷◌, ◌++◌, length, take, drop, Option, Some, None, refl, sym, ap, ◌∙◌, append_assoc, append-nil, arith, length-drop, le_of_eq, add-zero, add_assoc, ◌⊎◌, inl, inr}
 use Rattle.std.specs.Prelude.{if◌then◌else◌}
 use Rattle.std.proofs.Math.Seq.{take-length, drop-length}
@@ -21,7 +21,7 @@ use Rattle.giop_message.specs.Messages.{Calling, Said, only_lines, nothing_said,
 use Rattle.giop_message.specs.MessageState.{is_header}
 use Rattle.giop_message.specs.StageSteps.{rest_step, message_step, advance, goes_on}
 
--- a reader for which one octet more is one step
+-- a reader for which one more octet is one step
 abbrev pub Goes : Signatures → List ℕ → (ℕ → List ℕ → Message) → Type 0
 Goes S header reader = (at : ℕ) (s : List ℕ) (b : ℕ) →
     reader at (s ++ b ∷ []) ≡ advance S header (reader at s) b
@@ -89,7 +89,7 @@ module _ (section : Section) (is : Calling) (next : Noted → ℕ → List ℕ �
   )
   passes_front h front (Fault lines at why T) = search (arith, section_lines_append, append_assoc)
 
--- a section goes on as its reading does, where what follows it goes on
+-- a section goes on as its reading does, if what follows the section goes on
 pub through_goes : (S : Signatures) (header : List ℕ) (section : Section) →
     ((h : Noted) → Goes S header (after S header section h)) → (h : Noted) (r : Read) (b : ℕ) →
     section_and_rest S header section h (decoder.root_advance (plain (order header)) [] r b)
@@ -199,8 +199,8 @@ padded_goes S header t goes at s b = go (cases_lt (length s) (padding at 8))
 
 -- ---- a message
 
--- What holds of each part after a header and of what follows it: of the rest, of a section where it
--- holds after that, and of a body after padding where it holds of the body.
+-- P holds of each part after a header and of what follows it, if P holds of the rest; of a section,
+-- if it holds of what follows the section; and of a body after padding, if it holds of the body.
 module _ (S : Signatures) (header : List ℕ) (P : (ℕ → List ℕ → Message) → Type 0) (rests : P rest)
     (reads : (section : Section) (T : Ty) → is_header section ≡ false →
     ((h : Noted) → P (after S header section h)) →
@@ -243,7 +243,7 @@ module _ (S : Signatures) (header : List ℕ) (P : (ℕ → List ℕ → Message
   after_has sections.SystemException h = rests
   after_has sections.Body h = rests
 
-  -- and of a message, where it holds of a header before that
+  -- P holds of a message, if it also holds of a header when it holds of what follows the header
   module _ (heads : (T : Ty) → ((h : Noted) → P (after S header sections.Header h)) →
       P (λ at s. section_and_rest S header sections.Header nothing_noted
       (reading (plain (order header)) [] T at s))) where
@@ -266,7 +266,7 @@ pub after_goes : (S : Signatures) (header : List ℕ) (section : Section) (h : N
 after_goes S header = after_has S header (Goes S header) (rest_goes S header)
     (λ section T past. reads_go S header section T) (padded_goes S header)
 
--- One octet more is one step.
+-- One more octet is one step.
 pub message_goes : (S : Signatures) (header s : List ℕ) (b : ℕ) →
     message S header (s ++ b ∷ []) ≡ advance S header (message S header s) b
 unfolding message
@@ -275,7 +275,7 @@ message_goes S header s b =
     (λ section T past. reads_go S header section T) (padded_goes S header)
     (reads_go S header sections.Header) 12 s b
 
--- and so are many
+-- more octets are as many steps
 pub message_resumes : (S : Signatures) (header s t : List ℕ) →
     message S header (s ++ t) ≡ goes_on S header (message S header s) t
 message_resumes S header s [] = search (arith, append-nil)

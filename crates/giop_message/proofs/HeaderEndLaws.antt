@@ -42,7 +42,7 @@ header_noted_before header s more e =
     let all = marks_on header s more in
     noted_front (marks header s) all.0 (ap noted_in (sym all.1) ∙ e)
 
--- A header that ends in octets is among what ends in them.
+-- A header that ends in octets is one of the ends in these octets.
 pub header_ended : (P : HeaderEnd → Type 0) (number : ℕ) (header s more : List ℕ) →
     header_noted header s ≡ None → Each P (header_ends number header s more) →
     (header_noted header (s ++ more) ≡ None) ⊎ ((n : Noted) × P (Header_end number header n))
@@ -60,7 +60,7 @@ header_ended P number header s more e each =
     go (HeaderMark n ∷ ms) is h = inr (n, h.0)
     go (NameMark name ∷ ms) is h = go ms is h.1
 
--- ---- octets of two parts, and none
+-- ---- octets in two parts, and no octets
 
 pub header_ends_both : (number : ℕ) (header s xs ys : List ℕ) →
     header_ends number header s (xs ++ ys) ≡ header_ends number header s xs
@@ -79,7 +79,7 @@ header_ends_none number header s =
     ends_by number header s [] []
     (ap (marks header) (append-nil s) ∙ sym (append-nil (marks header s)))
 
--- after octets, of which more end neither
+-- if nothing ends in j more octets, the ends are those of the octets before
 pub ends_further : (number : ℕ) (header s octets : List ℕ) (t j : ℕ) →
     header_ends number header (s ++ take t octets) (take j (drop t octets)) ≡ [] →
     header_ends number header s (take (t + j) octets) ≡ header_ends number header s (take t octets)
@@ -88,7 +88,7 @@ ends_further number header s octets t j none =
     ∙ (header_ends_both number header s (take t octets) (take j (drop t octets))
     ∙ rw none (append-nil (header_ends number header s (take t octets))))
 
--- so a correspondent stays as due as it was before these
+-- if nothing ends in more octets, a correspondent that isn't due stays so
 module _ {St : Type 0} (due : St → Bool) (notified : St → CallEvent → St) (C : Table) (st : St)
     (number : ℕ) (header s octets : List ℕ) where
   abbrev Undue : ℕ → Type 0
@@ -156,7 +156,7 @@ one_octet number header s x = go one.0 one.1 one.2
           ]
         ]
 
--- ---- none after a fault
+-- ---- nothing ends after a fault
 
 pub over_none : (C : Table) (answer : Answer) (number : ℕ) (header s more : List ℕ) →
     is_over (stage_of (message (signatures_of C answer) header s)) ≡ true →
@@ -165,7 +165,7 @@ over_none C answer number header s more e =
     unmarked C answer number header s more
     (ap message_marks (over_stays (signatures_of C answer) header s more e))
 
--- ---- and no name in a Fragment
+-- ---- no name ends in a Fragment
 
 module _ (P : HeaderEnd → Type 0) (number : ℕ) (header : List ℕ) (fragment : kind header ≡ 7)
     (heads : (n : Noted) → P (Header_end number header n)) where
@@ -206,7 +206,7 @@ module _ (P : HeaderEnd → Type 0) (number : ℕ) (header : List ℕ) (fragment
   bodiless_ends s more = by_type (signatures_of builtin_table (λ id. None)) _ (s ++ more)
       (length (marks header s))
 
--- ---- events, and then others
+-- ---- ends, and then other ends
 
 module _ {St : Type 0} (answer : St → Answer) (notified : St → CallEvent → St) (C : Table) where
   pub told_both : (st : St) (es fs : List HeaderEnd) →
@@ -259,7 +259,7 @@ module _ (number : ℕ) (header s octets : List ℕ) (t : ℕ) where
         later ≡ after_ends notified C st (header_ends number header s (take (t + n) octets))
     told_more n later told more = search (arith, take, drop, told_both, take-add, header_ends_both)
 
--- ---- a message whose header has not ended is read alike, whatever the ids answer
+-- ---- a message whose header has not ended is read in the same way, whatever the ids answer
 
 pub through_header : (C : Table) (x y : Answer) (header : List ℕ) (r : Read) →
     noted_in (message_marks (section_and_rest (signatures_of C x) header sections.Header
@@ -287,7 +287,7 @@ unfolding header_noted message signatures_of
 unended_agree C x y header s e = unended_by C x y header _ s
     (ap noted_in (sym (marks_are C x header s)) ∙ e)
 
--- by answers that agree, or before the header ends, a message has the same lines
+-- if two answers agree, or if the header has not ended, a message has the same lines by both
 pub alike_remarks : (C : Table) (x y : Answer) (header s : List ℕ) → (x ≡ y)
     ⊎ (header_noted header s ≡ None) →
     remarks_by (signatures_of C x) header s ≡ remarks_by (signatures_of C y) header s

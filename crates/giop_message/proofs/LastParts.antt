@@ -1,6 +1,7 @@
--- Lines that end no operation: that of the last part of a Request's header, so a header never ends
--- together with its operation; and those at the octet of a fault.
-use Rattle.std.proofs.Common.{◌≡◌, ℕ, suc, ◌+◌, ◌-◌, ◌<◌, ◌≤◌, ◌⊎◌, inl, inr, Bool, true, false, List, [], ◌∷◌, ◌++◌, length, Option, Some, None, refl, sym, ap, subst, ◌∙◌, arith}
+-- Lines that end no operation. One is the line of the last part of a Request's header, so a header
+-- never ends at the octet at which its operation ends. The others are the lines at the octet of a
+-- fault.
+use Rattle.std.proofs.Common.{◌≡◌, ℕ, suc, ◌+◌, ◌-◌, ◌<◌, ◌≤◌, ◌⊎◌, inl, inr, Bool, true, false, List, [], ◌∷◌, ◌++◌, Option, Some, None, refl, sym, ap, subst, ◌∙◌, arith}
 use Rattle.std.specs.Prelude.{◌&&◌, codes, IfSome}
 use Rattle.std.specs.List.{AllByRecursion as Each}
 use Rattle.std.specs.Option.{option_map}
@@ -10,9 +11,10 @@ use Rattle.giop_sig.specs.Types.{Ty, Struct, Hearing, Told, Sequel, Then, Ends, 
 use Rattle.giop_decode.specs.declared.progress.Kind.TheVariants as kinds
 use Rattle.giop_sig.specs.Fits.{IsFit}
 use Rattle.giop_sig.specs.Trees.{tree, tree_at}
-use Rattle.giop_sig.specs.Builtin.{builtin_types, builtin_table}
+use Rattle.giop_sig.specs.Builtin.{builtin_types}
+use Rattle.giop_sig.specs.AnyTypes.{first_table}
 use Rattle.giop_sig.specs.HeaderTypes.{header_type, header_number}
-use Rattle.giop_sig.proofs.Builtins.{builtin_is, builtin_fit, header_built_in}
+use Rattle.giop_sig.proofs.Builtins.{builtin_is, builtin_fit, builtin_len, header_built_in}
 use Rattle.giop_decode.specs.ReadResult
 use Rattle.giop_decode.specs.ReadResult.{Coding, PathSegment, Name, Switch, Held, Line, OpenPart, Part, Member, Inside, Leaf, LeadingNumber, Opening, Content, Read, Done, Short, Fault, lines_of, with_front, followed, within, Telling}
 use Rattle.giop_decode.specs.Reading.{parts_from, following, led, told_after, none_left, rooted}
@@ -21,6 +23,8 @@ use Rattle.giop_sig.specs.Hearings.{hearing_in}
 use Rattle.giop_decode.specs.Fits.{FitsIn}
 use Rattle.giop_decode.specs.Noted.{is_member, ends_operation, ends_text}
 use Rattle.giop_decode.proofs.ReadingLaws.{quiet_within, read_quiet, step_now, next_part, switch_member, now_within, parts_quiet}
+use Rattle.giop_message.proofs.AlikeReadings.{AreAlike}
+use Rattle.giop_message.proofs.AlikeHeaders.{found_alike, headers_alike}
 use Rattle.giop_message.proofs.StepLines.{IsOf, step_of, Firm, leaf_says}
 
 -- a struct whose last part has another name
@@ -28,27 +32,46 @@ abbrev pub EndsOtherwise : Ty → Type 0
 EndsOtherwise T = (n : ℕ) × (names : ℕ → List ℕ) × (parts : ℕ → Ty)
     × (T ≡ Struct (suc n) names parts) × (bytes_eq (codes "operation") (names n) ≡ false)
 
-pub request_ends : (minor : ℕ) → IfSome (header_type minor 0) EndsOtherwise
+request_ends_first : (minor : ℕ) → IfSome (header_type 1 minor 0) EndsOtherwise
 unfolding tree_at builtin_types
-request_ends (suc (suc (suc minor))) = tt
-request_ends _ = (_, _, _, refl, refl)
+request_ends_first (suc (suc (suc minor))) = tt
+request_ends_first _ = (_, _, _, refl, refl)
 
--- ---- the headers fit
+struct_ends : (n : ℕ) (names : ℕ → List ℕ) (parts : ℕ → Ty) (B : Ty) →
+    bytes_eq (codes "operation") (names n) ≡ false → AreAlike [] (Struct (suc n) names parts) B →
+    EndsOtherwise B
+struct_ends n names parts (Struct m others bodies) other (same, called, each) = (
+  n,
+  others,
+  bodies,
+  ap (λ k. Struct k others bodies) (sym same),
+  ap (bytes_eq (codes "operation")) (sym (called n)) ∙ other,
+)
+struct_ends n names parts B other alike = absurd alike
 
-number_fit : (found : Option ℕ) → IfSome found (λ n. n < length builtin_types)
-    → IfSome (option_map (tree builtin_table) found) (IsFit 24)
-unfolding builtin_types
-number_fit None h = tt
-number_fit (Some n) h = builtin_fit builtin_table n builtin_is h
+ends_alike : (A B : Ty) → AreAlike [] A B → EndsOtherwise A → EndsOtherwise B
+ends_alike A B alike (n, names, parts, is, other) =
+    struct_ends n names parts B other (subst (λ T. AreAlike [] T B) is alike)
 
-pub header_fit : (minor kind : ℕ) (T : Ty) → header_type minor kind ≡ Some T → IsFit 24 T
-unfolding builtin_types
-header_fit minor kind T e = subst (λ found. IfSome found (IsFit 24)) e
-    (number_fit (header_number minor kind) (header_built_in minor kind))
+pub request_ends : (version minor : ℕ) → IfSome (header_type version minor 0) EndsOtherwise
+request_ends version minor = found_alike EndsOtherwise ends_alike (header_type 1 minor 0)
+    (header_type version minor 0) (headers_alike version minor 0) (request_ends_first minor)
+
+-- ---- the types of headers fit
+
+number_fit : (version : ℕ) (found : Option ℕ) → IfSome found (λ n. n < builtin_len version)
+    → IfSome (option_map (tree (first_table version)) found) (IsFit 24)
+number_fit version None h = tt
+number_fit version (Some n) h = builtin_fit (first_table version) n (builtin_is version) h
+
+pub header_fit : (version minor kind : ℕ) (T : Ty) → header_type version minor kind ≡ Some T →
+    IsFit 24 T
+header_fit version minor kind T e = subst (λ found. IfSome found (IsFit 24)) e
+    (number_fit version (header_number version minor kind) (header_built_in version minor kind))
 
 -- ---- no operation at the end
 
--- a path of several steps is no member of the root
+-- what is at a path of several steps is no member of the root
 pub deep_member : (name : List ℕ) (a b : PathSegment) (path : List PathSegment)
     (outer : List OpenPart) →
     is_member name (path_in (a ∷ b ∷ path) outer) ≡ false
@@ -72,7 +95,7 @@ pub no_ends : (is : Bool) (path : List PathSegment) (lines : List Line) → Each
 no_ends is path [] each e = tt
 no_ends is path (l ∷ ls) each e = search (arith, no_end, no_ends is path ls each.1 e)
 
--- a reading that is done
+-- whether a reading is done
 abbrev pub done_test : Read → Bool
 done_test (Done lines at rest) = true
 done_test r = false
@@ -94,7 +117,7 @@ goes_on coding d n names parts i at (Done lines at' rest) fit below now =
     _ (next_part coding [] d T i (suc n) at fit refl below))
 goes_on coding d n names parts i at _ fit below now = refl
 
--- in the last part, or in one whose end goes on to the next
+-- the octet is in the last part of the struct, or in one that another part follows
 module _ (coding : Coding) (is : Bool) (n : ℕ) (names : ℕ → List ℕ) (parts : ℕ → Ty)
     (fit : IsFit 24 (Struct (suc n) names parts))
     (other : bytes_eq (codes "operation") (names n) ≡ false) (at b : ℕ) where
@@ -135,7 +158,7 @@ module _ (coding : Coding) (is : Bool) (n : ℕ) (names : ℕ → List ℕ) (par
       (step_of coding [] (Part U i count ∷ place ∷ outer) leaf at b)
       (deep_member (codes "operation") (segment_of U i) (segment_in place) [] outer)
 
--- the octet that ends a header of such a type has no call
+-- if the octet ends a header of such a type, none of its lines ends an operation
 pub last_no_call : (coding : Coding) (is : Bool) (T : Ty) (outer : List OpenPart) (leaf : Leaf)
     (at b : ℕ) → EndsOtherwise T → IsFit 24 T → FitsIn T outer leaf →
     done_test (step coding [] outer leaf at b) ≡ true →
@@ -144,13 +167,14 @@ last_no_call coding is T outer leaf at b (n, names, parts, same, other) fit fits
     in_struct coding is n names parts (subst (IsFit 24) same fit) other at b outer leaf
     (subst (λ U. FitsIn U outer leaf) same fits) done
 
--- of a reading that is faulted no line ends an operation
+-- if a reading is faulted, no line of it ends an operation, unless the fault is that octets without
+-- a type follow (`Untyped`)
 abbrev pub CallsIn : Bool → Read → Type 0
 CallsIn is (Fault lines at kinds.Untyped T) = Unit {0}
 CallsIn is (Fault lines at why T) = Each (λ l. ends_operation is l ≡ false) lines
 CallsIn is _ = Unit {0}
 
--- it is so where no line of the reading ends an operation
+-- this holds if no line of the reading ends an operation
 each_none : (is : Bool) (r : Read) → Each (λ l. ends_operation is l ≡ false) (lines_of r) →
     CallsIn is r
 each_none is (Fault lines at kinds.Untyped T) h = tt
@@ -174,7 +198,7 @@ firm_none is (Fault lines at kinds.Untyped T) h = tt
 firm_none is (Fault lines at why T) (inl h) = ends_none is lines h
 firm_none is (Fault lines at why T) (inr h) = absurd (false≢true (sym h.1))
 
--- ---- the parts around it
+-- ---- the parts around the innermost one
 
 followed_none : (is : Bool) (n : ℕ) (r : Read) (next : ℕ → List ℕ → Read) → IsOctetResult n r →
     IsEmptyResult n (next n []) → CallsIn is r → CallsIn is (followed r next)
@@ -213,8 +237,8 @@ held_member name [] (place ∷ outer) = search (arith, deep_member)
 held_member name (a ∷ []) outer = search (arith, deep_member)
 held_member name (a ∷ b ∷ path) outer = search (arith, deep_member)
 
--- An octet that ends an encapsulation too soon may have the line of what it completes, which is no
--- operation.
+-- If an octet ends an encapsulation too early, it may have the line of what it completes. That line
+-- ends no operation.
 pub step_none : (is : Bool) (coding : Coding) (path : List PathSegment) (outer : List OpenPart)
     (leaf : Leaf)
     (at b : ℕ) → CallsIn is (step coding path outer leaf at b)
@@ -244,7 +268,7 @@ step_none is coding path (Inside T inner end ∷ outer) leaf at b =
     (step_of coding path (Inside T inner end ∷ outer) leaf at b)
     (held_member (codes "operation") path outer))
 
--- of a whole that is faulted no line ends an operation
+-- if the reading of a complete value is faulted, no line of it ends an operation
 abbrev pub CallsNone : Bool → Read → Type 0
 CallsNone is (Fault lines at why T) = Each (λ l. ends_operation is l ≡ false) lines
 CallsNone is _ = Unit {0}
@@ -259,9 +283,9 @@ pub root_none : (is : Bool) (coding : Coding) (path : List PathSegment) (outer :
     (leaf : Leaf) (at b : ℕ) → CallsNone is (root_step coding path outer leaf at b)
 root_none is coding path outer leaf at b = search (arith, rooted_none, step_none)
 
--- ---- the octet that ends a whole
+-- ---- the octet that ends a complete value
 
--- where octets of no type follow it no line ends an operation
+-- if octets without a type follow (`Untyped`), no line ends an operation
 abbrev StillNone : Bool → Read → Type 0
 StillNone is (Fault lines at kinds.Untyped T) = Each (λ l. ends_operation is l ≡ false) lines
 StillNone is _ = Unit {0}

@@ -1,5 +1,5 @@
--- A message after an octet: after a part of the rest no octet is held, and after a fault the
--- message is over.
+-- A message after an octet: after a part of the rest, no octet is held; after a fault, the message
+-- is over.
 use Rattle.std.proofs.Common.{arith, ◌≡◌, ℕ, ◌+◌, Bool, true, false, List, [], ◌∷◌, ◌++◌, length, map, drop, refl, sym, ◌∙◌, append-nil, inl, inr}
 use Rattle.std.specs.List.{list_any}
 use Rattle.std.proofs.lemmas.Bool.{false≢true}
@@ -26,8 +26,8 @@ use Rattle.giop_message.proofs.Going.{message_goes}
 abbrev pub LineClasses : List LineAt → List LineClass
 LineClasses emitted = map (λ t. line_class_of t.message_line) emitted
 
--- after lines of these classes: no octet is held after a part of the rest, and the message is over
--- after a fault
+-- after lines of these classes: if they are one part of the rest, no octet is held; if one is a
+-- fault, the message is over
 abbrev pub Leaves : List LineClass → Stage → Type 0
 Leaves line_classes stage = (line_classes ≡ Rest ∷ [] → (offset : ℕ) × (stage ≡ In_rest offset []))
     × (list_any is_fault line_classes ≡ true → stage ≡ Over)
@@ -38,7 +38,7 @@ Settles (ReadTo said at stage) = Leaves (LineClasses said.lines) stage
 silent_settles : (n : ℕ) (m : Message) → Silent n m → Settles m
 silent_settles n (ReadTo said at stage) h = search (arith, false≢true)
 
--- lines of a typed part are no faults
+-- the lines of a typed part are no faults
 section_lines_faultless : (root : Root) (is : Calling) (h : Noted) (lines : List Line) →
     list_any is_fault (LineClasses (section_lines root is h lines)) ≡ false
 unfolding section_lines line_at line_class_of
@@ -54,7 +54,7 @@ section_lines_faultless root is h (l ∷ ls) =
     behind called emitted (inl e) h = rw e h
     behind called emitted (inr f) h = rw f.3 h
 
--- lines of a typed part are of values first
+-- the lines of a typed part begin with a value
 section_lines_leave : (root : Root) (is : Calling) (h : Noted) (lines : List Line) (stage : Stage) →
     Leaves (LineClasses (section_lines root is h lines)) stage
 unfolding section_lines line_at line_class_of
@@ -107,7 +107,7 @@ step_settles S header at (In_padding t) b = search (arith, false≢true, silent_
 step_settles S header at (In_rest offset held) b = search (arith, rest_settles)
 step_settles S header at Over b = search (arith, false≢true)
 
--- the lines of an octet, and where the message is after it
+-- the lines of an octet, and the stage of the message after it
 advance_settles : (S : Signatures) (header : List ℕ) (m : Message) (b : ℕ) →
     Leaves (LineClasses (drop (length (message_lines m)) (message_lines (advance S header m b))))
     (stage_of (advance S header m b))

@@ -12,6 +12,8 @@ mod Operations
 mod LastParts
 mod Parts
 mod Followings
+mod AlikeReadings
+mod AlikeHeaders
 mod Sections
 mod Runs
 mod SectionRuns

@@ -1,5 +1,5 @@
--- The marks of a message: they only grow with its octets, one octet has one at most, and they are
--- the same by any table and whatever the ids answer.
+-- The marks of a message: more octets only add marks, one octet adds at most one, and they are the
+-- same with each table and whatever the ids answer.
 use Rattle.std.proofs.Common.{◌≡◌, ℕ, zero, suc, ◌+◌, ◌⊎◌, inl, inr, Bool, true, false, List, [], ◌∷◌, ◌++◌, length, map, drop, Option, Some, None, refl, sym, ap, subst, ◌∙◌, append-nil, append_assoc, add-zero, arith}
 use Rattle.std.specs.Prelude.{◌==◌, nat_lt, if◌then◌else◌}
 use Rattle.std.proofs.Math.Seq.{drop-append_seam}
@@ -8,6 +8,9 @@ use Rattle.giop_cdr.specs.Alignment.{padding}
 use Rattle.giop_sig.specs.Types.{Ty}
 use Rattle.giop_sig.specs.Table.{Table}
 use Rattle.giop_sig.specs.Builtin.{builtin_table}
+use Rattle.giop_sig.specs.HeaderTypes.{fixed_type}
+use Rattle.giop_sig.specs.declared.types.Fixed.{Fixed}
+use Rattle.giop_sig.specs.declared.types.Fixed.TheVariants as fixeds
 use Rattle.giop_decode.specs.ReadResult.{plain, OpenPart, Leaf, Read, Done, Short, Fault}
 use Rattle.giop_decode.specs.Reading.{reading}
 use Rattle.giop_decode.specs.ReadingSteps.{IsEmptyResult, root_step}
@@ -15,12 +18,14 @@ use Rattle.giop_decode.specs.Noted.{Noted, nothing_noted, noted, is_header_root}
 use Rattle.giop_decode.proofs.ReadingLaws.{reading_quiet, root_now}
 use Rattle.giop_message.specs.declared.part.Section.{Section}
 use Rattle.giop_message.specs.declared.part.Section.TheVariants as sections
-use Rattle.giop_message.specs.Headers.{minor, order}
+use Rattle.giop_message.specs.Headers.{minor, kind, order}
 use Rattle.giop_message.specs.Signatures.{Signatures, Answer, signatures_of}
 use Rattle.giop_message.specs.Messages.{no_calls, Mark, HeaderMark, NameMark, RestLine, line_at, Said, only_lines, nothing_said, BodyType, Untyped, Typed, UserException, SystemException, Stage, In_typed, In_padding, In_rest, Over, Message, ReadTo, with_front, name_mark, end_mark, section_then, rest_in, rest, typed, option_typed, after_exception, type_if, request_body, result_body, reply_body, locate_body, body, body_of, padded, after_header, of_header, message, message_marks, stage_of, root_of, after, section_and_rest}
 use Rattle.giop_message.specs.StageSteps.{rest_step, message_step, advance, goes_on}
 use Rattle.giop_message.specs.HeaderEnds.{marks, end_of, header_ends}
 use Rattle.giop_message.specs.MessageState.{is_header}
+use Rattle.giop_message.proofs.AlikeReadings.{Outcome, Ended, Open, Faulted, Same, outcome, reading_same}
+use Rattle.giop_message.proofs.AlikeHeaders.{AreAlikeFound, fixed_alike, headers_alike}
 use Rattle.giop_message.proofs.Going.{message_resumes, after_has, body_has}
 use Rattle.giop_message.proofs.Octets.{stage_front}
 use Rattle.giop_message.proofs.Parts.{ReadsAll, now_all}
@@ -30,7 +35,7 @@ pub marks_front : (front : Said) (m : Message) →
 unfolding message_marks with_front
 marks_front front (ReadTo said at stage) = refl
 
--- ---- a rest and a body have none but those of the name that the body begins with
+-- ---- a rest has no marks, and a body has none except the mark of the name with which it begins
 
 rest_in_unmarked : (full offset at : ℕ) (s : List ℕ) → message_marks (rest_in full offset at s) ≡ []
 unfolding rest_in message_marks
@@ -42,7 +47,7 @@ pub rest_unmarked : (at : ℕ) (s : List ℕ) → message_marks (rest at s) ≡ 
 unfolding rest
 rest_unmarked at s = rest_in_unmarked _ 0 at s
 
--- the mark of a section that is read so, with what was noted before
+-- the mark of a section after this reading, if this was noted before
 abbrev pub ended : Section → Noted → Read → List Mark
 ended section h (Done lines at s) =
     end_mark section (noted (is_header_root (root_of section)) h lines)
@@ -62,6 +67,23 @@ body_unended : (r : Read) → ended sections.Body nothing_noted r ≡ []
 body_unended (Done lines at s) = refl
 body_unended (Short lines at outer leaf) = refl
 body_unended (Fault lines at why T) = refl
+
+-- the mark of a section, from the outcome of its reading
+abbrev ended_by : Section → Outcome → List Mark
+ended_by section (Ended now at s) = end_mark section now
+ended_by section (Open now at) = []
+ended_by section (Faulted now at why) = []
+
+ended_shows : (section : Section) (h : Noted) (r : Read) →
+    ended section h r ≡ ended_by section (outcome (is_header_root (root_of section)) h r)
+ended_shows section h (Done lines at s) = refl
+ended_shows section h (Short lines at outer leaf) = refl
+ended_shows section h (Fault lines at why T) = refl
+
+ended_same : (section : Section) (h : Noted) (r q : Read) →
+    Same (is_header_root (root_of section)) r q → ended section h r ≡ ended section h q
+ended_same section h r q same = ended_shows section h r
+    ∙ (ap (ended_by section) (same.shows h) ∙ sym (ended_shows section h q))
 
 module _ (header : List ℕ) where
   typed_unmarked : (T : Ty) (at : ℕ) (s : List ℕ) → message_marks (typed (order header) T at s) ≡ []
@@ -116,21 +138,39 @@ module _ (header : List ℕ) where
   locate_raises S None at s = refl
   locate_raises S (Some status) at s = search (arith)
 
-  -- ---- the same by any table, whatever the ids answer
+  -- ---- the marks are the same with each table, whatever the ids answer
 
-  module _ (C D : Table) (x y : Answer) where
+  module _ (C : Table) (x y : Answer) where
     abbrev Sx : Signatures
-    Sx = signatures_of C x
+    Sx = signatures_of builtin_table x
 
     abbrev Sy : Signatures
-    Sy = signatures_of D y
+    Sy = signatures_of C y
+
+    fixed_same : (section : Section) (fixed : Fixed) (at : ℕ) (s : List ℕ) →
+        ended section nothing_noted (reading (plain (order header)) [] (fixed_type 1 fixed) at s)
+        ≡ ended section nothing_noted
+        (reading (plain (order header)) [] (fixed_type C.version fixed) at s)
+    fixed_same section fixed at s = ended_same section nothing_noted _ _
+        (reading_same (is_header_root (root_of section)) (plain (order header)) []
+        (fixed_type 1 fixed) (fixed_type C.version fixed) (fixed_alike C.version fixed) at s)
+
+    user_same : (at : ℕ) (s : List ℕ) →
+        Raising Sx UserException at s ≡ Raising Sy UserException at s
+    unfolding signatures_of
+    user_same at s = fixed_same sections.Exception fixeds.ExceptionId at s
+
+    system_same : (at : ℕ) (s : List ℕ) →
+        Raising Sx SystemException at s ≡ Raising Sy SystemException at s
+    unfolding signatures_of
+    system_same at s = fixed_same sections.SystemException fixeds.SystemException at s
 
     reply_same : (id status : Option ℕ) (at : ℕ) (s : List ℕ) →
         Raising Sx (reply_body Sx header id status) at s
         ≡ Raising Sy (reply_body Sy header id status) at s
-    unfolding reply_body signatures_of
+    unfolding reply_body
     reply_same id None at s = refl
-    reply_same id (Some status) at s = search (arith, result_raises)
+    reply_same id (Some status) at s = search (arith, result_raises, user_same, system_same)
 
     raising_same : (h : Noted) (at : ℕ) (s : List ℕ) →
         Raising Sx (body_of Sx header h) at s ≡ Raising Sy (body_of Sy header h) at s
@@ -155,24 +195,46 @@ module _ (header : List ℕ) where
     unfolding after_header
     after_same h at s = search (arith, body_same, padded_same)
 
-    through_same : (r : Read) →
-        message_marks (section_and_rest Sx header sections.Header nothing_noted r)
-        ≡ message_marks (section_and_rest Sy header sections.Header nothing_noted r)
-    unfolding section_then message_marks
-    through_same (Done lines at s) = search (arith, marks_front, after_same)
-    through_same (Short lines at outer leaf) = refl
-    through_same (Fault lines at why T) = refl
+    -- the marks of a message, from the outcome of the header's reading
+    abbrev Through : Signatures → Outcome → List Mark
+    Through S (Ended now at s) = HeaderMark now ∷ message_marks (after_header S header now at s)
+    Through S (Open now at) = []
+    Through S (Faulted now at why) = []
 
-    marks_same : (found : Option Ty) (s : List ℕ) → message_marks (of_header Sx header found 12 s)
-        ≡ message_marks (of_header Sy header found 12 s)
+    through_shows : (S : Signatures) (r : Read) →
+        message_marks (section_and_rest S header sections.Header nothing_noted r)
+        ≡ Through S (outcome true nothing_noted r)
+    unfolding section_then message_marks
+    through_shows S (Done lines at s) = marks_front _ _
+    through_shows S (Short lines at outer leaf) = refl
+    through_shows S (Fault lines at why T) = refl
+
+    outcome_same : (o : Outcome) → Through Sx o ≡ Through Sy o
+    outcome_same (Ended now at s) = ap (λ (ms : List Mark). HeaderMark now ∷ ms)
+        (after_same now at s)
+    outcome_same (Open now at) = refl
+    outcome_same (Faulted now at why) = refl
+
+    through_same : (r q : Read) → Same true r q →
+        message_marks (section_and_rest Sx header sections.Header nothing_noted r)
+        ≡ message_marks (section_and_rest Sy header sections.Header nothing_noted q)
+    through_same r q same = through_shows Sx r ∙ (ap (Through Sx) (same.shows nothing_noted)
+        ∙ (outcome_same (outcome true nothing_noted q) ∙ sym (through_shows Sy q)))
+
+    marks_same : (a b : Option Ty) → AreAlikeFound a b → (s : List ℕ) →
+        message_marks (of_header Sx header a 12 s) ≡ message_marks (of_header Sy header b 12 s)
     unfolding of_header
-    marks_same None s = refl
-    marks_same (Some T) s = through_same (reading (plain (order header)) [] T 12 s)
+    marks_same None None alike s = refl
+    marks_same (Some A) (Some B) alike s = through_same
+        (reading (plain (order header)) [] A 12 s) (reading (plain (order header)) [] B 12 s)
+        (reading_same true (plain (order header)) [] A B alike 12 s)
+    marks_same a b alike s = absurd alike
 
 pub marks_are : (C : Table) (answer : Answer) (header s : List ℕ) →
     marks header s ≡ message_marks (message (signatures_of C answer) header s)
 unfolding marks message signatures_of
-marks_are C answer header s = marks_same header builtin_table C (λ id. None) answer _ s
+marks_are C answer header s = marks_same header C (λ id. None) answer _ _
+    (headers_alike C.version (minor header) (kind header)) s
 
 pub ends_alike : (C : Table) (answer : Answer) (number : ℕ) (header s more : List ℕ) →
     header_ends number header s more ≡ map (end_of number header)
@@ -184,7 +246,7 @@ ends_alike C answer number header s more =
 
 -- ---- more octets
 
--- Later marks come after those before.
+-- More octets add marks after those that were there.
 goes_marks : (S : Signatures) (header t : List ℕ) (m : Message) →
     (later : List Mark) × (message_marks (goes_on S header m t) ≡ message_marks m ++ later)
 unfolding advance message_marks
@@ -211,7 +273,7 @@ pub ends_by : (number : ℕ) (header s more : List ℕ) (later : List Mark) →
 unfolding header_ends
 ends_by number header s more later e = search (arith, drop, drop-append_seam)
 
--- What ends in octets more are the marks that the message then has more.
+-- What ends in more octets are the marks that these octets add to the message.
 pub ends_are : (C : Table) (answer : Answer) (number : ℕ) (header s more : List ℕ)
     (later : List Mark) → message_marks (message (signatures_of C answer) header (s ++ more))
     ≡ message_marks (message (signatures_of C answer) header s) ++ later →
@@ -229,14 +291,14 @@ unmarked C answer number header s more e = ends_are C answer number header s mor
 
 -- ---- one octet
 
--- in the header
+-- whether the message is in its header
 abbrev pub heads : Stage → Bool
 heads (In_typed section h outer leaf) = is_header section
 heads (In_padding b) = false
 heads (In_rest offset held) = false
 heads Over = false
 
--- Of a part after the header no octet has no mark, and it is in no header.
+-- A part after the header has no mark before its first octet, and it is in no header.
 record IsPast (reader : ℕ → List ℕ → Message) : Type 0 where
   quiet : (n : ℕ) → message_marks (reader n []) ≡ []
   past : (at : ℕ) (s : List ℕ) → heads (stage_of (reader at s)) ≡ false
@@ -262,7 +324,7 @@ nothing_ended sections.Exception e = refl
 nothing_ended sections.SystemException e = refl
 nothing_ended sections.Body e = refl
 
--- no mark, that of a header where the message is in it, or that of a name
+-- there is no mark; or the mark of a header, if the message is in it; or the mark of a name
 abbrev pub OneMark : Stage → List Mark → Type 0
 OneMark stage ms = (ms ≡ [])
     ⊎ (((n : Noted) × (ms ≡ HeaderMark n ∷ []) × (heads stage ≡ true))
@@ -329,7 +391,7 @@ module _ (S : Signatures) (header : List ℕ) where
   after_past : (section : Section) (h : Noted) → IsPast (after S header section h)
   after_past section h = after_has S header IsPast rest_past reads_past padded_past section h
 
-  -- a section that ends with no octet left
+  -- the marks of a section, if no octet is left after it
   pub marks_ended : (section : Section) (h : Noted) (r : Read) → ReadsAll r →
       message_marks (section_and_rest S header section h r) ≡ ended section h r
   unfolding section_then message_marks
@@ -389,14 +451,14 @@ module _ (S : Signatures) (header : List ℕ) where
   step_one at (In_rest offset held) b = inl (rest_step_marks offset (held ++ b ∷ []) (at + 1))
   step_one at Over b = inl refl
 
-  -- what one octet adds
+  -- the marks that one octet adds
   pub marks_of_octet : (m : Message) (b : ℕ) → (ms : List Mark)
       × (message_marks (advance S header m b) ≡ message_marks m ++ ms) × OneMark (stage_of m) ms
   unfolding advance message_marks stage_of
   marks_of_octet (ReadTo said at stage) b =
       (message_marks (message_step S header at stage b), marks_front said _, step_one at stage b)
 
-  -- A message that is in its header has no mark.
+  -- If a message is in its header, it has no mark.
   in_header_unmarked : (found : Option Ty) (s : List ℕ) →
       heads (stage_of (of_header S header found 12 s)) ≡ true →
       message_marks (of_header S header found 12 s) ≡ []

@@ -1,4 +1,5 @@
--- Answers that agree, or a header that has not ended: a message then follows the same octets.
+-- If two answers agree, or if the header of a message has not ended, the message follows the same
+-- octets by both.
 use Rattle.std.proofs.Common.{arith, ◌≡◌, ℕ, ◌+◌, List, [], ◌++◌, length, Option, Some, None, refl, sym, ap, ◌∙◌, ◌⊎◌, inl, inr}
 use Rattle.giop_sig.specs.Table.{Table}
 use Rattle.giop_decode.specs.declared.decoder.Decoder.{Decoder}
@@ -45,14 +46,14 @@ through_exception C x y header (Short lines at outer leaf) = refl
 through_exception C x y header (Fault lines at why T) = refl
 
 module _ (C : Table) (a b : Answers) (number : ℕ) (header s : List ℕ) where
-  -- where the answers agree
+  -- the two answers agree
   stands_same : (d : Decoder) (p : Part) → a number ≡ b number →
       Stands C a number header s d p → Stands C b number header s d p
   stands_same d (parts.Typed section) e h = search (arith)
   stands_same d (parts.Padding body_type_id) e h = search (arith)
   stands_same d (parts.Rest r) e h = search (arith)
 
-  -- and where the header has not ended
+  -- the header has not ended
   decodes_new : (section : Section) (d : Decoder) → header_noted header s ≡ None →
       Decodes C (signatures_of C (a number)) number header s section d →
       Decodes C (signatures_of C (b number)) number header s section d

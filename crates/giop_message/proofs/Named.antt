@@ -1,5 +1,5 @@
--- The close ends a message, and in a message that begins with its request id the first four octets
--- have no line but that of the id.
+-- The close ends a message; and if a message begins with its request id, its first four octets have
+-- no line except the line of the id.
 use Rattle.std.proofs.Common.{◌≡◌, ℕ, suc, ◌<◌, ◌≤◌, ◌⊎◌, inl, inr, Bool, true, false, List, [], ◌∷◌, ◌++◌, length, map, Option, Some, None, refl, ap, ◌∙◌, append-nil, arith}
 use Rattle.std.specs.Prelude.{◌&&◌, ◌||◌, IfSome, codes}
 use Rattle.std.proofs.lemmas.Bool.{eqb-true}
@@ -38,7 +38,7 @@ is_ending S = search (arith, map)
 
 -- ---- an unsigned long at the front
 
--- a number ends no operation
+-- the line of a number ends no operation
 no_operation : (is path_is : Bool) → (is && (path_is && false)) ≡ false
 no_operation true true = refl
 no_operation true false = refl
@@ -61,13 +61,13 @@ module _ (o : Order) (path : List PathSegment) where
   unfolding number block padding
   read_four a b c d = refl
 
--- the first part, where it is an unsigned long
+-- the first part of a struct, if it is an unsigned long
 module _ (o : Order) (n : ℕ) (of : ℕ → List ℕ) (parts : ℕ → Ty)
     (is : parts 0 ≡ Single (Plain prims.ULong)) where
   next : ℕ → List ℕ → Read
   next = parts_from (part_at (plain o) [] (Struct (suc n) of parts) (suc n)) n 1
 
-  -- a whole whose first part is the number that it begins with
+  -- the reading of a struct whose first part is read so
   in_first : List ℕ → Read → Read
   in_first xs r = rooted (left_after 12 xs)
       (followed (within (Part (Struct (suc n) of parts) 0 (suc n)) r) next)
@@ -127,7 +127,7 @@ module _ (o : Order) (n : ℕ) (of : ℕ → List ℕ) (parts : ℕ → Ty)
       section_lines_id,
     )
 
--- of a header that begins with its request id
+-- a header that begins with its request id
 module _ (S : Signatures) (header : List ℕ) where
   unfoldable pub id_told : List ℕ → List LineAt
   id_told xs = line_at 16 (ValueLine roots.Header (Name (codes "request_id") ∷ [])
@@ -152,7 +152,7 @@ module _ (S : Signatures) (header : List ℕ) where
       ∙ ap (λ name. line_at 16 (ValueLine roots.Header (Name name ∷ [])
       (Number (Plain prims.ULong) (num (order header) (a ∷ b ∷ c ∷ d ∷ [])))) ∷ []) name_is)
 
-  -- without a header type the first octets are of the rest
+  -- if there is no header type, the first octets are those of the rest
   rest_few : (xs : List ℕ) → length xs ≤ 4 → message_lines (of_header S header None 12 xs) ≡ []
   unfolding of_header rest rest_in message_lines
   rest_few (a ∷ b ∷ c ∷ d ∷ e ∷ xs) h = absurd (omega arith)
@@ -210,9 +210,10 @@ goes_first : (header : List ℕ) → has_name header ≡ true → IdStandsFirst 
 unfolding is_opener is_fragment is_cancel
 goes_first header by = search (arith, first_by, eqb-true)
 
-pub begins_with_id : (header : List ℕ) → has_name header ≡ true →
-    IfSome (header_type (minor header) (kind header)) BeginsWithId
-begins_with_id header by = search (arith, id_first, goes_first)
+pub begins_with_id : (version : ℕ) (header : List ℕ) → has_name header ≡ true →
+    IfSome (header_type version (minor header) (kind header)) BeginsWithId
+begins_with_id version header by =
+    id_first version (minor header) (kind header) (goes_first header by)
 
 pub has_ids : (C : Table) (answer : Answer) → HasIds (signatures_of C answer)
 unfolding signatures_of

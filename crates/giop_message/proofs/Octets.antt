@@ -39,7 +39,7 @@ pub due_is : (S : Signatures) (header s more : List ℕ) (before : Said) (m n : 
 unfolding due
 due_is S header s more before m n is now same = search (arith, told_front, drop-append_seam)
 
--- the line of a fault, after the others
+-- the line of a fault, which comes after the others
 abbrev pub wrongs : Read → List LineAt
 wrongs (Fault lines at why T) = line_at at (FaultLine why) ∷ []
 wrongs _ = []
@@ -52,7 +52,7 @@ text_both : (number place offset : ℕ) (xs ys : List LineAt) →
 unfolding message_lines_text
 text_both number place offset xs ys = search (arith, flat_map-append)
 
--- the call of a first line
+-- the call line of the first of these lines
 abbrev pub first_call : Root → Calling → Noted → List Line → List LineAt
 first_call root is h [] = []
 first_call root is h (l ∷ ls) = calls is l (note (is_header_root root) h l)
@@ -86,14 +86,15 @@ unfolding message_lines_text message_line_text line_class_of text_of line_at
 wrongs_text number place n (Fault lines at why T) now = search (arith, append-nil)
 wrongs_text number place n _ now = refl
 
--- where no line ends an operation there is no call
+-- if no line ends an operation, there is no call
 pub no_first : (root : Root) (is : Calling) (h : Noted) (lines : List Line) →
     Each (λ l. ends_operation is.is_request l ≡ false) lines → first_call root is h lines ≡ []
 unfolding calls
 no_first root is h [] each = refl
 no_first root is h (l ∷ ls) each = rw each.0 refl
 
--- A fault has no call, so its text may come before that of a call.
+-- An octet with a fault has no call, so it makes no difference if the text of the fault comes
+-- before the text of a call.
 swapped : (number place n : ℕ) (root : Root) (is : Calling) (h : Noted) (st : Read) →
     IsOctetResult (n + 1) st →
     CallsNone is.is_request st → lines_text number root (lines_of st)

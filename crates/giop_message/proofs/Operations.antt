@@ -1,4 +1,4 @@
--- Where a line ends a string, as that of an operation does, no other string has begun.
+-- If a line ends a string, as the line of an operation does, no other string has begun.
 use Rattle.std.proofs.Common.{◌≡◌, ℕ, zero, suc, ◌+◌, ◌-◌, ◌⊎◌, inl, inr, false, List, [], ◌∷◌, ◌++◌, refl, sym, subst, ◌∙◌, arith, lit<}
 use Rattle.std.specs.List.{AllByRecursion as Each}
 use Rattle.giop_sig.specs.Types.{Encapsulation, Ty, Single, Struct, Union, Array, part_of, Led, Hearing, Told, Untold, Sequel, Then}
@@ -13,7 +13,7 @@ use Rattle.giop_decode.specs.Noted.{ends_in_string}
 use Rattle.giop_decode.proofs.ReadingLaws.{read_quiet, cut_inside, front_inside, now_within, block_waits, width_pos, number_none, part_quiet, step_now}
 use Rattle.giop_message.proofs.StepLines.{NoEnds, Firm, leaf_says}
 
--- ---- no octets begin no string
+-- ---- if there are no octets, no string begins
 
 mute_within : (place : OpenPart) (r : Read) → ends_in_string (within place r) ≡ ends_in_string r
 mute_within place (Done lines at rest) = refl
@@ -73,7 +73,7 @@ part_mute : (coding : Coding) (path : List PathSegment) (T : Ty) (count n i : �
     ends_in_string (part_at coding path T count i n []) ≡ false
 part_mute coding path T count n i = search (arith, mute_within, read_mute)
 
--- ---- no line ends a string, or none has begun
+-- ---- no line ends a string, or no string has begun
 
 abbrev pub Closed : Read → Type 0
 Closed r = NoEnds r ⊎ (ends_in_string r ≡ false)
@@ -82,7 +82,7 @@ closed_firm : (r : Read) → Firm r → Closed r
 closed_firm r (inl h) = inl h
 closed_firm r (inr h) = inr h.0
 
--- ---- the parts around it
+-- ---- the parts around the innermost one
 
 closed_within : (place : OpenPart) (r : Read) → Closed r → Closed (within place r)
 closed_within place (Done lines at rest) h = h
@@ -93,7 +93,7 @@ closed_followed : (n : ℕ) (r : Read) (next : ℕ → List ℕ → Read) → Is
 closed_followed n (Done lines at rest) next now mute h = search (arith, front_inside)
 closed_followed n r next now mute h = h
 
--- an encapsulation of its type
+-- an encapsulation that has begun is one by its type
 abbrev pub Holds : OpenPart → Type 0
 Holds (Inside T inner end) = IsEncapsulation T
 Holds place = Unit {0}
@@ -109,7 +109,7 @@ fits_hold (Telling U told ∷ outer) T leaf fits = (tt, fits_hold outer (part_of
 fits_hold (Inside U inner end ∷ outer) T leaf fits =
     (subst IsEncapsulation (sym fits.0.same) fits.0.kind, fits_hold outer (part_of T 0) leaf fits.1)
 
--- what is left of it is no string
+-- what is left of an encapsulation begins no string
 rest_mute : (path : List PathSegment) (T : Ty) (k n : ℕ) → IsEncapsulation T →
     ends_in_string (rest_of path T k n []) ≡ false
 rest_mute path (Encapsulation T) zero n is = refl
@@ -154,7 +154,7 @@ closed_led n T g told part (Done lines at rest) each now h = search (
 closed_led n T g told part (Short lines at outer leaf) each now h = search (arith)
 closed_led n T g told part (Fault lines at why S) each now h = h
 
--- Where a line ends a string no other has begun.
+-- If a line ends a string, no other string has begun.
 pub step_closed : (coding : Coding) (path : List PathSegment) (outer : List OpenPart) (leaf : Leaf)
     (at b : ℕ) → AllHold outer → Closed (step coding path outer leaf at b)
 step_closed coding path [] leaf at b hold = search (arith, closed_firm, leaf_says)

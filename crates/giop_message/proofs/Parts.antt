@@ -1,4 +1,5 @@
--- One octet of a section that a message is in: the message after it, its lines and its text.
+-- One octet of the section in which a message is: the message after the octet, its lines and its
+-- text.
 use Rattle.std.proofs.Common.{◌≡◌, ℕ, ◌+◌, Bool, List, [], ◌∷◌, ◌++◌, length, refl, sym, ap, subst, ◌∙◌, append_assoc, append-nil, arith, length-append}
 use Rattle.std.proofs.Math.Seq.{drop-append_seam}
 use Rattle.giop_print.specs.declared.path.Root.{Root}
@@ -25,10 +26,11 @@ use Rattle.giop_message.proofs.Causal.{after_silent}
 use Rattle.giop_message.proofs.LastParts.{CallsNone, root_none}
 use Rattle.giop_message.proofs.Octets.{told_front, told_silent, due_is, wrongs, first_call, step_text}
 
--- A section that a message has begun: the message's number and header, the section and its type,
--- and what is said and the octets in front of it.
+-- A section that a message has begun: the version of the message's signature file, the message's
+-- number and header, the section and its type, and the lines and octets before it.
 pub record Begun : Type 0 where
   pub S : Signatures
+  pub version : ℕ
   pub number : ℕ
   pub header : List ℕ
   pub section : Section
@@ -37,39 +39,39 @@ pub record Begun : Type 0 where
   pub front : List ℕ
 
 module _ (w : Begun) where
-  open w use {S, header, section, T, before, front}
+  open w use {S, version, header, section, T, before, front}
 
-  -- the offset at which it begins
+  -- the offset at which the section begins
   abbrev pub start : ℕ
   start = 12 + length front
 
-  -- the reading of its octets
+  -- the reading of the section's octets
   abbrev pub reading : List ℕ → Read
   reading octets = whole_of (plain (order header)) [] T start octets
 
-  -- whether an octet after these ends an operation
+  -- whether the next octet ends an operation
   abbrev pub is_named : List ℕ → ℕ → Bool
   is_named octets b = names_operation (is_header_root (root_of section))
       (decoders.added_lines (order header) T start octets b)
 
-  -- the message, by that reading
+  -- the message, from this reading of the section
   abbrev pub comes : Read → Message
   comes r = with_front before (section_and_rest S header section nothing_noted r)
 
-  -- A message that is in the section after these octets of it: what their reading has begun and not
-  -- ended.
+  -- A message that is in the section after these octets of it: what the reading of the octets has
+  -- begun and not ended.
   pub record Inside (s octets : List ℕ) : Type 0 where
     pub since : s ≡ front ++ octets
     pub is : message S header s ≡ comes (reading octets)
-    pub first : IsFirst header section T before front
+    pub first : IsFirst version header section T before front
     pub lines : List Line
     pub outer : List OpenPart
     pub leaf : Leaf
     pub was_short : reading octets ≡ Short lines (start + length octets) outer leaf
 
--- ---- a section, by the reading of its octets
+-- ---- a section, from the reading of its octets
 
--- a reading that is done has read all
+-- if a reading is done, it has read all octets
 abbrev pub ReadsAll : Read → Type 0
 ReadsAll (Done lines at rest) = rest ≡ []
 ReadsAll r = Unit {0}
@@ -78,7 +80,8 @@ pub now_all : (n : ℕ) (st : Read) → IsOctetResult n st → ReadsAll st
 now_all n (Done lines at rest) now = now.2
 now_all n r now = tt
 
--- the lines of a section are all, since what follows it has none without an octet
+-- the lines of a section are all lines of the message from there on, since what follows it has none
+-- before its next octet
 pub passed_section_lines : (S : Signatures) (header : List ℕ) (section : Section) (h : Noted)
     (r : Read) →
     ReadsAll r → message_lines (section_and_rest S header section h r)
@@ -106,7 +109,7 @@ fault_front : (number place : ℕ) (front : List Line) (r : Read) →
 fault_front number place front (Done lines at rest) = refl
 fault_front number place front r = refl
 
--- a reading that is done, at this offset
+-- if a reading is done, it is at this offset
 abbrev pub EndsAt : ℕ → Read → Type 0
 EndsAt n (Done lines at rest) = at ≡ n
 EndsAt n r = Unit {0}
@@ -117,7 +120,7 @@ offset_is : (n : ℕ) (r st : Read) (lines : List Line) → r ≡ ReadResult.wit
 offset_is n r (Done ls at rest) lines e now = search (arith)
 offset_is n r q lines e now = subst (EndsAt n) (sym e) tt
 
--- what a reading that goes on has begun and not ended, at this offset
+-- what a reading that goes on has begun and not ended at this offset
 short_by : (n end : ℕ) (named : Bool) (r st : Read) (lines : List Line) →
     r ≡ ReadResult.with_front lines st → IsOctetResult n st →
     decoders.IsAnswer end named progress.More r →
@@ -125,7 +128,7 @@ short_by : (n end : ℕ) (named : Bool) (r st : Read) (lines : List Line) →
 short_by n end named r (Short ls at outer leaf) lines e now answer = search (arith)
 short_by n end named r _ lines e now answer = search (arith)
 
--- ---- an octet of it
+-- ---- an octet of the section
 
 pub goes_one : (w : Begun) (s octets : List ℕ) →
     message w.S w.header s ≡ comes w (reading w octets) →
@@ -216,7 +219,7 @@ module _ (w : Begun) (s octets : List ℕ) (i : Inside w s octets) (b : ℕ) whe
     fault_front,
   )
 
-  -- where it goes on
+  -- the section goes on after the octet
   pub inside_on : Answers (order header) T (start w) R octets b progress.More →
       Inside w (s ++ b ∷ []) (octets ++ b ∷ [])
   inside_on answer =
@@ -234,6 +237,6 @@ module _ (w : Begun) (s octets : List ℕ) (i : Inside w s octets) (b : ℕ) whe
         was_short = g.3 ∙ ap (λ k. Short g.0 k g.1 g.2) n;
       }
 
-  -- where it ends
+  -- the section ends with the octet
   pub ends_here : EndsAt (12 + length (s ++ b ∷ [])) Next
   ends_here = search (arith, here_is, length_one_more, offset_is, next_is, added_now)

@@ -1,5 +1,5 @@
--- What is said of the first four octets of a message whose header begins with its request id: the
--- line of that, and no other.
+-- What the first four octets add to a message whose header begins with its request id: the line of
+-- the id, and no other line.
 use Rattle.std.proofs.Common.{arith, ◌≡◌, ℕ, ◌<◌, List, [], ◌∷◌, length, map, Some}
 use Rattle.giop_cdr.specs.Numbers.{num}
 use Rattle.giop_cdr.specs.declared.number.Number.TheVariants.{Unsigned}
@@ -25,17 +25,17 @@ module _ (S : ℕ → Signatures) (number : ℕ) (header : List ℕ) (T : Ty)
     unfolding remarks_by message
     reading_is xs = search (arith, map)
 
-    -- fewer than four octets say nothing,
+    -- fewer than four octets add no line
     pub few_said : (xs : List ℕ) → length xs < 4 → (reader_by S).reads number header xs ≡ []
     few_said xs few = search (arith, reading_is, map, few_by)
 
-    -- and four the number that they spell
+    -- four octets add the line of the number that they spell
     pub four_said : (a b c d : ℕ) → (reader_by S).reads number header (a ∷ b ∷ c ∷ d ∷ [])
         ≡ request_id_said (num (order header) (a ∷ b ∷ c ∷ d ∷ [])) ∷ []
     unfolding id_told line_at line_class_of text_of value_line_text request_id_path request_id_text
     four_said a b c d = search (arith, reading_is, map, four_by)
 
--- The line is the one that is printed of an unsigned long at that path.
+-- The line is the same as the printed line of an unsigned long at that path.
 pub id_line_is : (number id : ℕ) → numbered_line number (request_id_text id)
     ≡ value_line number request_id_path (values.Primitive prims.ULong (Unsigned id))
 unfolding request_id_path request_id_text text_of kind_line

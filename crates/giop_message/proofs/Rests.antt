@@ -1,4 +1,4 @@
--- One octet in the padding, and those of one part in the rest.
+-- One octet in the padding, and the octets of one part in the rest.
 use Rattle.std.proofs.Common.{◌≡◌, ℕ, ◌+◌, ◌-◌, ◌<◌, ◌≤◌, false, List, [], ◌∷◌, ◌++◌, length, take, min, None, refl, sym, ap, subst, ◌∙◌, append-nil, append_assoc, length-append, arith}
 use Rattle.std.proofs.lemmas.List.{length-take-le}
 use Rattle.std.proofs.lemmas.Bool.{lt-ltb, le-ltb}
@@ -23,7 +23,7 @@ use Rattle.giop_message.proofs.Octets.{due_is, told_silent}
 use Rattle.giop_message.proofs.Spelling.{rest_said}
 use Rattle.giop_message.proofs.Followings.{Moved, is_at, id_kept, follows_on}
 
--- the lines of one octet more, by the step from where the message is
+-- the lines of one more octet, from the step from the message's stage
 pub comes_more : (S : Signatures) (header s : List ℕ) (b : ℕ) (said : Said) (at : ℕ)
     (stage : Stage) → message S header s ≡ ReadTo said at stage →
     message S header (s ++ b ∷ []) ≡ with_front said (message_step S header at stage b)
@@ -129,7 +129,7 @@ module _ {C : Table} {answers : Answers} {number : ℕ} {header : List ℕ} {m :
 
 -- ---- in the rest
 
--- a message after a step in the rest, none of whose lines has a request id
+-- a message after a step in the rest; none of its lines has a request id
 pub record Rested (m : Message) (at : ℕ) : Type 0 where
   pub comes : m ≡ ReadTo (only_lines (message_lines m)) at (stage_of m)
   pub no_id : first_request_id (message_lines m) ≡ None
@@ -138,7 +138,7 @@ rested : (offset : ℕ) (held : List ℕ) (at : ℕ) → Rested (rest_step offse
 unfolding rest_step message_lines stage_of first_request_id id_in first_id line_at
 rested offset held at = search (arith)
 
--- octets of one part are one step
+-- the octets of one part are read in one step
 part_goes : (S : Signatures) (header : List ℕ) (said : Said) (at offset : ℕ)
     (held : List ℕ)
     (b : ℕ) (bs : List ℕ) → length held + length (b ∷ bs) ≤ 32 →

@@ -22,7 +22,7 @@ use Rattle.giop_message.specs.Signatures.{RequestTable, by_list, signatures_of}
 use Rattle.giop_message.specs.Messages.{line_at, is_shown, call_of, calls, section_lines, with_front, section_then, rest_in, rest, typed, option_typed, members_of, after_exception, body, type_if, request_body, result_body, reply_body, locate_body, is_request, body_of, is_aligned, padded, after_header, of_header, message, body_may_be_missing, close, message_lines, stage_of}
 use Rattle.giop_message.specs.ReaderOfTable.{line_class_of, text_of, remarks_by, closes_by, message_reader}
 
--- an operation by its structs, counted from the first type after the built-in ones
+-- an operation with its two structs, counted from the first type after the built-in ones
 called : List ℕ → ℕ → ℕ → Operation
 called name request reply = record {
   key = operation_key 0 name;
@@ -63,7 +63,7 @@ table = record {
   narrow = false;
 }
 
--- 1 ask, 1 ask, 2 nop, 2 ask
+-- the table of the request list `1 ask, 1 ask, 2 nop, 2 ask`
 request_table : RequestTable
 request_table = (1, Some (op_id 0)) ∷ (2, None) ∷ []
 
@@ -74,7 +74,7 @@ r = message_reader table (by_list request_table)
 says : ℕ → List ℕ → TimedLine
 says at text = record { at = at; line_class = Value; text = text }
 
--- it names the definitions that the rows unfold
+-- a name for the list of the definitions that the rows unfold
 rows : ℕ
 unfolding digits num twos_complement padding block number path_text hex hex_number escaped tree_at
     builtin_types minor kind order value_line_text call_text rest_text signatures_of
@@ -85,16 +85,16 @@ unfolding digits num twos_complement padding block number path_text hex hex_numb
     called late table request_table r says longest_front
 rows = 0
 
--- minor version and type
+-- the 12 octets of a header with this minor version and this type
 head : ℕ → ℕ → List ℕ
 head minor kind = 71 ∷ 73 ∷ 79 ∷ 80 ∷ 1 ∷ minor ∷ 0 ∷ kind ∷ 0 ∷ 0 ∷ 0 ∷ 0 ∷ []
 
--- the 32 octets of a Request's header with this operation of three letters
+-- the 32 octets of a Request's header; the operation has three letters
 h : List ℕ → List ℕ
 h operation = (0 ∷ 0 ∷ 0 ∷ 1 ∷ 3 ∷ 0 ∷ 0 ∷ 0 ∷ 0 ∷ 0 ∷ 0 ∷ 0 ∷ 0 ∷ 0 ∷ 0 ∷ 1 ∷ 65 ∷ 0 ∷ 0 ∷ 0 ∷ 0 ∷
     0 ∷ 0 ∷ 4 ∷ []) ++ (operation ++ (0 ∷ 0 ∷ 0 ∷ 0 ∷ 0 ∷ []))
 
--- and its ten lines
+-- the ten lines of such a header
 t : List ℕ → List ℕ → List TimedLine
 unfolding says
 t said called =
@@ -131,8 +131,8 @@ short = (Fault, codes "short") ∷ []
 abbrev Row : List ℕ → List ℕ → List TimedLine → List (LineClass × List ℕ) → Type 0
 Row header s reads closes = (r.reads 1 header s ≡ reads) × (r.closes 1 header s ≡ closes)
 
--- A Request without parameters: its message ends at the header's end, within the padding, and at
--- its end; then a rest of two octets after it.
+-- A Request without parameters. The message ends at the header's end, within the padding, or at the
+-- padding's end; or a rest of two octets follows.
 record NoBody (octets : List ℕ) : Type 0 where
   at_header : Row (head 2 0) octets t_nop ended
   within : Row (head 2 0) (octets ++ 0 ∷ 0 ∷ []) t_nop ended
@@ -150,7 +150,8 @@ no_body = record {
       (refl, refl);
 }
 
--- A body that is missing is short: at the header's end, within the padding, and at its end.
+-- A body that is missing is short: at the header's end, within the padding, and at the padding's
+-- end.
 record MissingBody (octets : List ℕ) : Type 0 where
   at_header : Row (head 2 0) octets t_say short
   within : Row (head 2 0) (octets ++ 0 ∷ 0 ∷ []) t_say short
@@ -160,13 +161,13 @@ missing_body : MissingBody (h (codes "say"))
 unfolding rows head h t_nop t_say t_raw ended short
 missing_body = record { at_header = (refl, refl); within = (refl, refl); padded = (refl, refl) }
 
--- a string of 6 octets, of which 4 have come
+-- a string of 6 octets; 4 of them have come
 cut_string : Row (head 2 0)
     (h (codes "say") ++ 0 ∷ 0 ∷ 0 ∷ 0 ∷ 0 ∷ 0 ∷ 0 ∷ 6 ∷ 97 ∷ 98 ∷ 99 ∷ 100 ∷ []) t_say short
 unfolding rows head h t_nop t_say t_raw ended short
 cut_string = (refl, refl)
 
--- a string's wrong end, after which nothing is read
+-- the end of a string is wrong, and nothing is read after it
 wrong_end : Row (head 2 0) (h (codes "say") ++ 0 ∷ 0 ∷ 0 ∷ 0 ∷ 0 ∷ 0 ∷ 0 ∷ 2 ∷ 97 ∷ 98 ∷ 9 ∷ 9 ∷ [])
     (t_say ++ record { at = 42; line_class = Fault; text = codes "string-end" } ∷ []) ended
 unfolding rows head h t_nop t_say t_raw ended short
@@ -183,7 +184,7 @@ rest_of_32 : Row (head 2 0) (h (codes "raw") ++ 0 ∷ 0 ∷ 0 ∷ 0 ∷ 0 ∷ 0 
 unfolding rows head h t_nop t_say t_raw ended short
 rest_of_32 = (refl, refl)
 
--- In 1.0 a body follows its header at once, here at the offset 44.
+-- In 1.0, a body follows its header at once, here at the offset 44.
 body_of_1_0 : Row (head 0 0)
     (0 ∷ 0 ∷ 0 ∷ 0 ∷ 0 ∷ 0 ∷ 0 ∷ 7 ∷ 1 ∷ 0 ∷ 0 ∷ 0 ∷ 0 ∷ 0 ∷ 0 ∷ 2 ∷ 107 ∷ 49 ∷ 0 ∷ 0 ∷ 0 ∷ 0 ∷ 0
     ∷ 4 ∷ 115 ∷ 101 ∷ 116 ∷ 0 ∷ 0 ∷ 0 ∷ 0 ∷ 0 ∷ 255 ∷ 255 ∷ 255 ∷ 251 ∷ [])
@@ -197,7 +198,7 @@ body_of_1_0 : Row (head 0 0)
 unfolding rows head h t_nop t_say t_raw ended short
 body_of_1_0 = (refl, refl)
 
--- In 1.2 it begins at the next multiple of 8, here of a little-endian Request.
+-- In 1.2, a body begins at the next multiple of 8, here in a little-endian Request.
 body_of_1_2 : Row (71 ∷ 73 ∷ 79 ∷ 80 ∷ 1 ∷ 2 ∷ 1 ∷ 0 ∷ 44 ∷ 0 ∷ 0 ∷ 0 ∷ [])
     (1 ∷ 0 ∷ 0 ∷ 0 ∷ 3 ∷ 0 ∷ 0 ∷ 0 ∷ 0 ∷ 0 ∷ 0 ∷ 0 ∷ 1 ∷ 0 ∷ 0 ∷ 0 ∷ 65 ∷ 0 ∷ 0 ∷ 0 ∷ 4 ∷ 0 ∷ 0 ∷ 0
     ∷ 112 ∷ 117 ∷ 116 ∷ 0 ∷ 0 ∷ 0 ∷ 0 ∷ 0 ∷ 0 ∷ 0 ∷ 0 ∷ 0 ∷ 0 ∷ 0 ∷ 0 ∷ 0 ∷ 0 ∷ 0 ∷ 248 ∷ 63 ∷ [])
@@ -212,7 +213,7 @@ body_of_1_2 : Row (71 ∷ 73 ∷ 79 ∷ 80 ∷ 1 ∷ 2 ∷ 1 ∷ 0 ∷ 44 ∷ 0 
 unfolding rows head h t_nop t_say t_raw ended short
 body_of_1_2 = (refl, refl)
 
--- A Reply has the results of the operation that the request list has for its id,
+-- A Reply has the results of the operation that the request list gives for its id.
 reply : Row (head 0 1) (0 ∷ 0 ∷ 0 ∷ 0 ∷ 0 ∷ 0 ∷ 0 ∷ 1 ∷ 0 ∷ 0 ∷ 0 ∷ 0 ∷ 0 ∷ 0 ∷ 0 ∷ 42 ∷ 9 ∷ [])
     (says 4 (codes "header.service_contexts count 0") ∷ says 8 (codes "header.request_id ulong 1")
     ∷ says 12 (codes "header.reply_status enum NO_EXCEPTION")
@@ -220,7 +221,7 @@ reply : Row (head 0 1) (0 ∷ 0 ∷ 0 ∷ 0 ∷ 0 ∷ 0 ∷ 0 ∷ 1 ∷ 0 ∷ 0 
 unfolding rows head h t_nop t_say t_raw ended short
 reply = (refl, refl)
 
--- which has none where it has two different ones.
+-- If the list has two different operations for the id, it gives none.
 reply_of_two : Row (head 0 1)
     (0 ∷ 0 ∷ 0 ∷ 0 ∷ 0 ∷ 0 ∷ 0 ∷ 2 ∷ 0 ∷ 0 ∷ 0 ∷ 0 ∷ 0 ∷ 0 ∷ 0 ∷ 42 ∷ 9 ∷ [])
     (says 4 (codes "header.service_contexts count 0") ∷ says 8 (codes "header.request_id ulong 2")
@@ -229,7 +230,7 @@ reply_of_two : Row (head 0 1)
 unfolding rows head h t_nop t_say t_raw ended short
 reply_of_two = (refl, refl)
 
--- An exception has its members after its repository id, at their alignment,
+-- An exception has its members after its repository id, at their alignment.
 raised : Row (head 0 1)
     (0 ∷ 0 ∷ 0 ∷ 0 ∷ 0 ∷ 0 ∷ 0 ∷ 1 ∷ 0 ∷ 0 ∷ 0 ∷ 1 ∷ 0 ∷ 0 ∷ 0 ∷ 13 ∷ 73 ∷ 68 ∷ 76 ∷ 58 ∷ 76 ∷ 97
     ∷ 116 ∷ 101 ∷ 58 ∷ 49 ∷ 46 ∷ 48 ∷ 0 ∷ 0 ∷ 0 ∷ 3 ∷ [])
@@ -240,7 +241,7 @@ raised : Row (head 0 1)
 unfolding rows head h t_nop t_say t_raw ended short
 raised = (refl, refl)
 
--- and a rest where its id isn't known.
+-- If the repository id isn't known, a rest comes after it.
 raised_unknown : Row (head 0 1)
     (0 ∷ 0 ∷ 0 ∷ 0 ∷ 0 ∷ 0 ∷ 0 ∷ 1 ∷ 0 ∷ 0 ∷ 0 ∷ 1 ∷ 0 ∷ 0 ∷ 0 ∷ 13 ∷ 73 ∷ 68 ∷ 76 ∷ 58 ∷ 76 ∷ 111
     ∷ 115 ∷ 116 ∷ 58 ∷ 49 ∷ 46 ∷ 48 ∷ 0 ∷ 0 ∷ 0 ∷ 3 ∷ [])
@@ -279,7 +280,7 @@ no_status : Row (head 0 1) (0 ∷ 0 ∷ 0 ∷ 0 ∷ 0 ∷ 0 ∷ 0 ∷ 1 ∷ 0 �
 unfolding rows head h t_nop t_say t_raw ended short
 no_status = (refl, refl)
 
--- A LocateRequest by its profile, and one of no disposition.
+-- A LocateRequest by its profile, and a LocateRequest whose addressing disposition has no name.
 located : Row (head 2 3)
     (0 ∷ 0 ∷ 0 ∷ 1 ∷ 0 ∷ 1 ∷ 0 ∷ 0 ∷ 0 ∷ 0 ∷ 0 ∷ 9 ∷ 0 ∷ 0 ∷ 0 ∷ 2 ∷ 171 ∷ 205 ∷ [])
     (says 4 (codes "header.request_id ulong 1") ∷ says 6 (codes "header.target.switch short 1")
@@ -299,14 +300,14 @@ no_header : Row (head 0 5) [] [] ended
 unfolding rows head h t_nop t_say t_raw ended short
 no_header = (refl, refl)
 
--- ---- the operation is the last string of a Request's header, and the status the only enum of a
--- Reply's
+-- ---- the operation is the last string of a Request's header, and the status is the only enum of a
+-- Reply's header
 
 any_below : ℕ → (ℕ → Bool) → Bool
 any_below zero test = false
 any_below (suc n) test = any_below n test || test n
 
--- whether such a type is in a type
+-- whether a type has such a type in it
 has_type : (Ty → Bool) → Ty → Bool
 unfolding any_below
 has_type test (Struct count names parts) = any_below count (λ i. has_type test (parts i))
@@ -321,22 +322,22 @@ is_enum : Ty → Bool
 is_enum (Single (Enum count names)) = true
 is_enum T = false
 
--- of a struct: whether such a type is in a part after that index
+-- whether a part of a struct after the part `k` has such a type in it
 behind : (Ty → Bool) → ℕ → Ty → Bool
 unfolding any_below has_type
 behind test k (Struct count names parts) =
     any_below count (λ i. nat_lt k i && has_type test (parts i))
 behind test k T = true
 
--- the part of this index has this name and is of such a type, and no part after it has one in it
+-- the part `k` has this name and is of such a type, and no part after it has such a type in it
 record IsLast (test : Ty → Bool) (name : List ℕ) (k : ℕ) (T : Ty) : Type 0 where
   named : name_in T k ≡ name
   such : test (part_of T k) ≡ true
   none : behind test k T ≡ false
 
-last_strings : IfSome (header_type 0 0) (IsLast is_text (codes "operation") 4)
-    × IfSome (header_type 1 0) (IsLast is_text (codes "operation") 5)
-    × IfSome (header_type 2 0) (IsLast is_text (codes "operation") 4)
+last_strings : IfSome (header_type 1 0 0) (IsLast is_text (codes "operation") 4)
+    × IfSome (header_type 1 1 0) (IsLast is_text (codes "operation") 5)
+    × IfSome (header_type 1 2 0) (IsLast is_text (codes "operation") 4)
 unfolding rows behind any_below has_type
 last_strings = (
   record { named = refl; such = refl; none = refl },
@@ -344,9 +345,9 @@ last_strings = (
   record { named = refl; such = refl; none = refl },
 )
 
-last_enums : IfSome (header_type 0 1) (IsLast is_enum (codes "reply_status") 2)
-    × IfSome (header_type 1 1) (IsLast is_enum (codes "reply_status") 2)
-    × IfSome (header_type 2 1) (IsLast is_enum (codes "reply_status") 1)
+last_enums : IfSome (header_type 1 0 1) (IsLast is_enum (codes "reply_status") 2)
+    × IfSome (header_type 1 1 1) (IsLast is_enum (codes "reply_status") 2)
+    × IfSome (header_type 1 2 1) (IsLast is_enum (codes "reply_status") 1)
 unfolding rows behind any_below has_type is_enum
 last_enums = (
   record { named = refl; such = refl; none = refl },

@@ -1,4 +1,4 @@
--- Octets of a section, taken as a run: their text, and where the message is after them.
+-- Octets of a section that are taken as a run: their text, and the stage of the message after them.
 use Rattle.std.proofs.Common.{◌≡◌, ℕ, zero, suc, ◌+◌, ◌-◌, ◌<◌, ◌≤◌, Bool, true, false, List, [], ◌∷◌, ◌++◌, length, take, drop, refl, sym, ap, subst, ◌∙◌, append_assoc, append-nil, arith, length-append}
 use Rattle.std.proofs.Math.Seq.{take-append_seam}
 use Rattle.std.proofs.lemmas.List.{length-take-le, take-append-drop}
@@ -26,7 +26,7 @@ use Rattle.giop_message.specs.Signatures.{Signatures}
 use Rattle.giop_message.specs.Messages.{Said, end_mark, section_lines, with_front, said_both, section_then, message, message_lines, stage_of, root_of, calling, after, section_and_rest}
 use Rattle.giop_message.specs.ReaderOfTable.{first_request_id, is_over}
 use Rattle.giop_message.specs.Text.{fault_word}
-use Rattle.giop_message.specs.MessageState.{due_text, Decodes, is_header, FaultedAt}
+use Rattle.giop_message.specs.MessageState.{due_text, Decodes, IsFirst, is_header, FaultedAt}
 use Rattle.giop_message.specs.MessageSteps.{request_call}
 use Rattle.giop_message.proofs.Going.{front_twice}
 use Rattle.giop_message.proofs.Dues as whole
@@ -35,9 +35,9 @@ use Rattle.giop_message.proofs.Parts.{Begun, start, reading, is_named, comes, In
 use Rattle.giop_message.proofs.Sections.{any_text, more_text, done_text, wrong_text, named_in, named_text}
 use Rattle.giop_message.proofs.Followings.{id_both, first_none, section_no_id}
 
--- ---- the last of them
+-- ---- the last octet of a run
 
--- The octets are some after which the value goes on, and a last one.
+-- The octets are a front, after which the value goes on, and a last octet.
 pub record LastOne (o : Order) (T : Ty) (at : ℕ) (root : Root) (s xs : List ℕ)
     (p : Progress) : Type 0 where
   pub front : List ℕ
@@ -71,7 +71,7 @@ last_one o T at root s (b ∷ b' ∷ xs) p some h = search (
   last_one o T at root (s ++ b ∷ []) (b' ∷ xs) p (omega arith) h.1,
 )
 
--- octets after which the value goes on, and each front of them
+-- if the value goes on after octets, it goes on after each front of them
 pub more_fronts : (o : Order) (T : Ty) (at : ℕ) (root : Root) (k : ℕ) (s xs : List ℕ) →
     AreAnswered o T at root s xs progress.More →
     AreAnswered o T at root s (take k xs) progress.More
@@ -83,7 +83,7 @@ more_fronts o T at root (suc k) s (b ∷ b' ∷ xs) h =
     answered_more o T at root s b (take k (b' ∷ xs)) h.0
     (more_fronts o T at root k (s ++ b ∷ []) (b' ∷ xs) h.1)
 
--- ---- a section after them
+-- ---- a section after the octets
 
 module _ (w : Begun) where
   open w use {S, number, header, section, T}
@@ -97,7 +97,7 @@ module _ (w : Begun) where
   abbrev Answered : List ℕ → List ℕ → Type 0
   Answered octets xs = AreAnswered O T (start w) R octets xs progress.More
 
-  -- the lines of octets after others, and the answer to the last of them
+  -- the lines that these octets add after the others
   abbrev pub LinesOf : List ℕ → List ℕ → List ℕ
   LinesOf octets xs = lines_text number R (added_lines_of_run O T (start w) octets xs)
 
@@ -119,7 +119,7 @@ module _ (w : Begun) where
       rw (← append_assoc s (b ∷ []) (b' ∷ xs), ← append_assoc octets (b ∷ []) (b' ∷ xs))
       (inside_run (s ++ b ∷ []) (octets ++ b ∷ []) (inside_on w s octets i b h.0) (b' ∷ xs) h.1)
 
-  -- octets after which it goes on have only their lines
+  -- if the section goes on after octets, they have no text except the text of their lines
   text_run : (s octets : List ℕ) → Inside w s octets → (xs : List ℕ) → Answered octets xs →
       (place : ℕ) → due_text S number place header s xs ≡ LinesOf octets xs
   text_run s octets i [] h place =
@@ -157,7 +157,7 @@ answer_all end named progress.Named (Done lines at rest) answer = absurd answer
 answer_all end named (progress.Fault kind) (Done lines at rest) answer = absurd answer
 answer_all end named p r answer = tt
 
--- ---- where it ends
+-- ---- the section ends
 
 done_by : (S : Signatures) (header : List ℕ) (section : Section) (end : ℕ) (named : Bool) (n : ℕ)
     (r : Read) → decoders.IsAnswer end named progress.Done r → EndsAt n r → (more : Said)
@@ -185,7 +185,7 @@ inside_goes : (w : Begun) (s octets : List ℕ) → Inside w s octets →
 unfolding section_then stage_of is_over
 inside_goes w s octets i = search (arith, stage_front, reading)
 
--- the octets before the last of those taken
+-- the octets before the last of those that were taken
 pub but_last : (octets front : List ℕ) (b n : ℕ) → n ≤ length octets →
     take n octets ≡ front ++ b ∷ [] → take (n - 1) octets ≡ front
 but_last octets front b n within e =
@@ -206,14 +206,14 @@ but_last octets front b n within e =
 module _ (w : Begun) (s octets : List ℕ) (i : Inside w s octets) where
   open w use {S, number, header, section, T, before, front}
 
-  -- the reading with them, and their lines
+  -- the reading with these octets; and below it, their lines
   abbrev With : List ℕ → Read
   With xs = reading w (octets ++ xs)
 
   abbrev Lines : List ℕ → List ℕ
   Lines xs = LinesOf w octets xs
 
-  -- the lines of an octet after some of them
+  -- the lines of an octet that comes after some of these octets
   abbrev DueAt : List ℕ → ℕ → List ℕ
   DueAt fr b = lines_text number (R w) (decoders.added_lines (O w) T (start w) (octets ++ fr) b)
 
@@ -227,7 +227,7 @@ module _ (w : Begun) (s octets : List ℕ) (i : Inside w s octets) where
   abbrev at_last : (fr : List ℕ) → Answered w octets fr → Inside w (s ++ fr) (octets ++ fr)
   at_last fr h = inside_run w s octets i fr h
 
-  -- what is written after the lines of the last octet is written after those of all
+  -- what is written after the lines of the last octet is written after the lines of all octets
   ends_in : (xs fr : List ℕ) (b place : ℕ) (more : List ℕ) → xs ≡ fr ++ b ∷ [] →
       Answered w octets fr →
       due_text S number (place + length fr) header (s ++ fr) (b ∷ []) ≡ DueAt fr b ++ more →
@@ -240,12 +240,12 @@ module _ (w : Begun) (s octets : List ℕ) (i : Inside w s octets) where
       ∙ ap (λ z. z ++ more) (sym (ap Lines all
       ∙ readings.text_both number (R w) (O w) T (start w) octets fr (b ∷ []))))))
 
-  -- they go on
+  -- the section goes on after the octets
   pub run_more : (xs : List ℕ) (place : ℕ) → Answered w octets xs →
       due_text S number place header s xs ≡ Lines xs
   run_more xs place h = search (arith, text_run)
 
-  -- the last ends the section
+  -- the last octet ends the section
   pub run_done : (xs : List ℕ) (place : ℕ) → Last w octets xs progress.Done →
       due_text S number place header s xs ≡ Lines xs
   run_done xs place l =
@@ -254,7 +254,7 @@ module _ (w : Begun) (s octets : List ℕ) (i : Inside w s octets) where
       (place + length l.front))
       ∙ append-nil (Lines xs)
 
-  -- it ends an operation
+  -- the last octet ends an operation
   pub run_named_in : (xs : List ℕ) → Last w octets xs progress.Named → section ≡ sections.Header
   run_named_in xs l = named_in w (s ++ l.front) (octets ++ l.front) (at_last l.front l.before)
       l.octet l.answer
@@ -270,7 +270,7 @@ module _ (w : Begun) (s octets : List ℕ) (i : Inside w s octets) where
       ++ request_call S number header (noted_of true (reading w z)))
       (last_octets xs l.front l.octet l.all))
 
-  -- it breaks a rule
+  -- the last octet breaks a rule
   pub run_wrong : (xs : List ℕ) (place end : ℕ) (why : Kind) → end ≡ place + length xs →
       Last w octets xs (progress.Fault why) →
       due_text S number place header s xs ≡ Lines xs ++ fault_line number (fault_word why) end
@@ -282,7 +282,7 @@ module _ (w : Begun) (s octets : List ℕ) (i : Inside w s octets) where
       l.answer (place + length l.front)
       ∙ ap (λ k. DueAt l.front l.octet ++ fault_line number (fault_word why) k) n)
 
-  -- a put failed at one of them
+  -- a put failed at one of the octets
   pub run_broken : (xs : List ℕ) (place : ℕ) (a b : OutLog) →
       (broke : BreaksOff T (O w) (start w) number (R w) octets xs a b) →
       WroteFront a b (due_text S number place header s (broke.front ++ broke.octet ∷ []))
@@ -294,7 +294,7 @@ module _ (w : Begun) (s octets : List ℕ) (i : Inside w s octets) where
       rw (ends_in fr broke.front broke.octet place _ refl broke.answers one)
       (front-append a b (Lines fr) _ broke.wrote)
 
-  -- ---- where the message is after them
+  -- ---- the stage of the message after the octets
 
   pub last_answer : (xs : List ℕ) (p : Progress) → Last w octets xs p →
       (end : ℕ) × (named : Bool) × decoders.IsAnswer end named p (With xs)
@@ -303,21 +303,21 @@ module _ (w : Begun) (s octets : List ℕ) (i : Inside w s octets) where
   pub behind : (xs : List ℕ) → message S header (s ++ xs) ≡ comes w (With xs)
   behind xs = search (arith, section_goes)
 
-  abbrev pub decodes : (C : Table) (xs : List ℕ) (d : Decoder) →
+  abbrev pub decodes : (C : Table) (xs : List ℕ) (d : Decoder) → w.version ≡ C.version →
       decoders.Reads C T (O w) (start w) number (R w) d (octets ++ xs) →
       Decodes C S number header (s ++ xs) section d
-  decodes C xs d reads = record {
+  decodes C xs d same reads = record {
     T = T;
     before = before;
     front = front;
     octets = octets ++ xs;
     since = ap (λ z. z ++ xs) i.since ∙ append_assoc front octets xs;
     is = behind xs;
-    first = i.first;
+    first = subst (λ v. IsFirst v header section T before front) same i.first;
     reads = reads;
   }
 
-  -- outside of the header their lines have no request id
+  -- outside of the header, the lines of the octets have no request id
   pub same_id : (xs : List ℕ) (p : Progress) → Last w octets xs p → is_header section ≡ false →
       first_request_id (message_lines (message S header (s ++ xs)))
       ≡ first_request_id (message_lines (message S header s))

@@ -1,5 +1,5 @@
--- A message that follows a list, in a section whose decoder took a run of octets: what it wrote,
--- and where the message is after them.
+-- A message that follows a list of octets, in a section whose decoder took a run of octets: what it
+-- wrote, and the stage of the message after them.
 use Rattle.std.proofs.Common.{◌≡◌, append-nil, Result, Ok, Err, IsErr, ℕ, zero, suc, ◌+◌, ◌<◌, ◌≤◌, Bool, true, false, List, [], ◌∷◌, ◌++◌, length, take, drop, map, get_or, Option, Some, None, refl, sym, ap, subst, ◌∙◌, append_assoc, length-append, arith}
 use Rattle.std.specs.Prelude.{cond, IfOk}
 use Rattle.std.proofs.lemmas.List.{length-take-le, length_push, take-append-drop, take-append-le, take-take, take_at}
@@ -44,19 +44,19 @@ use Rattle.giop_message.proofs.Parts.{Begun, start, reading, comes, Inside}
 use Rattle.giop_message.proofs.Followings.{header_only, id_noted, Moved, is_at, follows_on}
 use Rattle.giop_message.proofs.Runs.{Last, LinesOf, last_one, more_fronts, run_more, run_done, run_named_in, run_named, run_wrong, run_broken, decodes, same_id, answer_all, behind, last_answer, done_comes, fault_comes}
 
--- nothing is said of the result of a call that failed
+-- if a call failed, nothing is said of its result
 pub if_err : {A E : Type 0} (P : A → Type 0) (r : Result A E) → IsErr r → IfOk r P
 if_err P (Ok x) e = absurd (false≢true e)
 if_err P (Err e) failed = tt
 
--- the first of octets
+-- the first octet of octets
 pub first_alone : (octets : List ℕ) → 0 < length octets → take 1 octets ≡ get_or octets 0 0 ∷ []
 first_alone [] some = absurd (omega arith)
 first_alone (x ∷ xs) some = refl
 
--- ---- a message that follows a list
+-- ---- a message that follows a list of octets
 
--- the message is in this section, which its decoder reads
+-- the message is in this section, and the decoder reads the section
 pub record Standing : Type 0 where
   pub C : Table
   pub answers : Answers
@@ -103,6 +103,7 @@ module _ (t : Standing) where
   begun =
       record {
         S = S;
+        version = C.version;
         number = number;
         header = header;
         section = section;
@@ -143,7 +144,7 @@ module _ (t : Standing) where
   kept_id xs p l true e = follows.id ∙ rw (is, e) refl
   kept_id xs p l false e = follows.id ∙ rw (is, e) (sym (same_id begun s octets_of inside xs p l e))
 
-  -- it goes on
+  -- the section goes on
   section_on : (xs : List ℕ) (p : Progress) → LastOf xs p → (n : Struct_of) →
       Moved m n (length xs) → n.id ≡ m.id → n.part ≡ parts.Typed section →
       ReadsWith n.decoder xs →
@@ -151,7 +152,7 @@ module _ (t : Standing) where
   section_on xs p l n move id part reads =
       follows_on follows xs move (id ∙ rw part (kept_id xs p l (is_header section) refl))
       (subst (Stands C answers number header (s ++ xs) n.decoder) (sym part)
-      (decodes begun s octets_of inside C xs n.decoder reads))
+      (decodes begun s octets_of inside C xs n.decoder refl reads))
 
   ended_id : (xs : List ℕ) → LastOf xs progress.Done → (d' : Decoder) → ReadsWith d' xs →
       (id : Option ℕ) (inside : Bool) →
@@ -159,9 +160,10 @@ module _ (t : Standing) where
       id ≡ first_request_id (message_lines (message S header (s ++ xs)))
   ended_id xs l d' reads id false e id_is = id_is ∙ kept_id xs progress.Done l false e
   ended_id xs l d' reads id true e id_is =
-      id_is ∙ id_noted (decodes begun s octets_of inside C xs d' reads) (header_only section e)
+      id_is ∙ id_noted (decodes begun s octets_of inside C xs d' refl reads)
+      (header_only section e)
 
-  -- what holds of each reading of its decoder holds of this one
+  -- if P holds of each reading of the decoder, it holds of this one
   pub by_reads : {P : Ty → Order → ℕ → ℕ → Root → List ℕ → Type 0} →
       ((T : Ty) (o : Order) (at number : ℕ) (root : Root) (xs : List ℕ) →
       decoders.Reads C T o at number root m.decoder xs → P T o at number root xs) →
@@ -169,12 +171,12 @@ module _ (t : Standing) where
   by_reads each = each opened.T (order header) (start begun) number (root_of section) octets_of
       opened.reads
 
-  -- a put fails at one of the octets
+  -- a put failed at one of the octets
   abbrev pub Breaks : List ℕ → OutLog → OutLog → Type 0
   Breaks xs a b = BreaksOff opened.T (order header) (start begun) number (root_of section) octets_of
       xs a b
 
-  -- What its decoder took of octets: so many, and its answer to the last of them.
+  -- The decoder took the first `n` octets, and this is its answer to the last of them.
   pub record Took (octets : List ℕ) (n : ℕ) (d' : Decoder) (p : Progress) : Type 0 where
     pub within : n ≤ length octets
     pub some : 0 < n
@@ -191,7 +193,7 @@ module _ (t : Standing) where
         (root_of section) _ octets_of (take n octets)) e takes;
   }
 
--- their text, and their lines
+-- the text of these octets; and below it, their lines
 abbrev Text : Standing → List ℕ → ℕ → ℕ → List ℕ
 Text t octets n place = due_text (S t) t.number place t.header t.s (take n octets)
 
@@ -208,7 +210,7 @@ module _ {t : Standing} {octets : List ℕ} {n : ℕ} {d' : Decoder} where
       Moved m m' (length (take n octets))
   moved p k m' move = search (arith, length-take-le)
 
-  -- ---- their text
+  -- ---- the text of these octets
 
   pub text_more : Took t octets n d' progress.More → (place : ℕ) →
       Text t octets n place ≡ ValueLine t octets n
@@ -242,9 +244,9 @@ module _ {t : Standing} {octets : List ℕ} {n : ℕ} {d' : Decoder} where
       ∙ ap (λ x. ValueLine t octets n ++ fault_line x (fault_word why) (place + n))
       (sym follows.same_number)
 
-  -- ---- where the message is after them
+  -- ---- the stage of the message after these octets
 
-  -- where it ends an operation it is a header's
+  -- if the last octet ends an operation, the decoder is reading a header
   pub keeps_noted_header : Took t octets n d' progress.Named →
       decoders.KeepsNoted C roots.Header d' (ReadWith t (take n octets))
   keeps_noted_header k =
@@ -283,9 +285,9 @@ module _ {t : Standing} {octets : List ℕ} {n : ℕ} {d' : Decoder} where
   went_wrong why k = fault_comes (begun t) s (octets_of t) (inside t) octets n why k.within
       (last (progress.Fault why) k)
 
--- ---- where a header ends, or a name
+-- ---- a header ends, or a name ends
 
--- an answer other than the end
+-- an answer that isn't the end of the section
 abbrev IsNoEnd : Progress → Type 0
 IsNoEnd progress.Done = ⊥
 IsNoEnd p = Unit {0}
@@ -307,7 +309,7 @@ answer_ended section end named (Done lines at rest) a = refl
 answer_ended section end named (Short lines at outer leaf) a = absurd a
 answer_ended section end named (Fault lines at why T) a = absurd a
 
--- what ends where a section does, by its reading
+-- what ends when a section ends, from the section's reading
 abbrev section_ends : Section → ℕ → List ℕ → Read → List HeaderEnd
 section_ends section number header r =
     map (end_of number header) (end_mark section (noted_of (is_header_root (root_of section)) r))
@@ -332,7 +334,7 @@ module _ (C : Table) (number : ℕ) (header : List ℕ) {St : Type 0} (notified 
 module _ (t : Standing) (xs : List ℕ) (p : Progress) (l : LastOf t xs p) where
   open t use {C, answers, number, header, s, section}
 
-  -- the marks that the message then has more are those of its section
+  -- the marks that the octets add to the message are those of its section
   here_ends : header_ends number header s xs
       ≡ map (end_of number header) (ended section nothing_noted (ReadWith t xs))
   unfolding section_then message_marks
@@ -355,7 +357,7 @@ module _ (t : Standing) (xs : List ℕ) (p : Progress) (l : LastOf t xs p) where
       here_ends ∙ ap (map (end_of number header))
       (answer_unended section a.0 a.1 p (ReadWith t xs) a.2 other)
 
--- nor do fronts of octets after which the section goes on
+-- nothing ends in a front of octets after which the section goes on
 ends_sooner : (t : Standing) (front more : List ℕ) →
     AreAnswered (order t.header) (opened t).T (start (begun t)) (root_of t.section) (octets_of t)
     front progress.More → (k : ℕ) → k ≤ length front →
@@ -399,12 +401,12 @@ broken_front t r octets place {a} {b} failed broke =
 module _ {t : Standing} {octets : List ℕ} {n : ℕ} {d' : Decoder} where
   open t use {C, answers, number, header, m, s, follows, section}
 
-  -- octets that end no section end no header and no name
+  -- if octets don't end a section, no header and no name ends in them
   pub none_ends : {p : Progress} → Took t octets n d' p → IsNoEnd p →
       header_ends number header s (take n octets) ≡ []
   none_ends {p} k other = ends_none t (take n octets) p (last p k) other
 
-  -- nor do those before the last of a run
+  -- no header and no name ends in the octets before the last of a run
   none_sooner : {p : Progress} → Took t octets n d' p → (k : ℕ) → k < n →
       header_ends number header s (take k octets) ≡ []
   none_sooner {p} k i few =
@@ -416,7 +418,7 @@ module _ {t : Standing} {octets : List ℕ} {n : ℕ} {d' : Decoder} where
       ∙ ends_sooner t l.front (l.octet ∷ []) l.before i
       (omega (arith, long, length-take-le n octets k.within, few))
 
-  -- what a call took, and wrote
+  -- what a call took and wrote
   pub took_front : {p : Progress} {E : Type 0} (r : Result (ℕ × Bool) E) (place : ℕ)
       (a b : OutLog) → IfOk r (λ went. went.0 ≡ n) → Took t octets n d' p →
       Writes r a b (Text t octets n place) →
@@ -424,7 +426,7 @@ module _ {t : Standing} {octets : List ℕ} {n : ℕ} {d' : Decoder} where
       (λ xs. Writes r a b (due_text (S t) number place header s xs)) r octets
   took_front r place a b counted k wrote = search (arith, none_sooner)
 
-  -- where a put failed after the lines of the octets
+  -- a put failed after the lines of the octets
   pub failed_front : {p : Progress} {E : Type 0} (r : Result (ℕ × Bool) E) (place : ℕ)
       {a b c : OutLog} {x y : List ℕ} → IsErr r → Took t octets n d' p →
       Text t octets n place ≡ x ++ y → Wrote a b x → WroteFront b c y →
@@ -451,7 +453,8 @@ module _ {t : Standing} {octets : List ℕ} {n : ℕ} {d' : Decoder} where
       done_ends k ∙ ap (λ x. section_ends x number header (ReadWith t (take n octets))) in_it
 
   module _ {St : Type 0} (answer : St → Answer) (notified : St → CallEvent → St) (st : St) where
-    -- a header that ends is answered by the state before it,
+    -- if a header ends, the operations of its message are those that the correspondent's state
+    -- before that gives
     pub answered_here : (a : Answers) → Took t octets n d' progress.Done →
         AgreesAtEnds answer notified C st a (header_ends number header s octets) →
         is_header section ≡ true → a number ≡ answer st
@@ -466,7 +469,7 @@ module _ {t : Standing} {octets : List ℕ} {n : ℕ} {d' : Decoder} where
         front in
         here.0
 
-    -- which is told of it, and of a name
+    -- the correspondent is told of the header, or of the name
     pub told_here : (now : St) → Took t octets n d' progress.Done →
         now ≡ after_event notified st (section_event section m.number m.header
         (ReadWith t (take n octets))
@@ -511,7 +514,7 @@ module _ {C : Table} {answers : Answers} {number : ℕ} {header : List ℕ} {m :
       ∙ (rest_goes_unmarked S header more stands.0 (12 + length s) r.offset r.held.items
       ∙ sym (ap message_marks stands.1)))
 
-  -- what a call took of a rest, and wrote
+  -- what a call took of a rest and wrote
   pub rest_front : {r : Rest} → m.part ≡ parts.Rest r → (octets : List ℕ) (place : ℕ) {E : Type 0}
       (result : Result (ℕ × Bool) E) (n : ℕ) (a b : OutLog) → IfOk result (λ went. went.0 ≡ n) →
       n ≤ length octets → (0 < length octets → 0 < n) →

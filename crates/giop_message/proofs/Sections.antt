@@ -1,4 +1,4 @@
--- One octet of a section that goes on: its text, with its fault or its call.
+-- One octet of a section that goes on: its text, with the fault or the call if there is one.
 use Rattle.std.proofs.Common.{arith, ◌≡◌, ℕ, ◌+◌, ◌-◌, Bool, true, false, List, [], ◌∷◌, ◌++◌, length, ◌⊎◌, Option, Some, None, refl, sym, ap, subst, ◌∙◌, append-nil, append_assoc}
 use Rattle.std.specs.Prelude.{◌&&◌, ◌||◌, codes, IfSome, if◌then◌else◌}
 use Rattle.std.specs.List.{AllByRecursion as Each}
@@ -106,7 +106,7 @@ call_by is number place offset l h e = by is.is_request
     by true = search (arith, called_is)
     by false = refl
 
--- with one line that names it
+-- if the lines end an operation and are at most one, there is one line, and it ends the operation
 named_line : (n : ℕ) (lines : List Line) → OneAt n lines → names_operation true lines ≡ true →
     (l : Line) × (lines ≡ l ∷ []) × (ends_operation true l ≡ true)
 named_line n [] one e = absurd (false≢true e)
@@ -117,7 +117,7 @@ and_last : (a b : Bool) → (a && b) ≡ true → b ≡ true
 and_last true b e = e
 and_last false b e = absurd (false≢true e)
 
--- where a line ends an operation, the notes after it are those of the whole step
+-- if a line ends an operation, the notes after it are those after the whole step
 muted : (lines : List Line) (st : Read) (l : Line) → NoEnds st ⊎ (ends_in_string st ≡ false) →
     lines_of st ≡ l ∷ [] → ends_operation true l ≡ true →
     noted_of true (ReadResult.with_front lines st) ≡ note true (noted true nothing_noted lines) l
@@ -142,7 +142,7 @@ request_kind : (header : List ℕ) → is_request header ≡ true → kind heade
 unfolding is_request
 request_kind header e = eqb-true (kind header) 0 e
 
--- A line that ends an operation is below a header's root; in other sections none does.
+-- Only a line below a header's root ends an operation; in other sections no line does.
 unnamed_by : (S : Signatures) (header : List ℕ) (section : Section) (lines : List Line) →
     names_operation (is_header_root (root_of section)) lines ≡ false →
     Each (λ l. ends_operation (calling S header section).is_request l ≡ false) lines
@@ -197,24 +197,25 @@ named_is : (end : ℕ) (named : Bool) (r : Read) → decoders.IsAnswer end named
 named_is end named (Short lines at outer leaf) answer = answer
 named_is end named r answer = absurd answer
 
--- what a header has begun and not ended fits its type
+-- what a header has begun and not ended fits the header's type
 sound_by : (w : Begun) (s octets : List ℕ) (i : Inside w s octets) →
-    header_type (minor w.header) (kind w.header) ≡ Some w.T → FitsIn w.T i.outer i.leaf
+    header_type w.version (minor w.header) (kind w.header) ≡ Some w.T → FitsIn w.T i.outer i.leaf
 sound_by w s octets i found =
     let reads = reading_keeps 24 (plain (order w.header)) [] w.T
-    (header_fit (minor w.header) (kind w.header) w.T found) (start w) octets in
+    (header_fit w.version (minor w.header) (kind w.header) w.T found) (start w) octets in
     (subst (Sound w.T (start w + length octets)) i.was_short reads).1
 
--- the encapsulations that are begun are of types of encapsulations
+-- each encapsulation that has begun is of the type of an encapsulation
 holds_by : (w : Begun) (s octets : List ℕ) (i : Inside w s octets) → w.section ≡ sections.Header →
     AllHold i.outer
 holds_by w s octets i e = fits_hold i.outer w.T i.leaf
-    (sound_by w s octets i (subst (λ x. IsFirst w.header x w.T w.before w.front) e i.first).0)
+    (sound_by w s octets i
+    (subst (λ x. IsFirst w.version w.header x w.T w.before w.front) e i.first).0)
 
 -- ---- an octet of a message
 
 module _ (w : Begun) (s octets : List ℕ) (i : Inside w s octets) (b : ℕ) where
-  open w use {S, number, header, section, T}
+  open w use {S, version, number, header, section, T}
 
   abbrev R : Root
   R = root_of section
@@ -225,7 +226,7 @@ module _ (w : Begun) (s octets : List ℕ) (i : Inside w s octets) (b : ℕ) whe
   abbrev St : Read
   St = Added w s octets i b
 
-  -- its lines, its fault, its call, and its whole text
+  -- the octet's lines; and below them, its fault, its call, and its whole text
   abbrev Lines : List ℕ
   Lines = lines_text number R (decoders.added_lines (order header) T (start w) octets b)
 
@@ -249,7 +250,7 @@ module _ (w : Begun) (s octets : List ℕ) (i : Inside w s octets) (b : ℕ) whe
   abbrev Is : Progress → Type 0
   Is p = Answers (order header) T (start w) R octets b p
 
-  -- no line of it ends an operation that may be called
+  -- no line of the octet ends an operation that may have a call
   abbrev Silences : Type 0
   Silences =
       Each (λ l. ends_operation (calling S header section).is_request l ≡ false) (lines_of St)
@@ -258,7 +259,7 @@ module _ (w : Begun) (s octets : List ℕ) (i : Inside w s octets) (b : ℕ) whe
   ends_by : done_test St ≡ true → Silences
   ends_by done = go section i.first
     where
-      go : (x : Section) → IsFirst header x T w.before w.front →
+      go : (x : Section) → IsFirst version header x T w.before w.front →
           Each (λ l. ends_operation (calling S header x).is_request l ≡ false) (lines_of St)
       go sections.Header first = of_header (is_request header) refl
         where
@@ -266,15 +267,16 @@ module _ (w : Begun) (s octets : List ℕ) (i : Inside w s octets) (b : ℕ) whe
               Each (λ l. ends_operation is l ≡ false) (lines_of St)
           of_header false r = never (lines_of St)
           of_header true r =
-              let found = subst (λ k. header_type (minor header) k ≡ Some T) (request_kind header r)
-              first.0 in
-              let ends = subst (λ o. IfSome o EndsOtherwise) found (request_ends (minor header)) in
+              let found = subst (λ k. header_type version (minor header) k ≡ Some T)
+              (request_kind header r) first.0 in
+              let ends = subst (λ o. IfSome o EndsOtherwise) found
+              (request_ends version (minor header)) in
               root_no_call (plain (order header)) true T _ _ _ b ends
-              (header_fit (minor header) (kind header) T first.0)
+              (header_fit version (minor header) (kind header) T first.0)
               (sound_by w s octets i first.0) done
       go section first = never (lines_of St)
 
-  -- a text of three parts, by its last two
+  -- the text has three parts; the last two are these
   joined_text : (place : ℕ) (fault call : List ℕ) → Wrongs place ≡ fault → Call place ≡ call →
       Due place ≡ Lines ++ (fault ++ call)
   joined_text place fault call is_fault is_call =
@@ -285,11 +287,11 @@ module _ (w : Begun) (s octets : List ℕ) (i : Inside w s octets) (b : ℕ) whe
   unfolding message_lines_text
   uncalled place each = search (arith, no_first, noted_before)
 
-  -- any octet
+  -- the text of any octet
   pub any_text : (place : ℕ) → Due place ≡ Lines ++ (Wrongs place ++ Call place)
   any_text place = search (arith, joined_text)
 
-  -- one after which the section goes on
+  -- the text of an octet after which the section goes on
   pub more_text : Is progress.More → (place : ℕ) → Due place ≡ Lines
   more_text answer place =
       let none = subst (λ ls. names_operation (is_header_root R) ls ≡ false)
@@ -299,7 +301,7 @@ module _ (w : Begun) (s octets : List ℕ) (i : Inside w s octets) (b : ℕ) whe
       (uncalled place (unnamed_by S header section (lines_of St) none))
       ∙ append-nil Lines
 
-  -- the last of the section
+  -- the text of the last octet of the section
   pub done_text : Is progress.Done → (place : ℕ) → Due place ≡ Lines ++ []
   done_text answer place =
       let is = subst (decoders.IsAnswer End Names progress.Done) (next_is w s octets i b) answer in
@@ -307,7 +309,7 @@ module _ (w : Begun) (s octets : List ℕ) (i : Inside w s octets) (b : ℕ) whe
       (λ fault. fault))
       (uncalled place (ends_by (done_is End Names St i.lines is)))
 
-  -- one that breaks a rule
+  -- the text of an octet that breaks a rule
   pub wrong_text : (why : Kind) → Is (progress.Fault why) → (place : ℕ) →
       Due place ≡ Lines ++ fault_line number (fault_word why) (place + 1)
   wrong_text why answer place =
@@ -319,7 +321,7 @@ module _ (w : Begun) (s octets : List ℕ) (i : Inside w s octets) (b : ℕ) whe
       (uncalled place none)
       ∙ ap (λ z. Lines ++ z) (append-nil _)
 
-  -- one that ends an operation
+  -- the text of an octet that ends an operation
   pub named_in : Is progress.Named → section ≡ sections.Header
   named_in answer = search (arith, named_header, named_is)
 

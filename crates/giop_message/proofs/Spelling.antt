@@ -12,12 +12,12 @@ use Rattle.giop_message.specs.Messages.{ValueLine}
 use Rattle.giop_message.specs.ReaderOfTable.{text_of}
 use Rattle.giop_message.specs.MessageSteps.{shown_call}
 
--- pieces inside pieces
+-- two lists of pieces, joined one after the other
 joined_both : (xs ys : List (List ℕ)) → joined (xs ++ ys) ≡ joined xs ++ joined ys
 joined_both [] ys = refl
 joined_both (x ∷ xs) ys = search (arith, append_assoc, joined_both xs ys)
 
--- a text of these pieces, as a line
+-- the line whose text is these pieces
 said_joined : (number : ℕ) (xs : List (List ℕ)) → numbered_line number (joined xs)
     ≡ joined (codes "m" ∷ decimal number ∷ codes " " ∷ (xs ++ codes "\n" ∷ []))
 unfolding numbered_line

@@ -1,4 +1,4 @@
--- A message whose header has come, and what begins after a part of it.
+-- A message whose header has come, and what begins after one of its parts.
 use Rattle.std.proofs.Common.{◌≡◌, ℕ, zero, Bool, true, false, List, [], Option, option_map, option_and_then, Some, None, refl, sym, add-zero, arith}
 use Rattle.std.specs.Prelude.{◌&&◌, nat_lt, if◌then◌else◌}
 use Rattle.std.proofs.lemmas.Bool.{ltb-false, ne_eqb, false≢true}
@@ -22,23 +22,23 @@ use Rattle.giop_message.proofs.Going.{front_none, none_front}
 use Rattle.giop_message.proofs.Causal.{message_silent}
 use Rattle.giop_message.proofs.Octets.{told_silent}
 
--- a type that takes some octet isn't the empty struct
+-- a type that takes at least one octet isn't the empty struct
 pub fit_some : (T : Ty) → IsFit 24 T → IsEmptyStruct T → ⊥
 unfolding IsFit
 fit_some (Struct zero names parts) fit empty = absurd (omega (arith, fit.0))
 fit_some T fit empty = absurd empty
 
--- before its first octet a message has no line
+-- before its first octet, a message has no line
 pub none_told : (S : Signatures) (header : List ℕ) → message_lines (message S header []) ≡ []
 none_told S header = search (arith, told_silent, message_silent)
 
--- and without a header type it is in the rest
+-- if there is no header type, the message is in its rest before its first octet
 pub none_rests : (S : Signatures) (header : List ℕ) → S.header (minor header) (kind header) ≡ None →
     message S header [] ≡ ReadTo nothing_said 12 (In_rest 0 [])
 unfolding message of_header rest rest_in
 none_rests S header e = rw e refl
 
--- or in the header
+-- if there is a header type, the message is in its header before its first octet
 pub header_first : (S : Signatures) (header : List ℕ) (T : Ty) →
     S.header (minor header) (kind header) ≡ Some T → message S header [] ≡ with_front nothing_said
     (section_and_rest S header sections.Header nothing_noted
@@ -46,7 +46,7 @@ pub header_first : (S : Signatures) (header : List ℕ) (T : Ty) →
 unfolding message of_header
 header_first S header T e = rw (e, front_none) refl
 
--- ---- after a part that has ended, with no octet
+-- ---- after a part that has ended, before the next octet
 
 pub rest_is : (n : ℕ) → rest n [] ≡ ReadTo nothing_said n (In_rest 0 [])
 unfolding rest rest_in
@@ -56,8 +56,8 @@ pub front_rests : (before : Said) (n : ℕ) →
     with_front before (rest n []) ≡ ReadTo before n (In_rest 0 [])
 front_rests before n = search (arith, rest_is, none_front)
 
--- a section that ends with no octet after it: in front of what follows there is padding, or there
--- is none
+-- a section has ended, and no octet after it has come: there is padding before what follows, or
+-- there is none
 by_tests : (S : Signatures) (header : List ℕ) (b : BodyType) (n : ℕ) (aligned some : Bool) →
     nat_lt 0 (padding n 8) ≡ some →
     (if aligned then padded S header b n [] else body S header b n [])
@@ -102,13 +102,13 @@ unfolding typed section_then section_lines body_may_be_missing
 empty_rests o (Struct zero names parts) n empty = front_none (rest n [])
 empty_rests o T n empty = absurd (false≢true empty)
 
--- and no other type is
+-- no other type is done at once
 pub some_not_empty : (T : Ty) → body_may_be_missing (Typed T) ≡ false → IsEmptyStruct T → ⊥
 unfolding body_may_be_missing
 some_not_empty (Struct zero names parts) e empty = false≢true (sym e)
 some_not_empty T e empty = empty
 
--- ---- by the message type
+-- ---- the body of each message type
 
 pub request_wants : (S : Signatures) (header : List ℕ) (h : Noted) → kind header ≡ 0 →
     body_of S header h ≡ request_body S header h.key h.name
@@ -130,7 +130,7 @@ pub others_want : (S : Signatures) (header : List ℕ) (h : Noted) → (kind hea
 unfolding body_of is_request
 others_want S header h f g k = search (arith, ne_eqb)
 
--- the body of a Request, by the operation that it names
+-- the body of a Request, from the operation that it names
 pub named_body : (C : Table) (answer : Answer) (header : List ℕ) (n : Noted) → kind header ≡ 0 →
     type_if (option_and_then (request_type (in_version (minor header) C))
     (operation_of C header n))
@@ -138,7 +138,7 @@ pub named_body : (C : Table) (answer : Answer) (header : List ℕ) (n : Noted) �
 unfolding operation_of signatures_of request_body type_if
 named_body C answer header n request = search (arith, option_map, option_and_then)
 
--- What follows a section depends on what the ids answer after a header alone.
+-- After a header only, what follows a section depends on what the ids answer.
 pub wanted_agree : (C : Table) (a b : Answer) (header : List ℕ) (section : Section) (h : Noted) →
     (is_header section ≡ true → a ≡ b) →
     body_type_after (signatures_of C a) header section h

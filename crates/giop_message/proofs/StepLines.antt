@@ -1,4 +1,5 @@
--- The lines of a step: they have the path of the innermost part, and where one ends a string.
+-- The lines of a step: they have the path of the innermost part, and when one of them ends a
+-- string.
 use Rattle.std.proofs.Common.{arith, ◌≡◌, ℕ, zero, suc, ◌+◌, ◌-◌, ◌⊎◌, inl, Bool, true, false, List, [], ◌∷◌, ◌++◌, take, get_or, Option, Some, None, refl, ◌∙◌, append-nil}
 use Rattle.std.specs.List.{AllByRecursion as Each}
 use Rattle.giop_cdr.specs.Numbers.{num}
@@ -25,16 +26,16 @@ AreOf path r = Each (IsOf path) (lines_of r)
 abbrev pub NoEnds : Read → Type 0
 NoEnds r = Each (λ l. ends_text l.value ≡ false) (lines_of r)
 
--- whether it is faulted
+-- whether a reading is faulted
 abbrev pub is_faulted : Read → Bool
 is_faulted (Fault lines at why T) = true
 is_faulted r = false
 
--- no line ends a string, or none has begun and there is no fault
+-- no line ends a string; or no string has begun, and there is no fault
 abbrev pub Firm : Read → Type 0
 Firm r = NoEnds r ⊎ ((ends_in_string r ≡ false) × (is_faulted r ≡ false))
 
--- a fault has one line at most in front of it
+-- there is at most one line before a fault
 pub one_faulted : (n : ℕ) (why : Kind) (lines : List Line) → Faulted n why lines → OneAt n lines
 one_faulted n kinds.EncapShort lines h = h
 one_faulted n kinds.Untyped lines h = h
@@ -57,7 +58,7 @@ more_no_end T offset xs = refl
 at_path : (path : List PathSegment) (at : ℕ) (v : ReadResult.Value) → IsOf path (line at path v)
 at_path path at v = record { stands = inl refl }
 
--- Of a reading at one octet, which has one line at most.
+-- A reading at one octet has at most one line.
 module _ (n : ℕ) (path : List PathSegment) where
   abbrev OneSays : Read → Type 0
   OneSays r = OneAt n (lines_of r) → Says path r
@@ -122,7 +123,7 @@ module _ (n : ℕ) (path : List PathSegment) where
   headed_says coding T (Partial carry at) = bare _ refl
   headed_says coding T (Complete xs at rest) = search (arith, after_says)
 
-  -- the octet with a byte order
+  -- the octet that holds a byte order
   opening_says : (T : Ty) (origin k : ℕ) (g : Block) →
       OneSays (opening path T (held path T) origin k g)
   opening_says T origin k (Partial none at) = bare _ refl
@@ -145,7 +146,7 @@ quiet_bare : (n : ℕ) (r : Read) → IsEmptyResult n r → lines_of r ≡ []
 quiet_bare n (Fault lines at why S) k = absurd k
 quiet_bare n _ k = k.0
 
--- lines, and then a reading that has none
+-- the lines before a reading that has none are all lines
 lines_alone : (n : ℕ) (lines : List Line) (r : Read) → IsEmptyResult n r →
     lines_of (with_front lines r) ≡ lines
 lines_alone n lines r k = search (arith, lines_front, quiet_bare, append-nil)
@@ -168,7 +169,7 @@ lines_enclosed n path T inner end (Fault lines at kinds.Untyped S) h = search
     (arith, lines_alone, rest_quiet)
 lines_enclosed n path T inner end (Fault lines at why S) h = refl
 
--- what a part that tells it says of what follows has no line yet
+-- if a part tells what follows it, what follows has no line yet
 lines_following : (n : ℕ) (T : Ty) (what : Sequel) (part : ℕ → ℕ → List ℕ → Read)
     (lines : List Line) → ((i : ℕ) → IsEmptyResult n (part i n [])) →
     lines_of (with_front lines (following T what part n [])) ≡ lines
@@ -214,7 +215,7 @@ lines_step coding path (Inside T inner end ∷ outer) leaf at b = search (
   lines_step inner (path ++ Held ∷ []) outer leaf at b,
 )
 
--- The lines of a step are of its innermost part.
+-- The lines of a step are those of its innermost part.
 pub step_of : (coding : Coding) (path : List PathSegment) (outer : List OpenPart) (leaf : Leaf)
     (at b : ℕ) →
     AreOf (path_in path outer) (step coding path outer leaf at b)

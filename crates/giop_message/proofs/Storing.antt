@@ -95,7 +95,7 @@ pub same_octets : (q r : Rest) → IsSameRest q r → rest_octets q ≡ rest_oct
 unfolding rest_octets
 same_octets q r same = search (arith)
 
--- ---- a message's own octets, and those after them
+-- ---- the octets of the message itself, and those after them
 
 pub behind_own : (fixed : List ℕ) → length fixed ≡ 224 → length (drop 16 fixed) ≡ 208
 behind_own fixed long = search (arith, length-drop)
@@ -106,7 +106,7 @@ of_own fixed long = search (arith, length-take-le)
 pub both : (fixed : List ℕ) → drop 0 fixed ≡ take 16 fixed ++ drop 16 fixed
 both fixed = sym (take-append-drop 16 fixed)
 
--- the offsets of its fields
+-- the offsets of these fields
 pub record OwnFields (m : Message) (fixed : List ℕ) : Type 0 where
   pub rest : List ℕ
   pub part : drop 0 fixed
@@ -145,9 +145,9 @@ pub same_own : (e m : Message) → e.at ≡ m.at → part_octet e.part ≡ part_
 unfolding own_octets
 same_own e m at octet id = rw (octet, at, id) refl
 
--- ---- a part that goes on for another
+-- ---- a part that goes on in the place of another
 
--- the part that is read of the octets goes on for the one that was stored
+-- the part that is read from the octets goes on in the place of the one that was stored
 pub goes_on : (C : Table) (m : Message) (fixed frames octets : List ℕ) (at octet version : ℕ)
     (r : Option (Part × Decoder)) → Fits C m → Stored m fixed frames
     → ((n : ℕ) (rest : List ℕ) → n < 2 ^ 64 → drop 1 fixed ≡ eight n ++ rest → at ≡ n)
@@ -174,7 +174,7 @@ cond_again : {A : Type 0} (b : Bool) (x y : A) → cond b x (cond b x y) ≡ con
 cond_again true x y = refl
 cond_again false x y = refl
 
--- What is stored of the request id is stored again.
+-- If what was stored of the request id is stored again, it is the same.
 pub kept_again : (C : Table) (d e : Decoder) (p q : Part) (id : Option ℕ) → GoesOn C d p e q
     → kept_id q (kept_id p id) ≡ kept_id p id
 kept_again C d e p q id on = search (arith, same_place, cond_again)

@@ -1,5 +1,5 @@
--- Where the header of a message ends, where the name of an exception that a Reply raises does, and
--- what the correspondent, the other side of the conversation, is told there (meaning).
+-- At which octets the header of a message ends and the name of an exception ends that a Reply
+-- raises; and what the correspondent, the other side of the conversation, is told there (meaning).
 use Rattle.std.specs.Prelude.{◌≡◌, ◌<◌, ℕ, Bool, true, List, [], ◌∷◌, ◌++◌, length, map, drop, Option, Some, None, IfSome, option_and_then, option_map, ◌==◌, if◌then◌else◌}
 use Rattle.giop_sig.specs.declared.types.OpId.{OpId}
 use Rattle.giop_sig.specs.Builtin.{builtin_table}
@@ -11,15 +11,16 @@ use Rattle.giop_message.specs.Messages.{Mark, HeaderMark, NameMark, message, mes
 
 -- ---- what ends
 
--- what ends in a message of this number
+-- what can end in a message; the first number is the message's
 pub data HeaderEnd : Type 0 where
-  -- its header: the 12 octets that it begins with, and what is noted of the others
+  -- the header of the message: its 12 first octets, and what is noted of the others
   Header_end : ℕ → List ℕ → Noted → HeaderEnd
-  -- the exception that it raises: its name, of at most 128 octets
+  -- the exception that the message raises: its name, of at most 128 octets
   Exception_end : ℕ → List ℕ → HeaderEnd
 
--- The marks of a message, by the octets `s` that follow the 12 of `header`. A message has the same
--- by any table and whatever the ids answer, so these are by the built-in types alone.
+-- The marks of a message, from the octets `s` that follow the 12 of `header`. They are the same
+-- with each table of each version, and whatever the ids answer; so they are defined by the built-in
+-- types of version 1 only.
 unfoldable pub marks : List ℕ → List ℕ → List Mark
 marks header s = message_marks (message (signatures_of builtin_table (λ id. None)) header s)
 
@@ -28,7 +29,7 @@ noted_in [] = None
 noted_in (HeaderMark n ∷ ms) = Some n
 noted_in (NameMark name ∷ ms) = noted_in ms
 
--- what is noted of a message's header once it is complete
+-- what is noted of a message's header, if it is complete
 unfoldable pub header_noted : List ℕ → List ℕ → Option Noted
 header_noted header s = noted_in (marks header s)
 
@@ -41,17 +42,17 @@ unfoldable pub header_ends : ℕ → List ℕ → List ℕ → List ℕ → List
 header_ends number header s more = map (end_of number header)
     (drop (length (marks header s)) (marks header (s ++ more)))
 
--- ---- what is told there
+-- ---- what is told of these ends
 
--- what the header of a message, by its number, says of the calls of a conversation (GIOP Message
--- Formats, Request Header, Reply Header)
+-- what the header of a message, which is named by its number, says of the calls of a conversation
+-- (GIOP Message Formats, Request Header, Reply Header)
 pub data CallEvent : Type 0 where
-  -- a Request: its number, its id, the name of its operation where a call line can show it, the
-  -- operation where the table has it, and whether it expects a reply
+  -- a Request: its number, its id, the name of its operation if a call line can show it, the
+  -- operation if the table has it, and whether the Request expects a reply
   Requested : ℕ → ℕ → Option (List ℕ) → Option OpId → Bool → CallEvent
   -- a Reply: its number, and the id of the request that it answers
   Replied : ℕ → ℕ → CallEvent
-  -- a Reply that raises an exception: its number, and the exception's name, where a call line could
+  -- a Reply that raises an exception: its number, and the exception's name, if a call line could
   -- show it
   Raised : ℕ → List ℕ → CallEvent
 
@@ -59,8 +60,8 @@ abbrev pub shown : Option (List ℕ) → Option (List ℕ)
 shown None = None
 shown (Some name) = if is_shown name then Some name else None
 
--- A Request of which it is not noted expects a reply: its header was read on from a checkpoint of
--- before it was kept.
+-- If it isn't noted of a Request whether it expects a reply, it does: the reading of its header
+-- went on from a checkpoint that didn't store this.
 abbrev pub expects_reply : Option Bool → Bool
 expects_reply None = true
 expects_reply (Some expects) = expects
@@ -75,19 +76,20 @@ abbrev pub reply_event : ℕ → Option ℕ → Option CallEvent
 reply_event number None = None
 reply_event number (Some id) = Some (Replied number id)
 
--- the operation that a Request names, where the table has it; none of another message
+-- the operation that a Request names, if the table has it; other messages name none
 unfoldable pub operation_of : Table → List ℕ → Noted → Option OpId
 operation_of C header n =
     if kind header == 0 then option_and_then (called_operation C n.key) n.name else None
 
--- by the number of a message, what is noted of its header, and its operation
+-- what a message's header says, from the message's number, what is noted of the header, and its
+-- operation
 unfoldable pub header_event : ℕ → List ℕ → Noted → Option OpId → Option CallEvent
 header_event number header n operation =
     if kind header == 0 then request_event number n.request_id n.name operation n.expects_reply
     else if kind header == 1 then reply_event number n.request_id
     else None
 
--- by the number of a Reply, and the name of the exception that it raises
+-- that a Reply raises an exception, from the Reply's number and the exception's name
 abbrev pub raise_event : ℕ → Option (List ℕ) → Option CallEvent
 raise_event number name = option_map (Raised number) (shown name)
 
@@ -101,18 +103,18 @@ abbrev pub after_event : {St : Type 0} → (St → CallEvent → St) → St → 
 after_event notified st None = st
 after_event notified st (Some event) = notified st event
 
--- after these headers, one after the other
+-- the state after these ends, one after another
 abbrev pub after_ends : {St : Type 0} → (St → CallEvent → St) → Table → St → List HeaderEnd → St
 after_ends notified C st [] = st
 after_ends notified C st (e ∷ es) = after_ends notified C (after_event notified st (call_event C e))
     es
 
--- A message whose header ends is answered as the state before its event answers.
+-- If a header ends, the operations of its message are those that the state before this event gives.
 abbrev pub IsAnswered : {St : Type 0} → (St → Answer) → St → Answers → HeaderEnd → Type 0
 IsAnswered answer st a (Header_end number header n) = a number ≡ answer st
 IsAnswered answer st a (Exception_end number name) = Unit {0}
 
--- each of them is
+-- each header that ends is answered so
 abbrev pub AgreesAtEnds : {St : Type 0} → (St → Answer) → (St → CallEvent → St) → Table → St →
     Answers → List HeaderEnd → Type 0
 AgreesAtEnds answer notified C st a [] = Unit {0}

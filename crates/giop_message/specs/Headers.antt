@@ -12,7 +12,8 @@ minor header = get_or header 5 0
 unfoldable pub kind : List ℕ → ℕ
 kind header = get_or header 7 0
 
--- In 1.0 octet 7 is the byte order; in 1.1 and 1.2 it is bit 0 of the flags.
+-- In 1.0, octet 6, counted from 0, is the byte order; in 1.1 and 1.2, bit 0 of the flags in octet 6
+-- is the byte order.
 unfoldable pub order : List ℕ → Order
 order header = if get_or header 6 0 % 2 == 1 then Little else Big
 
@@ -20,28 +21,28 @@ order header = if get_or header 6 0 % 2 == 1 then Little else Big
 unfoldable pub has_more : List ℕ → Bool
 has_more header = nat_lt 0 (minor header) && (get_or header 6 0 / 2 % 2 == 1)
 
--- how many octets come after the header
+-- how many octets follow the header
 unfoldable pub size : List ℕ → ℕ
 size header = num (order header) (drop 8 header)
 
 -- ---- What a message is to the stream (GIOP Message Formats, Fragment Message).
 
--- Request, Reply, LocateRequest, LocateReply
+-- the message is a Request, a Reply, a LocateRequest or a LocateReply
 unfoldable pub may_be_fragmented : List ℕ → Bool
 may_be_fragmented header = (kind header == 0) || (kind header == 1) || (kind header == 3)
     || (kind header == 4)
 
--- A 1.2 message of these types that more fragments follow is an opener.
+-- A 1.2 message of these types is an opener if more fragments follow it.
 unfoldable pub is_opener : List ℕ → Bool
 is_opener header = (minor header == 2) && has_more header && may_be_fragmented header
 
--- a 1.2 Fragment
+-- the message is a 1.2 Fragment
 unfoldable pub is_fragment : List ℕ → Bool
 is_fragment header = (minor header == 2) && (kind header == 7)
 
 unfoldable pub is_cancel : List ℕ → Bool
 is_cancel header = kind header == 2
 
--- the messages that begin with their request id, by which the stream finds an open message
+-- the message begins with its request id, by which the stream finds an open message
 abbrev pub has_name : List ℕ → Bool
 has_name header = is_opener header || is_fragment header || is_cancel header

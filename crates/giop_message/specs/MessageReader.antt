@@ -1,6 +1,5 @@
 -- The reading of one message, as the stream takes it: the lines of its octets so far, and those of
--- its close (meaning).
--- Octets of a message count from 1 after its header.
+-- its close (meaning). The octets of a message after its header are counted from 1.
 use Rattle.std.specs.Prelude.{◌≡◌, ℕ, suc, ◌≤◌, ◌==◌, ◌⊎◌, Bool, true, false, List, [], ◌∷◌, ◌++◌, length, map}
 use Rattle.std.specs.List.{filter, list_any, AllByRecursion as Each}
 use Rattle.giop_message.specs.Headers.{has_name}
@@ -9,13 +8,13 @@ use Rattle.giop_message.specs.Headers.{has_name}
 pub data LineClass : Type 0 where
   Value Call Rest Fault End : LineClass
 
--- a line's text without the message's number, and the octet that completes it
+-- a line's text without the message's number, and the number of the octet that completes it
 pub record TimedLine : Type 0 where
   pub at : ℕ
   pub line_class : LineClass
   pub text : List ℕ
 
--- of a message of this number, with this header and these octets after it
+-- how messages are read, from the message's number, its header, and the octets after the header
 pub record MessageReader : Type 0 where
   pub reads : ℕ → List ℕ → List ℕ → List TimedLine
   pub closes : ℕ → List ℕ → List ℕ → List (LineClass × List ℕ)
@@ -28,7 +27,7 @@ is_last Rest = false
 is_last Fault = true
 is_last End = true
 
--- More octets change no lines of those before them.
+-- More octets don't change the lines of the octets before them.
 pub record IsCausal (R : MessageReader) : Type 0 where
   pub earlier : (number : ℕ) (header xs more : List ℕ) (k : ℕ) → k ≤ length xs →
       filter (λ r. r.at == k) (R.reads number header (xs ++ more))
@@ -39,9 +38,9 @@ pub record IsEnding (R : MessageReader) : Type 0 where
   pub ends : (number : ℕ) (header xs : List ℕ) →
       list_any (λ l. is_last l.0) (R.closes number header xs) ≡ true
 
--- ---- What else the stream needs of a reading, where it finds messages by their request ids.
+-- ---- What else the stream needs of a reading, since it finds messages by their request ids.
 
--- The first four octets of a message that begins with its request id have no lines but those of
+-- If a message begins with its request id, its first four octets have no lines except those of
 -- values.
 pub record HasOnlyValuesInId (R : MessageReader) : Type 0 where
   pub named : (number : ℕ) (header xs : List ℕ) → has_name header ≡ true → length xs ≤ 4 →
@@ -59,12 +58,12 @@ pub record IsOrdered (R : MessageReader) : Type 0 where
   pub ordered : (number : ℕ) (header xs : List ℕ) (k : ℕ) →
       AreInLineOrder (map (λ r. r.line_class) (filter (λ r. r.at == k) (R.reads number header xs)))
 
--- the lines of one octet more
+-- the lines that one more octet adds
 abbrev pub due : MessageReader → ℕ → List ℕ → List ℕ → ℕ → List TimedLine
 due R number header xs x = filter (λ r. r.at == suc (length xs))
     (R.reads number header (xs ++ x ∷ []))
 
--- a fault
+-- whether the line shows a fault
 abbrev pub is_fault : LineClass → Bool
 is_fault Value = false
 is_fault Call = false
@@ -77,8 +76,9 @@ abbrev pub AtClose : List LineClass → Type 0
 AtClose line_classes = (line_classes ≡ Fault ∷ []) ⊎ (line_classes ≡ End ∷ [])
     ⊎ (line_classes ≡ Rest ∷ End ∷ [])
 
--- A close ends the message, once. After a fault at its last octet a message has only the line of
--- its end, and if its last octet ends a part of its rest, no rest is left.
+-- A close ends the message, and ends it once. If the message has a fault at its last octet, it has
+-- only the line of its end; and if its last octet ends a part of its rest, nothing of the rest is
+-- left.
 pub record IsClosing (R : MessageReader) : Type 0 where
   pub closed : (number : ℕ) (header xs : List ℕ) →
       AtClose (map (λ l. l.0) (R.closes number header xs))

@@ -1,5 +1,5 @@
--- What a message holds of the octets that it has taken after its header, one field a clause; and
--- what its calls write (state).
+-- What a message keeps of the octets after its header that it has taken, in a clause for each
+-- field; and what its calls write (state).
 use Rattle.std.specs.Prelude.{◌≡◌, ℕ, ◌+◌, ◌-◌, ◌<◌, ◌≤◌, Bool, true, false, cond, List, [], ◌∷◌, ◌++◌, length, take, drop, flat_map, Some, None, IfSome}
 use Rattle.giop_sig.specs.Types.{Ty}
 use Rattle.giop_sig.specs.Table.{Table, in_version, asked_number}
@@ -31,18 +31,18 @@ use Rattle.giop_message.specs.ReaderOfTable.{line_class_of, text_of, first_reque
 unfoldable pub message_line_text : ℕ → ℕ → MessageLine → List ℕ
 message_line_text number place s = line_class_text place number (line_class_of s) (text_of s)
 
--- The text of lines after an offset of the message; up to that offset `place` octets of the stream
--- came.
+-- The text of lines after an offset of the message. `place` octets of the stream came up to that
+-- offset.
 unfoldable pub message_lines_text : ℕ → ℕ → ℕ → List LineAt → List ℕ
 message_lines_text number place offset emitted =
     flat_map (λ t. message_line_text number (place + (t.at - offset)) t.message_line) emitted
 
--- the lines of more octets
+-- the lines that more octets add
 unfoldable pub due : Signatures → List ℕ → List ℕ → List ℕ → List LineAt
 due S header s more = drop (length (message_lines (message S header s)))
     (message_lines (message S header (s ++ more)))
 
--- and their text, where the first of these octets comes after so many octets of the stream
+-- the text of these lines, if `place` octets of the stream came before these octets
 unfoldable pub due_text : Signatures → ℕ → ℕ → List ℕ → List ℕ → List ℕ → List ℕ
 due_text S number place header s more = message_lines_text number place (12 + length s)
     (due S header s more)
@@ -50,8 +50,8 @@ due_text S number place header s more = message_lines_text number place (12 + le
 unfoldable pub closing_text : ℕ → ℕ → List MessageLine → List ℕ
 closing_text number place speeches = flat_map (message_line_text number place) speeches
 
--- the same of timed lines, whose octets count from 1 after the header: `before` octets of the
--- message came before, and `place` octets of the stream
+-- the same text for timed lines, whose octets are counted from 1 after the header: `before` octets
+-- of the message came before, and `place` octets of the stream
 unfoldable pub timed_lines_text : ℕ → ℕ → ℕ → List TimedLine → List ℕ
 timed_lines_text number place before timed_lines =
     flat_map (λ r. line_class_text (place + (r.at - before)) number r.line_class r.text) timed_lines
@@ -66,11 +66,11 @@ is_short speeches = false
 
 -- ---- a message and its catalogue
 
--- this is the table of a list of requests, with the operations of this catalogue's table
+-- this is the table of a request list, with the operations of this catalogue's table
 abbrev pub AreOf : Table → RequestTable → Type 0
 AreOf C request_table = (entries : List Entry) × IsOf (asked_number C) entries request_table
 
--- operations of this table
+-- the operations are those of this table
 abbrev pub AreKnown : Table → Answer → Type 0
 AreKnown C answer = (id : ℕ) → IfSome (answer id) (λ o. o.0 < length C.operations)
 
@@ -80,46 +80,47 @@ body_type C (body_type_ids.Type of) = Typed (tree C of.0)
 body_type C body_type_ids.Exception = UserException
 body_type C body_type_ids.SystemException = SystemException
 
--- a type of the table
+-- the type is one of the table
 abbrev pub IsKnown : Table → BodyTypeId → Type 0
 IsKnown C body_type_ids.Nothing = Unit {0}
 IsKnown C (body_type_ids.Type of) = of.0 < length C.types
 IsKnown C body_type_ids.Exception = Unit {0}
 IsKnown C body_type_ids.SystemException = Unit {0}
 
--- a decoder that fits the table, and reads as messages of this minor version are read
+-- the decoder fits the table, and reads as messages of this minor version are read
 pub record FitsVersion (C : Table) (minor : ℕ) (d : Decoder) : Type 0 where
   pub fits : decoder.Fits C d
   pub version : decoder.IsOfVersion minor C d
 
--- the part, which this decoder reads if it is a section, fits a message of this minor version that
--- has taken this number of octets
+-- the part fits a message of this minor version that has taken this number of octets; if the part
+-- is a section, this is its decoder
 abbrev pub FitsPart : Table → ℕ → ℕ → Decoder → Part → Type 0
 FitsPart C minor at d (parts.Typed section) = FitsVersion C minor d
 FitsPart C minor at d (parts.Padding body_type_id) = IsKnown C body_type_id
 FitsPart C minor at d (parts.Rest r) = r.offset + length r.held.items ≤ at
 
--- a message that isn't faulted, and whose types are those of the table
+-- the message isn't faulted, and its types are those of the table
 abbrev pub Fits : Table → Message → Type 0
 Fits C m = FitsPart C (minor m.header) m.at m.decoder m.part
 
--- how many of its octets a message has taken, its header's 12 included
+-- how many of its octets a message has taken, with the 12 of its header
 abbrev pub reach : Message → ℕ
 reach m = m.at
 
--- ---- a message of a list
+-- ---- a message that follows a list of octets
 
--- The header is the first section of a message: nothing is said before it, there is no octet, and
--- its type is the header's.
-abbrev pub IsFirst : List ℕ → Section → Ty → Said → List ℕ → Type 0
-IsFirst header sections.Header T before front =
-    (header_type (minor header) (kind header) ≡ Some T) × (before ≡ nothing_said) × (front ≡ [])
-IsFirst header sections.Exception T before front = Unit {0}
-IsFirst header sections.SystemException T before front = Unit {0}
-IsFirst header sections.Body T before front = Unit {0}
+-- If the section is the header, it is the first section of the message: nothing is said before it,
+-- no octet comes before it, and its type is the header's in this version of signature files.
+abbrev pub IsFirst : ℕ → List ℕ → Section → Ty → Said → List ℕ → Type 0
+IsFirst version header sections.Header T before front =
+    (header_type version (minor header) (kind header) ≡ Some T) × (before ≡ nothing_said)
+    × (front ≡ [])
+IsFirst version header sections.Exception T before front = Unit {0}
+IsFirst version header sections.SystemException T before front = Unit {0}
+IsFirst version header sections.Body T before front = Unit {0}
 
--- What is said, and then a section that begins after it: a decoder reads its octets as a value of a
--- type.
+-- Some lines were said, and then a section begins; a decoder reads the octets of the section as a
+-- value of a type.
 pub record Decodes (C : Table) (S : Signatures) (number : ℕ) (header s : List ℕ) (section : Section)
     (d : Decoder)
     : Type 0 where
@@ -131,11 +132,11 @@ pub record Decodes (C : Table) (S : Signatures) (number : ℕ) (header s : List 
   pub is : message S header s ≡ with_front before
       (section_and_rest S header section nothing_noted
       (reading (plain (order header)) [] T (12 + length front) octets))
-  pub first : IsFirst header section T before front
+  pub first : IsFirst C.version header section T before front
   pub reads : decoder.Reads C T (order header) (12 + length front) number (root_of section) d octets
 
--- where a message of this number and header is after these octets, by the part that the next octet
--- belongs to, and the decoder of a section
+-- at which stage a message with this number and header is after these octets: from the part to
+-- which the next octet belongs, and from the decoder of a section
 abbrev pub Stands : Table → Answers → ℕ → List ℕ → List ℕ → Decoder → Part → Type 0
 Stands C answers number header s d (parts.Typed section) =
     Decodes C (signatures_of C (answers number)) number header s section d
@@ -147,7 +148,7 @@ Stands C answers number header s d (parts.Rest r) =
     (said : Said) × (message (signatures_of C (answers number)) header s
     ≡ ReadTo said (12 + length s) (In_rest r.offset r.held.items))
 
--- in the header
+-- whether the section is the header
 abbrev pub is_header : Section → Bool
 is_header sections.Header = true
 is_header sections.Exception = false
@@ -160,7 +161,7 @@ in_header (parts.Padding body_type_id) = false
 in_header (parts.Rest r) = false
 
 -- The message's fields are those of a reading of its header and these octets after it. While the
--- header is read its decoder has the request id.
+-- header is being read, its decoder has the request id.
 pub record Follows (C : Table) (answers : Answers) (number : ℕ) (header : List ℕ) (m : Message)
     (s : List ℕ) : Type 0 where
   pub same_number : m.number ≡ number
@@ -170,9 +171,9 @@ pub record Follows (C : Table) (answers : Answers) (number : ℕ) (header : List
   pub at : m.at ≡ 12 + length s
   pub stands : Stands C answers number header s m.decoder m.part
 
--- ---- its calls
+-- ---- the calls of a message
 
--- It follows the longer list, or the n-th of these octets, from 1, is faulted.
+-- The message is faulted at the n-th of these octets, counted from 1.
 pub record FaultedAt (S : Signatures) (header s more : List ℕ) (n : ℕ) : Type 0 where
   pub some : 0 < n
   pub within : n ≤ length more

@@ -1,5 +1,5 @@
--- What the parts of a message's code do: the text of an octet, and where a message is after a part
--- that has ended (steps). Only private contracts cite it.
+-- What the parts of a message's code do: the text of an octet, and the stage of a message after a
+-- part that has ended (steps). Only private contracts cite these definitions.
 use Rattle.std.specs.Prelude.{◌≡◌, ℕ, ◌+◌, Bool, true, false, List, [], ◌∷◌, ◌++◌, length, take, Option, Some, None, ◌&&◌, nat_lt, if◌then◌else◌}
 use Rattle.giop_cdr.specs.Alignment.{padding}
 use Rattle.giop_print.specs.Lines.{call_line, interface_call_line, fault_line, rest_line}
@@ -24,7 +24,7 @@ use Rattle.giop_message.specs.Messages.{Said, BodyType, Untyped, is_shown, is_re
 use Rattle.giop_message.specs.HeaderEnds.{CallEvent, header_event, raise_event}
 use Rattle.giop_message.specs.MessageState.{IsFirst, Stands, Follows, FaultedAt}
 
--- the line of a reading's fault, whose octet has this place in the stream
+-- the line of a reading's fault; the octet of the fault has this place in the stream
 abbrev pub fault_text : ℕ → ℕ → Read → List ℕ
 fault_text number place (Done lines at rest) = []
 fault_text number place (Short lines at outer leaf) = []
@@ -35,18 +35,18 @@ abbrev pub shown_call : ℕ → ℕ → List ℕ → Option (List ℕ) → List 
 shown_call number id operation None = call_line number id operation
 shown_call number id operation (Some interface) = interface_call_line number id operation interface
 
--- where it can be shown
+-- the line of a call, if a call line can show it
 unfoldable pub called_text : ℕ → Option ℕ → Option (List ℕ) → Option (List ℕ) → List ℕ
 called_text number (Some id) (Some operation) interface =
     if is_shown operation then shown_call number id operation interface else []
 called_text number id operation interface = []
 
--- of a Request's header
+-- the line of a call, if this is the header of a Request
 unfoldable pub request_call : Signatures → ℕ → List ℕ → Noted → List ℕ
 request_call S number header h =
     if is_request header then called_text number h.request_id h.name (S.interface h.key) else []
 
--- the type of what follows a section, by what is noted of it
+-- the type of what follows a section, from what is noted of the section
 abbrev pub body_type_after : Signatures → List ℕ → Section → Noted → BodyType
 body_type_after S header sections.Header h = body_of S header h
 body_type_after S header sections.Exception h = type_if (members_of S header h.name)
@@ -60,13 +60,13 @@ is_padded header sections.Exception at = false
 is_padded header sections.SystemException at = false
 is_padded header sections.Body at = false
 
--- a message of this number and header, that has taken so many octets
+-- the message has this number and this header, and has taken as many octets as `s` has
 pub record IsAt (number : ℕ) (header : List ℕ) (m : Message) (s : List ℕ) : Type 0 where
   pub same_number : m.number ≡ number
   pub same_header : m.header ≡ header
   pub at : m.at ≡ 12 + length s
 
--- a message that has what is said before and then reads as `m` has the part that fits `m`
+-- if a message has said what came before and then reads as `m`, the new part fits `m`
 abbrev pub Arrives : Table → Answers → ℕ → List ℕ → Message → Message → List ℕ → Messages.Message →
     Type 0
 Arrives C answers number header old new s m =
@@ -74,29 +74,29 @@ Arrives C answers number header old new s m =
     message (signatures_of C (answers number)) header s ≡ with_front before m →
     Stands C answers number header s new.decoder new.part
 
--- A message that has what is said before, and then a section of this type of which no octet has
--- come, is in that section.
+-- If a message has said what came before, and then a section of this type begins, and no octet of
+-- it has come, the new part is that section.
 abbrev pub Enters : Table → Answers → ℕ → List ℕ → Message → Message → List ℕ → Section → Ty →
     Type 0
 Enters C answers number header old new s section T =
-    IsAt number header old s → (before : Said) → IsFirst header section T before s →
+    IsAt number header old s → (before : Said) → IsFirst C.version header section T before s →
     message (signatures_of C (answers number)) header s
     ≡ with_front before (section_and_rest (signatures_of C (answers number)) header section
     nothing_noted (reading (plain (order header)) [] T (12 + length s) [])) →
     Stands C answers number header s new.decoder new.part
 
--- a part that is read as a value
+-- the part is read as a value
 abbrev pub IsTyped : Part → Type 0
 IsTyped (parts.Typed section) = Unit {0}
 IsTyped part = ⊥
 
--- a part that is this section, whose decoder has the notes of this reading
+-- the part is this section, and its decoder has the notes of this reading
 abbrev pub Ended : Table → Decoder → Part → Section → Read → Type 0
 Ended C d (parts.Typed held) section r = (held ≡ section) × KeepsNoted C (root_of section) d r
 Ended C d part section r = ⊥
 
--- what is told where a section ends, by its reading, and the operation that it names if it is a
--- header
+-- what is told when a section ends: from its reading, and, if it is a header, from the operation
+-- that it names
 abbrev pub section_event : Section → ℕ → List ℕ → Read → Option OpId → Option CallEvent
 section_event sections.Header number header r operation =
     header_event number header (noted_of true r) operation
@@ -106,7 +106,7 @@ section_event sections.SystemException number header r operation =
     raise_event number (noted_of false r).name
 section_event sections.Body number header r operation = None
 
--- the last part of a rest
+-- the line of the last part of a rest, or nothing if that part has no octets
 abbrev pub held_text : ℕ → ℕ → List ℕ → List ℕ
 held_text number offset [] = []
 held_text number offset (x ∷ held) = rest_line number offset (x ∷ held)
@@ -118,7 +118,7 @@ last_rest_text number (parts.Rest r) = held_text number r.offset r.held.items
 
 -- ---- one call over a run of octets
 
--- it took so many of them: the message is over at the last, or follows the longer list
+-- the call took n octets: the message is over at the last of them, or it follows the longer list
 abbrev pub TookSome : Table → Answers → ℕ → List ℕ → Message → List ℕ → List ℕ → ℕ → Bool → Type 0
 TookSome C answers number header m s octets n false =
     Follows C answers number header m (s ++ take n octets)

@@ -1,6 +1,6 @@
--- One joined message: the reading of all its octets, in one piece (GIOP Message Formats;
--- docs/FORMATS.md; meaning).
--- Offsets count from the first octet of the message, so its octets after the header begin at 12.
+-- One joined message: the reading of all its octets as one piece (GIOP Message Formats;
+-- docs/FORMATS.md; meaning). Offsets are counted from the first octet of the message, so its octets
+-- after the header begin at 12.
 use Rattle.std.specs.Prelude.{ℕ, zero, suc, ◌+◌, ◌/◌, Bool, true, false, ◌&&◌, ◌||◌, List, [], ◌∷◌, ◌++◌, length, take, drop, Option, Some, None, ◌==◌, nat_lt, nat_le, if◌then◌else◌}
 use Rattle.std.specs.List.{list_all}
 use Rattle.giop_cdr.specs.Alignment.{padding}
@@ -22,17 +22,17 @@ use Rattle.giop_message.specs.Signatures.{Signatures}
 pub data MessageLine : Type 0 where
   -- a value below a root
   ValueLine : Root → List PathSegment → Value → MessageLine
-  -- a Request's id and operation, and the interface of its object key
+  -- the id and the operation of a Request, and the interface of its object key
   CallLine : ℕ → List ℕ → Option (List ℕ) → MessageLine
-  -- octets of the rest, and their offset in it
+  -- octets of the rest, and their offset in the rest
   RestLine : ℕ → List ℕ → MessageLine
-  -- a value's fault
+  -- the fault of a value
   FaultLine : Kind → MessageLine
-  -- at the close: the header or the typed body is incomplete, or the message ends
+  -- the line of a close: the header or the typed body is incomplete, or the message ends
   ShortLine : MessageLine
   EndLine : MessageLine
 
--- a line, and the offset just past the octet that completes it
+-- a line, and the offset after the octet that completes it
 pub record LineAt : Type 0 where
   pub at : ℕ
   pub message_line : MessageLine
@@ -40,13 +40,14 @@ pub record LineAt : Type 0 where
 unfoldable pub line_at : ℕ → MessageLine → LineAt
 line_at at message_line = record { at = at; message_line = message_line }
 
--- What ends in a message, which has no text: its header, with what is noted of it, and the name of
--- the exception that it raises, of at most 128 octets (GIOP Message Formats, Reply Body).
+-- What can end in a message without a line of its own: the header, with what is noted of it; and
+-- the name of the exception that the message raises, of at most 128 octets (GIOP Message Formats,
+-- Reply Body).
 pub data Mark : Type 0 where
   HeaderMark : Noted → Mark
   NameMark : List ℕ → Mark
 
--- what a message has so far
+-- what a message has said so far
 pub record Said : Type 0 where
   pub lines : List LineAt
   pub marks : List Mark
@@ -61,7 +62,7 @@ nothing_said = only_lines []
 abbrev pub is_graphic : ℕ → Bool
 is_graphic octet = nat_le 33 octet && nat_le octet 126
 
--- an operation that a call line can show; what is noted as a name has 128 octets at most
+-- whether a call line can show an operation; a name that is noted has at most 128 octets
 unfoldable pub is_shown : List ℕ → Bool
 is_shown name = nat_lt 0 (length name) && list_all is_graphic name
 
@@ -70,13 +71,13 @@ call_of at (Some id) (Some name) interface =
     if is_shown name then line_at at (CallLine id name interface) ∷ [] else []
 call_of at id name interface = []
 
--- by what the call lines of a section are made: whether it is a Request's header, and which
--- interface an object key has
+-- what the call lines of a section are made from: whether the section is a Request's header, and
+-- which interface an object key has
 pub record Calling : Type 0 where
   pub is_request : Bool
   pub interface : Option (List ℕ) → Option (List ℕ)
 
--- a section without a call
+-- the section has no call
 abbrev pub no_calls : Calling
 no_calls = record { is_request = false; interface = λ key. None }
 
@@ -86,7 +87,7 @@ calls calling l h =
     if ends_operation calling.is_request l
     then call_of l.at h.request_id h.name (calling.interface h.key) else []
 
--- The lines of a reading below a root, with what was noted before them.
+-- The lines of a reading below a root, if this was noted before them.
 unfoldable pub section_lines : Root → Calling → Noted → List Line → List LineAt
 section_lines root calling h [] = []
 section_lines root calling h (l ∷ ls) =
@@ -94,10 +95,10 @@ section_lines root calling h (l ∷ ls) =
     (line_at l.at (ValueLine root l.path l.value) ∷ calls calling l now)
     ++ section_lines root calling now ls
 
--- ---- where a message is
+-- ---- the stage of a message
 
--- The type of a body: none, this one, that of the exception whose repository id comes first, or
--- that of a system exception.
+-- The type of a body: none, this type, the type of the exception whose repository id comes first,
+-- or the type of a system exception.
 pub data BodyType : Type 0 where
   Untyped : BodyType
   Typed : Ty → BodyType
@@ -112,19 +113,19 @@ root_of sections.SystemException = roots.Body
 root_of sections.Body = roots.Body
 
 pub data Stage : Type 0 where
-  -- in a part that is read as a value: what is noted of it, and what is begun and not ended
+  -- in a part that is read as a value: what is noted of it, and what has begun and not ended
   In_typed : Section → Noted → List OpenPart → Leaf → Stage
   In_padding : BodyType → Stage
-  -- in the rest: where its last part begins, and the octets of that
+  -- in the rest: the offset at which its last part begins, and the octets of that part
   In_rest : ℕ → List ℕ → Stage
   -- after a fault
   Over : Stage
 
--- The result of reading a message: what it has, the offset at its end, and where it is there.
+-- The result of reading a message: what it has said, the offset at its end, and its stage there.
 pub data Message : Type 0 where
   ReadTo : Said → ℕ → Stage → Message
 
--- one after the other
+-- what was said first, and then what was said after it
 abbrev pub said_both : Said → Said → Said
 said_both front said = record {
   lines = front.lines ++ said.lines;
@@ -138,16 +139,16 @@ abbrev pub name_mark : Option (List ℕ) → List Mark
 name_mark None = []
 name_mark (Some name) = NameMark name ∷ []
 
--- The mark of a section's end, by what is noted of it. An exception's name is the last string of
--- its section: the repository id, or that of a system exception.
+-- The mark at the end of a section, from what is noted of the section. An exception's name is the
+-- last string of its section: the repository id, or the name of a system exception.
 abbrev pub end_mark : Section → Noted → List Mark
 end_mark sections.Header h = HeaderMark h ∷ []
 end_mark sections.Exception h = name_mark h.name
 end_mark sections.SystemException h = name_mark h.name
 end_mark sections.Body h = []
 
--- A section, and what follows it by what is noted of it. A fault has its line instead of the
--- value's, and ends the message.
+-- A section, and what follows it, from what is noted of the section. A fault has its own line in
+-- the place of the value's line, and ends the message.
 unfoldable pub section_then : Section → Calling → (Noted → ℕ → List ℕ → Message) → Noted → Read →
     Message
 section_then section calling next h (Done lines at s) =
@@ -166,7 +167,7 @@ section_then section calling next h (Fault lines at why T) =
 
 -- ---- the rest
 
--- the rest in parts of 32 octets, of which so many are full
+-- the rest in parts of 32 octets; this many parts are full
 unfoldable pub rest_in : ℕ → ℕ → ℕ → List ℕ → Message
 rest_in zero offset at s = ReadTo nothing_said (at + length s) (In_rest offset s)
 rest_in (suc full) offset at s =
@@ -190,7 +191,7 @@ unfoldable pub members_of : Signatures → List ℕ → Option (List ℕ) → Op
 members_of S header None = None
 members_of S header (Some repository) = S.members (minor header) repository
 
--- the members of the exception whose repository id came
+-- the members of the exception whose repository id has come
 unfoldable pub after_exception : Signatures → List ℕ → Noted → ℕ → List ℕ → Message
 after_exception S header h = option_typed (order header) (members_of S header h.name)
 
@@ -208,7 +209,8 @@ unfoldable pub type_if : Option Ty → BodyType
 type_if None = Untyped
 type_if (Some T) = Typed T
 
--- of a Request, by its operation, which is the last string of its header, and by its object key
+-- the body of a Request, from its operation, which is the last string of its header, and from its
+-- object key
 unfoldable pub request_body : Signatures → List ℕ → Option (List ℕ) → Option (List ℕ) → BodyType
 request_body S header key None = Untyped
 request_body S header key (Some name) = type_if (S.request (minor header) name key)
@@ -217,8 +219,8 @@ unfoldable pub result_body : Signatures → List ℕ → Option ℕ → BodyType
 result_body S header None = Untyped
 result_body S header (Some id) = type_if (S.reply (minor header) id)
 
--- of a Reply, by its status: NO_EXCEPTION, USER_EXCEPTION, SYSTEM_EXCEPTION, LOCATION_FORWARD,
--- LOCATION_FORWARD_PERM, NEEDS_ADDRESSING_MODE
+-- the body of a Reply, from its status: NO_EXCEPTION, USER_EXCEPTION, SYSTEM_EXCEPTION,
+-- LOCATION_FORWARD, LOCATION_FORWARD_PERM, NEEDS_ADDRESSING_MODE
 unfoldable pub reply_body : Signatures → List ℕ → Option ℕ → Option ℕ → BodyType
 reply_body S header id None = Untyped
 reply_body S header id (Some status) =
@@ -232,9 +234,9 @@ reply_body S header id (Some status) =
 unfoldable pub is_request : List ℕ → Bool
 is_request header = kind header == 0
 
--- of a LocateReply, by its status: OBJECT_FORWARD, OBJECT_FORWARD_PERM, LOC_SYSTEM_EXCEPTION,
--- LOC_NEEDS_ADDRESSING_MODE (GIOP Message Formats, LocateReply Body). It raises nothing, since it
--- answers no call.
+-- the body of a LocateReply, from its status: OBJECT_FORWARD, OBJECT_FORWARD_PERM,
+-- LOC_SYSTEM_EXCEPTION, LOC_NEEDS_ADDRESSING_MODE (GIOP Message Formats, LocateReply Body). It
+-- raises nothing, since it answers no call.
 unfoldable pub locate_body : Signatures → Option ℕ → BodyType
 locate_body S None = Untyped
 locate_body S (Some status) =
@@ -245,7 +247,8 @@ locate_body S (Some status) =
     else Untyped)))
     else Untyped
 
--- by what is noted of the header; a message of another type has no body
+-- the body of a message, from what is noted of its header; messages of other types have no typed
+-- body
 unfoldable pub body_of : Signatures → List ℕ → Noted → BodyType
 body_of S header h =
     if is_request header then request_body S header h.key h.name
@@ -253,7 +256,7 @@ body_of S header h =
     else (if kind header == 4 then locate_body S h.status
     else Untyped))
 
--- a Request or a Reply of 1.2, whose body begins at the next multiple of 8
+-- the message is a Request or a Reply of 1.2: its body begins at the next multiple of 8
 unfoldable pub is_aligned : List ℕ → Bool
 is_aligned header = nat_lt (kind header) 2 && (minor header == 2)
 
@@ -270,7 +273,7 @@ after_header S header h at s =
     if is_aligned header then padded S header (body_of S header h) at s
     else body S header (body_of S header h) at s
 
--- by what the call line of a message of this header is made
+-- what the call line of a message with this header is made from
 abbrev pub calling_of : Signatures → List ℕ → Calling
 calling_of S header = record { is_request = is_request header; interface = S.interface }
 
@@ -280,32 +283,32 @@ of_header S header (Some T) at s =
     section_then sections.Header (calling_of S header) (after_header S header) nothing_noted
     (reading (plain (order header)) [] T at s)
 
--- of this header of 12 octets and these octets after it
+-- a message with this header of 12 octets, and these octets after it
 unfoldable pub message : Signatures → List ℕ → List ℕ → Message
 message S header s = of_header S header (S.header (minor header) (kind header)) 12 s
 
--- by what the call lines of a section are made
+-- what the call lines of a section are made from
 abbrev pub calling : Signatures → List ℕ → Section → Calling
 calling S header sections.Header = calling_of S header
 calling S header sections.Exception = no_calls
 calling S header sections.SystemException = no_calls
 calling S header sections.Body = no_calls
 
--- what follows a section, by what is noted of it
+-- what follows a section, from what is noted of the section
 abbrev pub after : Signatures → List ℕ → Section → Noted → ℕ → List ℕ → Message
 after S header sections.Header = after_header S header
 after S header sections.Exception = after_exception S header
 after S header sections.SystemException = λ h. rest
 after S header sections.Body = λ h. rest
 
--- a section that goes on from what was noted of it, and what follows it
+-- a section that goes on after this was noted of it, and what follows the section
 abbrev pub section_and_rest : Signatures → List ℕ → Section → Noted → Read → Message
 section_and_rest S header section = section_then section (calling S header section)
     (after S header section)
 
--- ---- its close
+-- ---- the close of a message
 
--- a body that needs no octets, so that a message may end in the padding in front of it
+-- whether a body needs no octets, so that a message may end in the padding before it
 unfoldable pub body_may_be_missing : BodyType → Bool
 body_may_be_missing Untyped = true
 body_may_be_missing (Typed (Struct zero names parts)) = true

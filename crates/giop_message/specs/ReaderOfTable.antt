@@ -1,5 +1,5 @@
--- The reading of one message as the stream takes it, by a catalogue's table and the operations that
--- the ids of each message answer; and the message's request id (meaning).
+-- The reading of one message as the stream takes it, for the table of a catalogue and the
+-- operations that the ids of each message answer; and the message's request id (meaning).
 use Rattle.std.specs.Prelude.{◌≡◌, ℕ, suc, ◌-◌, ◌==◌, Bool, true, false, cond, List, [], ◌∷◌, ◌++◌, length, map, Option, Some, None, codes, IfSome}
 use Rattle.std.specs.List.{filter}
 use Rattle.giop_cdr.specs.declared.prim.Primitive.TheVariants as prims
@@ -24,7 +24,7 @@ line_class_of (FaultLine why) = Fault
 line_class_of ShortLine = Fault
 line_class_of EndLine = End
 
--- the text, without the message's number; of a fault its word
+-- the text of a line without the message's number; the text of a fault is its word
 unfoldable pub text_of : MessageLine → List ℕ
 text_of (ValueLine root path v) = value_line_text (path_text root path) v
 text_of (CallLine id operation interface) = call_text id operation interface
@@ -33,7 +33,8 @@ text_of (FaultLine why) = fault_word why
 text_of ShortLine = codes "short"
 text_of EndLine = codes "end"
 
--- Offsets count from the front of the message; a reader counts octets from 1 after the header.
+-- Offsets are counted from the front of the message; a reader counts octets from 1 after the
+-- header.
 abbrev pub timed_line_of : LineAt → TimedLine
 timed_line_of t = record {
   at = t.at - 12;
@@ -45,29 +46,30 @@ timed_line_of t = record {
 abbrev pub closing_of : MessageLine → LineClass × List ℕ
 closing_of s = (line_class_of s, text_of s)
 
--- of a message of this header, by what is said of it
+-- the lines of a message with this header, from what the message has said
 unfoldable pub remarks_by : Signatures → List ℕ → List ℕ → List TimedLine
 remarks_by S header xs = map timed_line_of (message_lines (message S header xs))
 
 unfoldable pub closes_by : Signatures → List ℕ → List ℕ → List (LineClass × List ℕ)
 closes_by S header xs = map closing_of (close (stage_of (message S header xs)))
 
--- of each message, by its number
+-- the reader of messages, if each message is read by the signatures for its number
 abbrev pub reader_by : (ℕ → Signatures) → MessageReader
 reader_by S = record {
   reads = λ number. remarks_by (S number);
   closes = λ number. closes_by (S number);
 }
 
--- what one octet more lets be said
+-- the lines that one more octet adds
 abbrev pub due_by : Signatures → List ℕ → List ℕ → ℕ → List TimedLine
 due_by S header xs x = filter (λ r. r.at == suc (length xs)) (remarks_by S header (xs ++ x ∷ []))
 
--- by this table, and what the ids of each message answer
+-- the reader of messages for this table and for what the ids of each message answer
 abbrev pub message_reader : Table → Answers → MessageReader
 message_reader C answers = reader_by (λ number. signatures_of C (answers number))
 
--- The headers of the messages that the stream finds by their request ids begin with them.
+-- If the stream finds messages by their request ids, the headers of these messages begin with the
+-- ids.
 pub record HasIds (S : Signatures) : Type 0 where
   pub begins : (header : List ℕ) → has_name header ≡ true →
       IfSome (S.header (minor header) (kind header)) BeginsWithId
@@ -82,7 +84,7 @@ unfoldable pub first_id : Option ℕ → Option ℕ → Option ℕ
 first_id (Some id) later = Some id
 first_id None later = later
 
--- the first of them
+-- the first request id in these lines
 unfoldable pub first_request_id : List LineAt → Option ℕ
 first_request_id [] = None
 first_request_id (t ∷ ts) = first_id (id_in t.message_line) (first_request_id ts)

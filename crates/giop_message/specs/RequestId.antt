@@ -1,4 +1,4 @@
--- The line of the request id that the header of a message begins with (docs/FORMATS.md, Lines;
+-- The line of a request id with which the header of a message begins (docs/FORMATS.md, Lines;
 -- meaning).
 use Rattle.std.specs.Prelude.{ℕ, List, [], ◌∷◌, codes}
 use Rattle.giop_cdr.specs.declared.prim.Primitive.TheVariants as prims
@@ -9,14 +9,14 @@ use Rattle.giop_decode.specs.Spelling.{path_text}
 use Rattle.giop_message.specs.MessageReader.{Value, TimedLine}
 use Rattle.giop_message.specs.Text.{value_line_text}
 
--- its path
+-- the path of the request id
 unfoldable pub request_id_path : List ℕ
 request_id_path = path_text roots.Header (Name (codes "request_id") ∷ [])
 
--- the line without the message's number
+-- the text of the line without the message's number
 unfoldable pub request_id_text : ℕ → List ℕ
 request_id_text id = value_line_text request_id_path (Number (Plain prims.ULong) id)
 
--- the line, which the fourth octet completes
+-- the line; the fourth octet completes it
 abbrev pub request_id_said : ℕ → TimedLine
 request_id_said id = record { at = 4; line_class = Value; text = request_id_text id }

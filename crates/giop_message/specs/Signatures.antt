@@ -1,5 +1,5 @@
--- The types of a message's parts, by a catalogue and the operations that the ids of replies answer:
--- those of headers, and those that bodies can have (meaning).
+-- The types of a message's parts, for a catalogue and the operations that the ids of replies
+-- answer: the types of headers, and those that bodies can have (meaning).
 use Rattle.std.specs.Prelude.{ℕ, Bool, ◌&&◌, cond, List, Option, None, Some, nat_le}
 use Rattle.std.specs.Option.{option_map, option_and_then}
 use Rattle.giop_sig.specs.declared.types.OpId.{OpId}
@@ -13,17 +13,18 @@ use Rattle.giop_sig.specs.HeaderTypes.{header_type, fixed_type}
 use Rattle.giop_sig.specs.RequestList.{kept_operation}
 
 pub record Signatures : Type 0 where
-  -- the type of a header, by the minor version and the message type
+  -- the type of a header, from the minor version and the message type
   pub header : ℕ → ℕ → Option Ty
-  -- In a message of a minor version: the struct of an operation's parameters, by its name and the
-  -- object key, and that of its results, by the id of the request.
+  -- In a message of this minor version: the struct of an operation's parameters, from its name and
+  -- the object key; and the struct of its results, from the id of the request.
   pub request : ℕ → List ℕ → Option (List ℕ) → Option Ty
   pub reply : ℕ → ℕ → Option Ty
   -- the repository id of the interface of an object key
   pub interface : Option (List ℕ) → Option (List ℕ)
   -- whether a LocateReply has a typed body
   pub has_locate_bodies : Bool
-  -- in a message of a minor version, the struct of an exception's members, by its repository id
+  -- in a message of this minor version: the struct of an exception's members, from its repository
+  -- id
   pub members : ℕ → List ℕ → Option Ty
   -- the repository id of an exception, and the bodies of the other replies
   pub exception_id : Ty
@@ -31,24 +32,24 @@ pub record Signatures : Type 0 where
   pub forward : Ty
   pub addressing : Ty
 
--- the table of a request list: the ids, each once, with their operations
+-- the table of a request list: the ids with their operations; no id comes twice
 abbrev pub RequestTable : Type 0
 RequestTable = List (ℕ × Option OpId)
 
--- the operation that an id answers: in a Reply, the id of its request
+-- the operation that an id answers; a Reply has the id of its request
 abbrev pub Answer : Type 0
 Answer = ℕ → Option OpId
 
--- of each message, by its number
+-- the answers of the ids in each message, from the message's number
 abbrev pub Answers : Type 0
 Answers = ℕ → Answer
 
--- a list says the same in each message
+-- a request list gives the same answers in each message
 abbrev pub by_list : RequestTable → Answers
 by_list request_table number id = kept_operation request_table id
 
--- The type of a body: none if it has wide text in a message of 1.0 or 1.1, in which that has no
--- form that is sure (CDR Transfer Syntax, Strings and Wide Strings).
+-- The type of a body. It has none if it has wide text and the message is one of 1.0 or 1.1, in
+-- which the form of wide text isn't certain (CDR Transfer Syntax, Strings and Wide Strings).
 abbrev pub body_tree : Table → ℕ → Option Ty
 body_tree C i = cond (C.narrow && wide_in C.types i) None (Some (tree C i))
 
@@ -61,7 +62,7 @@ reply_type C o = body_tree C (operation_at C o.0).reply
 abbrev pub members_type : Table → TypeId → Option Ty
 members_type C t = body_tree C t.0
 
--- the operation of a Request, by its name and the object key
+-- the operation of a Request, from its name and the object key
 abbrev pub called_operation : Table → Option (List ℕ) → List ℕ → Option OpId
 called_operation C key name = operation_for C name (whose C key)
 
@@ -71,7 +72,7 @@ interface_of C key = option_map (λ i. interface_name C i.0) (whose C key)
 
 unfoldable pub signatures_of : Table → Answer → Signatures
 signatures_of C answer = record {
-  header = header_type;
+  header = header_type C.version;
   request = λ minor name key.
       option_and_then (request_type (in_version minor C)) (called_operation C key name);
   reply = λ minor id. option_and_then (reply_type (in_version minor C)) (answer id);
@@ -79,8 +80,8 @@ signatures_of C answer = record {
   has_locate_bodies = nat_le 3 C.version;
   members = λ minor repository.
       option_and_then (members_type (in_version minor C)) (exception_in C repository);
-  exception_id = fixed_type ExceptionId;
-  system_exception = fixed_type SystemException;
-  forward = fixed_type Forward;
-  addressing = fixed_type Addressing;
+  exception_id = fixed_type C.version ExceptionId;
+  system_exception = fixed_type C.version SystemException;
+  forward = fixed_type C.version Forward;
+  addressing = fixed_type C.version Addressing;
 }

@@ -1,4 +1,4 @@
--- One octet more, by where a message is (steps).
+-- One more octet, from the stage of a message (steps).
 use Rattle.std.specs.Prelude.{ℕ, ◌+◌, List, [], ◌∷◌, ◌++◌, length, ◌==◌, nat_lt, if◌then◌else◌}
 use Rattle.giop_cdr.specs.Alignment.{padding}
 use Rattle.giop_decode.specs.ReadResult.{plain}
@@ -12,7 +12,7 @@ rest_step offset held at =
     if length held == 32 then ReadTo (only_lines (line_at at (RestLine offset held) ∷ [])) at
     (In_rest (offset + 32) []) else ReadTo nothing_said at (In_rest offset held)
 
--- The octet is at that offset. After a part that ends, what follows it is read with no octets.
+-- The octet is at this offset. After a part that ends, what follows it is read from no octets.
 unfoldable pub message_step : Signatures → List ℕ → ℕ → Stage → ℕ → Message
 message_step S header at (In_typed section h outer leaf) b =
     section_and_rest S header section h
@@ -26,7 +26,7 @@ message_step S header at Over b = ReadTo nothing_said at Over
 unfoldable pub advance : Signatures → List ℕ → Message → ℕ → Message
 advance S header (ReadTo said at stage) b = with_front said (message_step S header at stage b)
 
--- a message after these octets more
+-- a message after these octets
 abbrev pub goes_on : Signatures → List ℕ → Message → List ℕ → Message
 goes_on S header m [] = m
 goes_on S header m (b ∷ t) = goes_on S header (advance S header m b) t

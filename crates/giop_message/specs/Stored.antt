@@ -1,14 +1,15 @@
 -- What a checkpoint keeps of a message, as octets (docs/FORMATS.md; state). A message has 224
--- octets, its number and its header apart. Of these 16 are its own:
+-- octets, in addition to its number and its header. 16 of them are those of the message itself:
 --
 --     at  octets
--- 0 1 the part that it is in: 0 header, 1 repository id, 2 body, 3 padding, 4 rest, 5 system
--- exception
---      1       8  offset of its next octet, at least 12
--- 9 5 whether its request id was read, 0 or 1, and the id; zero in the header, whose decoder has it
+--      0       1  the part in which it is: 0 header, 1 repository id, 2 body, 3 padding, 4 rest,
+--                 5 system exception
+--      1       8  the offset of its next octet, at least 12
+--      9       5  whether its request id was read, 0 or 1, and the id; all are zero in the header,
+--                 since the decoder has the id there
 --     14       2  zero
 --
--- and 208 are those of the decoder of a header, a repository id or a body, or of padding:
+-- The other 208 are those of the decoder of a header, a repository id or a body; or of padding:
 --
 --      0       1  the body after it: 0 none, 1 of a type, 2 an exception, 3 a system exception
 --      1       4  the type; else 0
@@ -20,7 +21,7 @@
 --      8      33  its last part: how many octets, and room for 32
 --     41     167  zero
 --
--- A decoder has its frames besides. Numbers are big-endian; held octets are followed by zeros.
+-- A decoder has its frames in addition. Numbers are big-endian; held octets are followed by zeros.
 use Rattle.std.specs.Prelude.{◌≡◌, ℕ, ◌^◌, ◌<◌, cond, List, [], ◌∷◌, ◌++◌, take, drop, replicate, Option, None, IfSome}
 use Rattle.giop_octets.specs.Fields.{four, eight, optional, held}
 use Rattle.giop_cdr.specs.declared.order.Order.{Order}
@@ -55,11 +56,12 @@ part_octet (parts.Typed section) = section_octet section
 part_octet (parts.Padding body_type_id) = 3
 part_octet (parts.Rest r) = 4
 
--- The request id has a field of its own once the header has ended: until then the decoder has it.
+-- After the header has ended, the request id has a field of its own; until then, the decoder has
+-- it.
 abbrev pub kept_id : Part → Option ℕ → Option ℕ
 kept_id part id = cond (in_header part) None id
 
--- the 16 octets of its own: the part, the offset of the next octet, and the request id
+-- the 16 octets of the message itself: the part, the offset of the next octet, and the request id
 unfoldable pub own_octets : Message → List ℕ
 own_octets m = part_octet m.part ∷ eight m.at ++ optional (kept_id m.part m.id) ++ replicate 2 0
 
@@ -70,24 +72,24 @@ body_type_octets (body_type_ids.Type of) = 1 ∷ four of.0
 body_type_octets body_type_ids.Exception = 2 ∷ four 0
 body_type_octets body_type_ids.SystemException = 3 ∷ four 0
 
--- the 208 octets of the padding in front of such a body
+-- the 208 octets of the padding before such a body
 unfoldable pub padding_octets : BodyTypeId → List ℕ
 padding_octets body_type_id = body_type_octets body_type_id ++ replicate 203 0
 
--- the 208 octets of a rest: the offset of its last part, and the octets of that
+-- the 208 octets of a rest: the offset of its last part, and the octets of that part
 unfoldable pub rest_octets : Rest → List ℕ
 rest_octets r = eight r.offset ++ held 32 r.held.items ++ replicate 167 0
 
--- ---- a message in them
+-- ---- the message that octets store
 
--- what the fields can hold
+-- the number of the type fits into its field
 abbrev pub BodyTypeIdHasRange : BodyTypeId → Type 0
 BodyTypeIdHasRange body_type_ids.Nothing = Unit {0}
 BodyTypeIdHasRange (body_type_ids.Type of) = of.0 < 2 ^ 32
 BodyTypeIdHasRange body_type_ids.Exception = Unit {0}
 BodyTypeIdHasRange body_type_ids.SystemException = Unit {0}
 
--- these 208 octets are those of the padding in front of such a body
+-- these 208 octets are those of the padding before such a body
 pub record IsPaddingOf (octets : List ℕ) (body_type_id : BodyTypeId) : Type 0 where
   pub is : octets ≡ padding_octets body_type_id
   pub range : BodyTypeIdHasRange body_type_id
@@ -97,14 +99,14 @@ pub record IsRestOf (octets : List ℕ) (r : Rest) : Type 0 where
   pub is : octets ≡ rest_octets r
   pub range : r.offset < 2 ^ 64
 
--- these 16 octets are a message's own
+-- these 16 octets are those of the message itself
 pub record IsOwnOf (octets : List ℕ) (m : Message) : Type 0 where
   pub is : octets ≡ own_octets m
   pub at : m.at < 2 ^ 64
   pub id : IfSome (kept_id m.part m.id) (λ n. n < 2 ^ 32)
 
--- a part, with the decoder of a section, is stored in these 208 octets and these frames, which only
--- a decoder has
+-- a part, with its decoder if it is a section, is stored in these 208 octets and these frames; only
+-- a decoder has frames
 abbrev pub PartStored : Decoder → Part → List ℕ → List ℕ → Type 0
 PartStored d (parts.Typed section) octets frames = decoders.Stored d octets frames
 PartStored d (parts.Padding body_type_id) octets frames =
@@ -116,18 +118,18 @@ pub record Stored (m : Message) (fixed frames : List ℕ) : Type 0 where
   pub own : IsOwnOf (take 16 fixed) m
   pub part : PartStored m.decoder m.part (drop 16 fixed) frames
 
--- ---- a part that goes on for another
+-- ---- a part that goes on in the place of another
 
 pub record IsSameRest (q r : Rest) : Type 0 where
   pub offset : q.offset ≡ r.offset
   pub held : q.held.items ≡ r.held.items
 
--- The other decoder reads whatever this one does.
+-- The other decoder reads all that this one reads.
 pub record ReadsOn (C : Table) (d e : Decoder) : Type 0 where
   pub reads : (T : Ty) (order : Order) (at message : ℕ) (root : Root) (s : List ℕ) →
       decoder.Reads C T order at message root d s → decoder.Reads C T order at message root e s
 
--- the other part, with its decoder, goes on where this one is
+-- the other part, with its decoder, goes on in the place of this one
 abbrev pub GoesOn : Table → Decoder → Part → Decoder → Part → Type 0
 GoesOn C d (parts.Typed section) e (parts.Typed other) = (other ≡ section) × ReadsOn C d e
 GoesOn C d (parts.Padding body_type_id) e (parts.Padding other) = other ≡ body_type_id

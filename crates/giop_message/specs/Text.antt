@@ -11,11 +11,11 @@ use Rattle.giop_message.specs.MessageReader.{LineClass, Value, Call, Rest, Fault
 
 -- ---- lines without the number
 
--- the value at a path
+-- the line of the value at a path
 unfoldable pub value_line_text : List ℕ → spine.Value → List ℕ
 value_line_text path value = joined (path ∷ value_words value)
 
--- with the interface of the object key, if it has one
+-- the line of a call, with the interface of the object key if there is one
 unfoldable pub call_text : ℕ → List ℕ → Option (List ℕ) → List ℕ
 call_text id operation None = joined (codes "call " ∷ decimal id ∷ codes " " ∷ operation ∷ [])
 call_text id operation (Some interface) =
@@ -37,11 +37,11 @@ fault_word kinds.Untyped = codes "untyped"
 
 -- ---- whole lines
 
--- a line of the message
+-- a whole line of the message
 unfoldable pub numbered_line : ℕ → List ℕ → List ℕ
 numbered_line number text = joined (codes "m" ∷ decimal number ∷ codes " " ∷ text ∷ codes "\n" ∷ [])
 
--- a line of this class; a fault's names its place in the stream
+-- a line of this class; the line of a fault names its place in the stream
 abbrev pub line_class_text : ℕ → ℕ → LineClass → List ℕ → List ℕ
 line_class_text place number Value text = numbered_line number text
 line_class_text place number Call text = numbered_line number text

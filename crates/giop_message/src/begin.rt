@@ -1,4 +1,5 @@
-//! What begins: a message in the place of another, and what comes after a part of it that has ended.
+//! What begins: a message in the place of another, and what comes after a part of a message that
+//! has ended.
 
 ghost use Rattle.std.specs.Prelude.{◌≡◌, ℕ, ◌+◌, ◌<◌, List, [], length, true, false, cond, nat_lt};
 ghost use Rattle.giop_sig.specs.Trees.{tree};
@@ -24,7 +25,8 @@ use giop_decode::Decoder;
 use giop_print::Root;
 use giop_sig::{Catalogue, Fixed, TypeId};
 
-/// The request id after what has come of a section: a header's own, or the one from before.
+/// The request id after a section has ended: the one of the header if the section is the header,
+/// else the one from before.
 pub(crate) fn id_behind(section: Section, decoder: &Decoder, before: Option<u32>) -> Option<u32>
     ensures { (C : Table) (r : MessageReader) → KeepsNoted C (root_of section) decoder.now r →
         result ≡ cond (is_header section) (noted_of true r).request_id before }
@@ -37,7 +39,7 @@ pub(crate) fn id_behind(section: Section, decoder: &Decoder, before: Option<u32>
     }
 }
 
-/// Whether a header is that of a Request or a Reply.
+/// Whether a header is the header of a Request or a Reply.
 fn is_of_call(header: &[u8]) -> bool
     requires { length header.now ≡ 12 }
     ensures { result ≡ nat_lt (kind header.now) 2 }
@@ -54,7 +56,7 @@ fn is_aligned(header: &[u8]) -> bool
     is_of_call(header) && minor_of(header) == 2
 }
 
-/// A decoder for a message that is in no section.
+/// A decoder for a message that isn't in a section.
 pub(crate) fn idle(catalogue: &Catalogue) -> Decoder {
     let of = catalogue.fixed(Fixed::ExceptionId);
     Decoder::start(catalogue, of, Order::Big, 12, 0, Root::Exception, 2)
@@ -69,7 +71,7 @@ impl Message {
     ghost use Rattle.giop_message.specs.HeaderEnds.{after_event, operation_of};
     ghost use Rattle.giop_message.specs.MessageSteps.{is_padded, Arrives, Enters, IsTyped, Ended, section_event};
 
-    /// Begins a message of this number, whose header has come, in the place of another.
+    /// Begins a message with this number and this header in the place of another.
     pub fn restart(&mut self, catalogue: &Catalogue, number: u64, header: [u8; 12])
         ensures follows { (answers : Answers) →
             Follows catalogue.now answers number header self.new [] }
@@ -101,7 +103,7 @@ impl Message {
         self.part = Part::Rest(Rest::new());
     }
 
-    /// Begins a section of this type, which has octets.
+    /// Begins a section of this type, which takes octets.
     fn begin(&mut self, catalogue: &Catalogue, section: Section, of: TypeId)
         requires known { of.0 < length catalogue.now.types }
         requires some { IsEmptyStruct
@@ -134,7 +136,7 @@ impl Message {
         ensures fits { Fits catalogue.now self.new }
         ensures enters { (answers : Answers) (number : ℕ) (header s : List ℕ) →
             Enters catalogue.now answers number header self.old self.new s section
-            (fixed_type fixed) }
+            (fixed_type catalogue.now.version fixed) }
     {
         let of = catalogue.in_version(minor_of(&self.header)).fixed(fixed);
         self.begin(catalogue, section, of);
@@ -187,7 +189,7 @@ impl Message {
         }
     }
 
-    /// Goes on after its section, which has ended.
+    /// Goes on after the section, which has ended.
     #[inline(never)]
     pub(crate) fn leave<Q: Correspondent>(&mut self, catalogue: &Catalogue, correspondent: &mut Q)
         requires typed { IsTyped self.old.part }
@@ -243,7 +245,7 @@ impl Message {
         }
     }
 
-    /// Goes to the padding in front of the body.
+    /// Goes to the padding before the body.
     #[inline(never)]
     fn begin_padding(&mut self, body_type_id: BodyTypeId)
         ensures { self.new ≡ record self.old { part = parts.Padding body_type_id } }
@@ -251,7 +253,7 @@ impl Message {
         self.part = Part::Padding(body_type_id);
     }
 
-    /// Whether there is padding in front of what follows a section.
+    /// Whether there is padding before what follows a section.
     fn is_padded(&self, section: Section) -> bool
         ensures { result ≡ is_padded self.now.header section self.now.at }
     {

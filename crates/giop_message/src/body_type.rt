@@ -22,8 +22,8 @@ use giop_decode::Decoder;
 use giop_print::Root;
 use giop_sig::{Catalogue, Fixed, OpId, SeenCatalogue, Shape, TypeId};
 
-/// The type of a body: none, this one, that of the exception whose repository id comes first, or that of a system
-/// exception.
+/// The type of a body: none, this type, the type of the exception whose repository id comes first,
+/// or the type of a system exception.
 #[derive(Clone, Copy)]
 pub enum BodyTypeId {
     Nothing,
@@ -32,7 +32,7 @@ pub enum BodyTypeId {
     SystemException,
 }
 
-/// The type of what follows a section, by what its decoder has noted.
+/// The type of what follows a section, from what its decoder has noted.
 pub fn body_type_after<Q: Correspondent>(
     catalogue: &Catalogue,
     correspondent: &Q,
@@ -60,7 +60,8 @@ pub fn body_type_after<Q: Correspondent>(
     }
 }
 
-/// The type of a message's body, by the message type and by what the decoder of its header has noted.
+/// The type of a message's body, from the message type and from what the decoder of its header has
+/// noted.
 fn header_body<Q: Correspondent>(
     catalogue: &Catalogue,
     correspondent: &Q,
@@ -96,7 +97,7 @@ fn header_body<Q: Correspondent>(
     BodyTypeId::Nothing
 }
 
-/// The type of an exception's members, by its repository id.
+/// The type of an exception's members, from its repository id.
 #[tactic(auto, unfolding(crate::specs::Messages::members_of, crate::specs::Messages::type_if, crate::specs::Signatures::signatures_of))]
 fn members_body(catalogue: &Catalogue, header: &[u8], repository: Option<&[u8]>) -> BodyTypeId
     requires { length header.now ≡ 12 }
@@ -115,7 +116,7 @@ fn members_body(catalogue: &Catalogue, header: &[u8], repository: Option<&[u8]>)
     }
 }
 
-/// The type of a Request's body, by its operation.
+/// The type of a Request's body, from its operation.
 #[tactic(auto, unfolding(crate::specs::Messages::type_if))]
 fn request_body(catalogue: &Catalogue, header: &[u8], operation: Option<OpId>) -> BodyTypeId
     requires header { length header.now ≡ 12 }
@@ -130,7 +131,7 @@ fn request_body(catalogue: &Catalogue, header: &[u8], operation: Option<OpId>) -
     }
 }
 
-/// The type of a Reply's results, by its request id.
+/// The type of a Reply's results, from its request id.
 #[tactic(auto, unfolding(crate::specs::Messages::result_body, crate::specs::Messages::type_if, crate::specs::Signatures::signatures_of))]
 fn result_body<Q: Correspondent>(
     catalogue: &Catalogue,
@@ -153,7 +154,7 @@ fn result_body<Q: Correspondent>(
     }
 }
 
-/// The type of a Reply's body, by its status and its request id.
+/// The type of a Reply's body, from its status and its request id.
 #[tactic(auto, unfolding(crate::specs::Messages::reply_body, crate::specs::Signatures::signatures_of))]
 fn reply_body<Q: Correspondent>(
     catalogue: &Catalogue,
@@ -182,14 +183,15 @@ fn reply_body<Q: Correspondent>(
     }
 }
 
-/// Whether a LocateReply has a typed body: since version 3 of signature files.
+/// Whether a LocateReply has a typed body. It has one if the version of the signature file is at
+/// least 3.
 fn has_locate_bodies(catalogue: &Catalogue) -> bool
     ensures { result ≡ nat_le 3 catalogue.now.version }
 {
     catalogue.version() >= 3
 }
 
-/// The type of a LocateReply's body, by its status.
+/// The type of a LocateReply's body, from its status.
 #[tactic(auto, unfolding(crate::specs::Messages::locate_body, crate::specs::Signatures::signatures_of))]
 fn locate_body(catalogue: &Catalogue, header: &[u8], status: Option<u32>) -> BodyTypeId
     requires { length header.now ≡ 12 }
@@ -212,7 +214,7 @@ fn locate_body(catalogue: &Catalogue, header: &[u8], status: Option<u32>) -> Bod
     }
 }
 
-/// The body of a type, or none, if it has wide text in a message of 1.0 or 1.1.
+/// The body with this type, or none if the type has wide text and the message is one of 1.0 or 1.1.
 fn readable(catalogue: &Catalogue, header: &[u8], of: TypeId) -> BodyTypeId
     requires header { length header.now ≡ 12 }
     requires known { of.0 < length catalogue.now.types }
@@ -226,17 +228,18 @@ fn readable(catalogue: &Catalogue, header: &[u8], of: TypeId) -> BodyTypeId
     BodyTypeId::Type(of)
 }
 
-/// The body of a type that no signature file declares.
+/// The body with a type that no signature file declares.
 fn fixed_body(catalogue: &Catalogue, header: &[u8], fixed: Fixed) -> BodyTypeId
     requires { length header.now ≡ 12 }
     ensures is { body_type (in_version (minor header.now) catalogue.now) result
-        ≡ Typed (fixed_type fixed) }
+        ≡ Typed (fixed_type catalogue.now.version fixed) }
     ensures known { IsKnown catalogue.now result }
 {
     BodyTypeId::Type(catalogue.in_version(minor_of(header)).fixed(fixed))
 }
 
-/// Whether a message may end where this body would begin, by the catalogue in the message's version.
+/// Whether a message may end at the place where this body would begin, for the catalogue in the
+/// message's version.
 pub fn body_may_be_missing(catalogue: &SeenCatalogue<'_>, body_type_id: BodyTypeId) -> bool
     requires { IsKnown catalogue.now body_type_id }
     ensures { result ≡ body_may_be_missing (body_type catalogue.now body_type_id) }

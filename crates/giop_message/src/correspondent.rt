@@ -10,32 +10,34 @@ ghost use Rattle.giop_message.specs.HeaderEnds.{CallEvent, Requested, Replied, R
 
 use giop_sig::{OpId, Requests};
 
-/// What is known of the calls that the replies of a stream answer. Where the header of a Reply ends it is asked, if the
-/// body has results; then it is told of that header, and later of the exception that the Reply raises.
+/// What is known of the calls that the replies of a stream answer. When the header of a Reply ends,
+/// the correspondent is asked for the operation, if the body has results. Then it is told of that
+/// header, and later of the exception that the Reply raises.
 pub trait Correspondent {
-    /// What it knows.
+    /// What the correspondent knows.
     ghost State: { Type 0 };
 
     ghost state: { Self → State };
 
-    /// The operation that each request id answers, by what it knows.
+    /// The operation that each request id answers, from what is known.
     ghost answer: { State → Answer };
 
-    /// What it knows after an event.
+    /// What is known after an event.
     ghost notified: { State → CallEvent → State };
 
-    /// Whether it is due, by what it knows.
+    /// Whether the correspondent is due, from what is known.
     ghost due: { State → Bool };
 
-    /// Whether it is also due after each octet with which a message begins.
+    /// Whether the correspondent is also due after each octet with which a message begins.
     ghost awaits_messages: { Bool };
 
     /// The operation of the call with this request id, if it is known.
     fn operation(&self, id: u32) -> Option<OpId>
         ensures { result ≡ answer (state self.now) id };
 
-    /// The header of a Request has ended: the message's number in its stream, from 1, the request id, the name of the
-    /// operation, if a call line can show it, the operation, if it is known, and whether a reply is expected.
+    /// The header of a Request has ended. The correspondent is told the message's number in its
+    /// stream, from 1; the request id; the name of the operation, if a call line can show it; the
+    /// operation, if it is known; and whether a reply is expected.
     fn called(
         &mut self,
         number: u64,
@@ -47,33 +49,38 @@ pub trait Correspondent {
         ensures { state self.new ≡ notified (state self.old)
             (Requested number id (option_map (λ x. x.now) name.entry) operation expects_reply) };
 
-    /// The header of a Reply has ended: the message's number in its stream, from 1, and the id of the request that it
-    /// answers.
+    /// The header of a Reply has ended. The correspondent is told the message's number in its
+    /// stream, from 1, and the id of the request that the Reply answers.
     fn answered(&mut self, number: u64, id: u32)
         ensures { state self.new ≡ notified (state self.old) (Replied number id) };
 
-    /// A Reply raises an exception: the message's number in its stream, from 1, and the exception's name, of 1 to 128
-    /// octets, each in 21..7e. Of a USER_EXCEPTION it is the repository id, told once that has ended; of a
-    /// SYSTEM_EXCEPTION the exception_id, told once its body has ended. Of another name nothing is told (GIOP Message
-    /// Formats, Reply Body).
+    /// A Reply raises an exception. The correspondent is told the message's number in its stream,
+    /// from 1, and the exception's name: 1 to 128 octets, each in 21..7e (hexadecimal). For a
+    /// USER_EXCEPTION, the name is the repository id, and it is told when the id has ended; for a
+    /// SYSTEM_EXCEPTION, it is the exception_id, and it is told when the body has ended. If the
+    /// name is another one, nothing is told (GIOP Message Formats, Reply Body).
     fn raised(&mut self, number: u64, name: &[u8])
         ensures { state self.new ≡ notified (state self.old) (Raised number name.now) };
 
-    /// Whether it has something to write after the octet that was read last: the reading stops there. Who feeds writes it
-    /// then, and sees that it is due no more: with one that is due already the reading may stop after any octet.
+    /// Whether the correspondent has something to write after the octet that was read last. If it
+    /// has, the reading stops there, and the caller writes it and makes the correspondent not due.
+    /// If a correspondent is already due before a call, the reading may stop after any octet.
     fn is_due(&self) -> bool
         ensures { result ≡ due (state self.now) };
 
-    /// Whether the reading stops also after each octet with which a message begins, the 12th of its header.
+    /// Whether the reading also stops after each octet with which a message begins, the 12th of its
+    /// header.
     fn awaits_messages(&self) -> bool
         ensures { result ≡ awaits_messages };
 
-    /// Where it answers operations of a table alone, and is told of one of that table, it still does.
+    /// If a correspondent answers only operations of a table, and is told of an operation of that
+    /// table, it still answers only such operations.
     ghost known: { (C : Table) (s : State) (event : CallEvent) → AreKnown C (answer s) →
         HasKnownOperation C event → AreKnown C (answer (notified s event)) };
 }
 
-/// A request list answers each message alike, no event changes it, and it is never due.
+/// A request list gives the same answers for each message, no event changes it, and it is never
+/// due.
 impl<'a> Correspondent for &'a Requests {
     ghost State = { RequestTable };
 

@@ -1,4 +1,5 @@
-//! The laws of the reading of a message: what one octet more, or many, do to it, and what the stream needs of it.
+//! The laws of the reading of a message: what one more octet, or many more, do to it, and what the
+//! stream needs of it.
 
 ghost use Rattle.std.specs.Prelude.{◌≡◌, ℕ, List, [], ◌∷◌, ◌++◌, length, map, drop, Some};
 ghost use Rattle.std.specs.List.{list_any};
@@ -16,14 +17,14 @@ ghost use Rattle.giop_message.specs.MessageState.{due_text, timed_lines_text, cl
 ghost use Rattle.giop_message.specs.StageSteps.{advance, goes_on};
 ghost use Rattle.giop_message.specs.ReaderOfTable.{message_reader, first_request_id, is_over, is_wrong};
 
-/// A message of any header, by any table and whatever the ids answer, is read as its octets come. It has no body, and is
-/// called for its contract.
+/// A message of any header is read as its octets come, with each table and whatever the ids answer.
+/// The function has no body; it is called for its contract.
 pub fn message_laws()
-    // One octet more is one step from where the message is.
+    // One more octet is one step from the stage of the message.
     ensures step { (C : Table) (answer : Answer) (header s : List ℕ) (b : ℕ) →
         message (signatures_of C answer) header (s ++ b ∷ [])
         ≡ advance (signatures_of C answer) header (message (signatures_of C answer) header s) b }
-    // Many octets more are as many steps: a message may be left and resumed anywhere.
+    // Many more octets are as many steps: the reading of a message may stop and go on at any octet.
     ensures more { (C : Table) (answer : Answer) (header s t : List ℕ) →
         message (signatures_of C answer) header (s ++ t)
         ≡ goes_on (signatures_of C answer) header (message (signatures_of C answer) header s) t }
@@ -31,24 +32,27 @@ pub fn message_laws()
     ensures over { (C : Table) (answer : Answer) (header s : List ℕ) →
         is_over (stage_of (message (signatures_of C answer) header s))
         ≡ list_any is_wrong (message_lines (message (signatures_of C answer) header s)) }
-    // What the stream needs of a reading: more octets change no lines of those before them,
+    // What the stream needs of a reading: more octets don't change the lines of the octets before
+    // them;
     ensures stays { (C : Table) (answers : Answers) → IsCausal (message_reader C answers) }
-    // a close ends a message,
+    // a close ends a message;
     ensures ends { (C : Table) (answers : Answers) → IsEnding (message_reader C answers) }
-    // the first four octets of a message that begins with its request id have only lines of values,
+    // if a message begins with its request id, its first four octets have only lines of values;
     ensures named { (C : Table) (answers : Answers) → HasOnlyValuesInId (message_reader C answers) }
-    // the lines of one octet come in their order, and a message that is faulted at its last octet has no rest left.
+    // the lines of one octet come in their order, and if a message is faulted at its last octet,
+    // nothing of the rest is left.
     ensures order { (C : Table) (answers : Answers) → IsOrdered (message_reader C answers) }
     ensures closing { (C : Table) (answers : Answers) → IsClosing (message_reader C answers) }
-    // The request id of a header that begins with it is the number of the first four octets.
+    // If a header begins with its request id, the id is the number of the first four octets. If the
+    // header begins with it in version 1, it does so with each table.
     ensures id { (C : Table) (answer : Answer) (header : List ℕ) (T : Ty) →
-        header_type (minor header) (kind header) ≡ Some T → BeginsWithId T →
+        header_type 1 (minor header) (kind header) ≡ Some T → BeginsWithId T →
         (a b c d : ℕ) (xs : List ℕ) →
         first_request_id (message_lines (message (signatures_of C answer) header
         (a ∷ b ∷ c ∷ d ∷ xs)))
         ≡ Some (num (order header) (a ∷ b ∷ c ∷ d ∷ [])) }
-    // What a message writes of more octets, and at its close, are the lines of the reading: with the number, and of a
-    // fault with its place in the stream.
+    // What a message writes for more octets, and at its close, are the lines of the reading: each
+    // with the message's number, and a fault with its place in the stream.
     ensures writes { (C : Table) (answers : Answers) (number place : ℕ) (header s more : List ℕ) →
         due_text (signatures_of C (answers number)) number place header s more
         ≡ timed_lines_text number place (length s)
@@ -58,16 +62,16 @@ pub fn message_laws()
         closing_text number place (close (stage_of
         (message (signatures_of C (answers number)) header s)))
         ≡ closes_text number place ((message_reader C answers).closes number header s) }
-    // What ends in octets, of which the correspondent is told, are the marks that the message then has more, by any table
-    // and whatever the ids answer.
+    // The correspondent is told of what ends in octets: these ends are the marks that the octets
+    // add to the message, with each table and whatever the ids answer.
     ensures told { (C : Table) (answer : Answer) (number : ℕ) (header s more : List ℕ) →
         header_ends number header s more ≡ map (end_of number header)
         (drop (length (message_marks (message (signatures_of C answer) header s)))
         (message_marks (message (signatures_of C answer) header (s ++ more)))) }
 {}
 
-/// No octet of a message has two lines of one class, with those of a close at it. It has no body, and is called for its
-/// contract.
+/// No two lines of one octet of a message, with those of a close at it, have the same class. The
+/// function has no body; it is called for its contract.
 pub fn apart_laws()
     ensures { (C : Table) (answers : Answers) → IsApart (message_reader C answers) }
 {}

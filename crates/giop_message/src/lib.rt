@@ -1,5 +1,5 @@
-//! One joined message: its header, its call line, its body by the types of a catalogue, and its rest, an octet at a
-//! time.
+//! One joined message: its header, its call line, its body by the types of a catalogue, and its
+//! rest, octet by octet.
 #![tactic(auto)]
 
 mod begin;

@@ -1,4 +1,5 @@
-//! One joined message: what it has begun and not ended, and the calls that take its octets and close it.
+//! One joined message: what it has begun and not ended, and the calls that take its octets and
+//! close it.
 
 ghost use Rattle.std.specs.Prelude.{◌≡◌, ℕ, ◌+◌, ◌^◌, ◌<◌, ◌≤◌, true, false, List, [], length, take, IfOk, None};
 ghost use Rattle.giop_print.specs.Output.{Writes};
@@ -17,12 +18,13 @@ use giop_sig::Catalogue;
 pub struct Message {
     pub(crate) number: u64,
     pub(crate) header: [u8; 12],
-    // The request id, once the header that has it has ended.
+    // The request id, after the header that has it has ended.
     pub(crate) id: Option<u32>,
     // The offset of the next octet.
     pub(crate) at: u64,
     pub(crate) part: Part,
-    // That of the section that it is in; in another part, of any.
+    // The decoder of the section in which the message is. If it is in another part, this may be any
+    // decoder.
     pub(crate) decoder: Decoder,
     ghost begun: { 12 ≤ at },
 }
@@ -37,7 +39,7 @@ impl Message {
     ghost use Rattle.giop_message.specs.DueOctets.{TakesFront, StaysUndue};
     ghost use Rattle.giop_message.specs.MessageState.{AreKnown, Fits, Follows, due_text, reach, closing_text, is_short};
 
-    /// A message of this number whose header has come.
+    /// A message with this number, whose header has come.
     pub fn start(catalogue: &Catalogue, number: u64, header: [u8; 12]) -> Message
         ensures follows { (answers : Answers) →
             Follows catalogue.now answers number header result [] }
@@ -56,9 +58,9 @@ impl Message {
         message
     }
 
-    /// Takes octets, after n octets of the stream, up to the first one after which the correspondent is due. Answers
-    /// how many it took, and whether the last of them is faulted: then its fault is written, and the message takes no
-    /// more.
+    /// Takes octets, after `place` octets of the stream, up to the first one after which the
+    /// correspondent is due. Returns how many it took, and whether the last of them is faulted. If
+    /// it is, the fault is written, and the message takes no more octets.
     pub fn take<O: Out, Q: Correspondent>(
         &mut self,
         catalogue: &Catalogue,
@@ -72,8 +74,9 @@ impl Message {
         requires before { reach self.old ≤ place }
         requires limit { place + length octets.now ≤ 2 ^ 48 }
         ensures known { AreKnown catalogue.now (Q.answer (Q.state correspondent.new)) }
-        // Let `answers` give the operations that the ids of each message answer, and agree with the correspondent where
-        // the header ends in these octets. The lines that those complete that it takes are written, or a front of them,
+        // Let `answers` give the operations that the ids of each message answer, and let it agree
+        // with the correspondent if the header ends in these octets. The lines of the octets that
+        // the call takes are written, or a front of these lines;
         ensures writes { (answers : Answers) (number : ℕ) (header s : List ℕ) →
             Follows catalogue.now answers number header self.old s →
             AgreesAtEnds Q.answer Q.notified catalogue.now (Q.state correspondent.old) answers
@@ -83,7 +86,7 @@ impl Message {
             (λ xs. Writes result (O.log out.old) (O.log out.new) (due_text
             (signatures_of catalogue.now (answers number)) number place header s xs))
             result octets.now }
-        // the message follows the octets that it has taken, with these,
+        // the message follows its old octets and these;
         ensures took { IfOk result (λ went. (answers : Answers) (number : ℕ) (header s : List ℕ) →
             Follows catalogue.now answers number header self.old s →
             AgreesAtEnds Q.answer Q.notified catalogue.now (Q.state correspondent.old) answers
@@ -96,7 +99,8 @@ impl Message {
             (header_ends number header s octets.now) →
             Q.state correspondent.new ≡ after_ends Q.notified catalogue.now
             (Q.state correspondent.old) (header_ends number header s (take went.0 octets.now))) }
-        // If octets are left, the correspondent is due; and it isn't after a fault, unless it was before.
+        // If octets are left, the correspondent is due. After a fault it isn't due, unless it was
+        // due before the call.
         ensures due { IfOk result (λ went. went.1 ≡ false → went.0 < length octets.now →
             Q.due (Q.state correspondent.new) ≡ true) }
         ensures over { IfOk result (λ went. Q.due (Q.state correspondent.old) ≡ false →
@@ -127,8 +131,8 @@ impl Message {
         Ok((taken, false))
     }
 
-    /// Closes the message at a place of the stream: writes what is left of its rest, and its end, or that it is short.
-    /// Answers whether it was short.
+    /// Closes the message at a place of the stream: writes what is left of its rest, and its end;
+    /// or that the message is short. Returns whether it was short.
     pub fn close<O: Out>(
         &self,
         catalogue: &Catalogue,
@@ -154,7 +158,8 @@ impl Message {
         Ok(false)
     }
 
-    /// Whether a close would be inside its header, a repository id or its body, or without a body that it needs.
+    /// Whether a close would come inside the header, a repository id or the body, or would leave
+    /// out a body that is needed.
     fn is_short(&self, catalogue: &Catalogue) -> bool
         requires { Fits catalogue.now self.now }
         ensures { (answers : Answers) (number : ℕ) (header s : List ℕ) →
@@ -171,7 +176,7 @@ impl Message {
         }
     }
 
-    /// Writes the last part of its rest, where there is one.
+    /// Writes the last part of the rest, if it has octets.
     fn last_rest<O: Out>(&self, out: &mut O) -> Result<(), OutFault>
         ensures { Writes result (O.log out.old) (O.log out.new)
             (last_rest_text self.now.number self.now.part) }
@@ -183,21 +188,21 @@ impl Message {
         }
     }
 
-    /// Its number.
+    /// The message's number.
     pub fn number(&self) -> u64
         ensures { result ≡ self.now.number }
     {
         self.number
     }
 
-    /// The octets of its header.
+    /// The octets of the header.
     pub fn header(&self) -> [u8; 12]
         ensures { result ≡ self.now.header }
     {
         self.header
     }
 
-    /// The request id of its header, once that has come.
+    /// The request id of the header, if it has come.
     pub fn request_id(&self) -> Option<u32>
         ensures { (C : Table) (answers : Answers) (number : ℕ) (header s : List ℕ) →
             Follows C answers number header self.now s

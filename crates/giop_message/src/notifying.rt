@@ -1,5 +1,5 @@
-//! What the correspondent of a stream is told where the header of a message ends, and where the name of an exception that
-//! a Reply raises does.
+//! What the correspondent of a stream is told when the header of a message ends, and when the name
+//! of an exception ends that a Reply raises.
 
 ghost use Rattle.std.specs.Prelude.{◌≡◌, ◌<◌, length, true, false, None};
 ghost use Rattle.std.specs.Option.{option_map};
@@ -21,7 +21,7 @@ use giop_decode::Decoder;
 use giop_print::Root;
 use giop_sig::{Catalogue, OpId};
 
-/// The operation that a Request names, where the section that has ended is its header.
+/// The operation that a Request names, if the section that has ended is its header.
 pub fn operation_of(
     catalogue: &Catalogue,
     header: &[u8],
@@ -43,7 +43,8 @@ pub fn operation_of(
     }
 }
 
-/// The operation that a Request names, by the decoder of its header: of the interface of its object key, if there is one.
+/// The operation that a Request names, from the decoder of its header: the operation of the object
+/// key's interface, if there is one.
 #[tactic(auto, unfolding(crate::specs::HeaderEnds::operation_of))]
 fn named_operation(catalogue: &Catalogue, header: &[u8], decoder: &Decoder) -> Option<OpId>
     requires header { length header.now ≡ 12 }
@@ -60,8 +61,8 @@ fn named_operation(catalogue: &Catalogue, header: &[u8], decoder: &Decoder) -> O
     catalogue.operation_for(name, decoder.interface(catalogue))
 }
 
-/// Tells the correspondent of the section of a message that has ended: of a header, with the operation that it names, or
-/// of the exception that a Reply raises.
+/// Tells the correspondent of the section of a message that has ended: of a header and the
+/// operation that it names, or of the exception that a Reply raises.
 pub fn notify_of_section<Q: Correspondent>(
     correspondent: &mut Q,
     number: u64,
@@ -86,7 +87,7 @@ pub fn notify_of_section<Q: Correspondent>(
     }
 }
 
-/// Tells of a header, by the message type.
+/// Tells the correspondent of a header, depending on the message type.
 #[tactic(auto, unfolding(crate::specs::HeaderEnds::header_event))]
 fn notify_of_header<Q: Correspondent>(
     correspondent: &mut Q,
@@ -112,7 +113,7 @@ fn notify_of_header<Q: Correspondent>(
     }
 }
 
-/// Whether a Request expects a reply; one of which it wasn't read does.
+/// Whether a Request expects a reply. If this wasn't read, it does.
 fn expects_reply(decoder: &Decoder) -> bool
     ensures { (C : Table) (r : Read) → KeepsNoted C Root.Header decoder.now r →
         result ≡ expects_reply (noted_of true r).expects_reply }
@@ -123,7 +124,8 @@ fn expects_reply(decoder: &Decoder) -> bool
     }
 }
 
-/// Tells of a Request: its id, its name, its operation, and whether it expects a reply.
+/// Tells the correspondent of a Request: its id, its name, its operation, and whether it expects a
+/// reply.
 fn notify_of_request<Q: Correspondent>(
     correspondent: &mut Q,
     number: u64,
@@ -145,7 +147,7 @@ fn notify_of_request<Q: Correspondent>(
     correspondent.called(number, id, shown(decoder.name()), operation, expects_reply);
 }
 
-/// Tells of a Reply: the id that it answers.
+/// Tells the correspondent of a Reply: the id that it answers.
 fn notify_of_reply<Q: Correspondent>(correspondent: &mut Q, number: u64, decoder: &Decoder)
     ensures known { (C : Table) → AreKnown C (Q.answer (Q.state correspondent.old)) →
         AreKnown C (Q.answer (Q.state correspondent.new)) }
@@ -158,8 +160,8 @@ fn notify_of_reply<Q: Correspondent>(correspondent: &mut Q, number: u64, decoder
     }
 }
 
-/// Tells of the exception that a Reply raises: its name, the last string that the decoder has read, if a call line could
-/// show it.
+/// Tells the correspondent of the exception that a Reply raises: its name, which is the last string
+/// that the decoder has read, if a call line could show it.
 fn notify_of_exception<Q: Correspondent>(correspondent: &mut Q, number: u64, decoder: &Decoder)
     ensures known { (C : Table) → AreKnown C (Q.answer (Q.state correspondent.old)) →
         AreKnown C (Q.answer (Q.state correspondent.new)) }
@@ -172,7 +174,7 @@ fn notify_of_exception<Q: Correspondent>(correspondent: &mut Q, number: u64, dec
     }
 }
 
-/// A name that a call line can show.
+/// The name, if a call line can show it.
 fn shown(name: Option<&[u8]>) -> Option<&[u8]>
     ensures { option_map (λ x. x.now) result ≡ shown (option_map (λ x. x.now) name.entry) }
 {

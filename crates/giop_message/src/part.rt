@@ -1,4 +1,4 @@
-//! The parts of a message, each with what it keeps of the octets that have come of it.
+//! The parts of a message, and what each keeps of the octets of it that have come.
 
 ghost use Rattle.std.specs.Prelude.{◌≡◌, ℕ, ◌+◌, ◌-◌, ◌^◌, ◌<◌, ◌≤◌, List, [], ◌++◌, length, OnOk};
 ghost use Rattle.arrayvec.specs.ArrayVec.{array_vec_len};
@@ -22,7 +22,7 @@ pub enum Section {
 impl Section {
     ghost use Rattle.giop_message.specs.Messages.{root_of};
 
-    /// The root of its lines.
+    /// The root of the section's lines.
     pub(crate) fn root(self) -> Root
         ensures { result ≡ root_of self }
     {
@@ -35,22 +35,22 @@ impl Section {
     }
 }
 
-/// The part of a message that the next octet belongs to.
+/// The part of a message to which the next octet belongs.
 #[derive(Drop)]
 pub enum Part {
-    /// A value that has begun and not ended, which the message's decoder reads.
+    /// A value that has begun and not ended. The message's decoder reads it.
     Typed(Section),
-    /// The padding in front of a body of this type.
+    /// The padding before a body of this type.
     Padding(BodyTypeId),
     Rest(Rest),
 }
 
-/// The octets after the body, or after a header without one.
+/// The octets after the body, or after a header without a body.
 #[derive(Drop)]
 pub struct Rest {
-    // How many of them are before their last part: a multiple of 32.
+    // How many octets of the rest are before its last part: a multiple of 32.
     pub(crate) offset: u64,
-    // Their last part.
+    // The last part of the rest.
     pub(crate) held: ArrayVec<u8, 32>,
     ghost room: { array_vec_len held < 32 },
 }
@@ -61,7 +61,7 @@ impl Rest {
     ghost use Rattle.giop_message.specs.MessageState.{message_lines_text};
     ghost use Rattle.giop_message.specs.MessageSteps.{held_text};
 
-    /// A rest of no octets.
+    /// A rest without octets.
     pub(crate) fn new() -> Rest
         ensures offset { result.offset ≡ 0 }
         ensures held { result.held.items ≡ [] }
@@ -72,15 +72,15 @@ impl Rest {
         }
     }
 
-    /// How many octets its last part has room for.
+    /// For how many octets the last part has room.
     pub(crate) fn room(&self) -> usize
         ensures { result ≡ 32 - length self.now.held.items }
     {
         32 - self.held.len()
     }
 
-    /// Takes octets of its last part, and writes that part if it is full: the octets that are held, and these, which
-    /// are not copied.
+    /// Takes octets of the last part, and writes that part if it is full: the octets that are held,
+    /// and these octets, which are not copied.
     pub(crate) fn take<O: Out>(
         &mut self,
         number: u64,
@@ -108,7 +108,7 @@ impl Rest {
         written
     }
 
-    /// Writes its last part, where that has octets.
+    /// Writes the last part, if it has octets.
     pub(crate) fn end<O: Out>(&self, number: u64, out: &mut O) -> Result<(), OutFault>
         ensures { Writes result (O.log out.old) (O.log out.new)
             (held_text number self.now.offset self.now.held.items) }

@@ -1,4 +1,5 @@
-//! What the stream uses of a message: its calls write and answer what its reading has, an octet at a time.
+//! What the stream uses of a message: its calls write and return what its reading has, octet by
+//! octet.
 
 ghost use Rattle.std.specs.Prelude.{◌≡◌, ℕ, suc, false, List, [], ◌∷◌, ◌++◌};
 ghost use Rattle.std.specs.List.{list_any};
@@ -11,19 +12,20 @@ ghost use Rattle.giop_message.specs.Messages.{message, stage_of, close};
 ghost use Rattle.giop_message.specs.ReaderOfTable.{message_reader, is_over};
 ghost use Rattle.giop_message.specs.MessageState.{Follows, due_text, is_short};
 
-/// The text of an octet and of a close, and where they fault a message, follow from the reading alone. It has no body,
-/// and is called for its contract.
+/// The text of an octet and of a close, and whether they fault a message, follow from the reading
+/// alone. The function has no body; it is called for its contract.
 pub fn message_reader_laws()
-    // The text of an octet is that of its lines in the reading;
+    // The text of an octet is the text of its lines in the reading.
     ensures text { (C : Table) (answers : Answers) (number place : ℕ) (header s : List ℕ) (x : ℕ) →
         due_text (signatures_of C (answers number)) number place header s (x ∷ [])
         ≡ numbered_lines (suc place) number (due (message_reader C answers) number header s x) }
-    // a message that isn't over is over after the octet exactly if the octet has the line of a fault.
+    // If a message isn't over, it is over after an octet exactly if the octet adds the line of a
+    // fault.
     ensures over { (C : Table) (answers : Answers) (number : ℕ) (header s : List ℕ) (x : ℕ) →
         is_over (stage_of (message (signatures_of C (answers number)) header s)) ≡ false →
         is_over (stage_of (message (signatures_of C (answers number)) header (s ++ x ∷ [])))
         ≡ list_any (λ r. is_fault r.line_class) (due (message_reader C answers) number header s x) }
-    // A message that follows a list isn't over.
+    // If a message follows a list of octets, it isn't over.
     ensures running { (C : Table) (answers : Answers) (number : ℕ) (header : List ℕ) (m : Message)
         (s : List ℕ) → Follows C answers number header m s →
         is_over (stage_of (message (signatures_of C (answers number)) header s)) ≡ false }

@@ -1,4 +1,4 @@
-//! The request id that the header of a message begins with: what is said of its octets, and its line.
+//! The request id with which the header of a message begins: what its octets add, and its line.
 
 ghost use Rattle.std.specs.Prelude.{◌≡◌, ◌<◌, ℕ, List, [], ◌∷◌, length, Some};
 ghost use Rattle.giop_cdr.specs.Numbers.{num};
@@ -15,14 +15,15 @@ ghost use Rattle.giop_message.specs.RequestId.{request_id_text, request_id_said}
 use giop_cdr::{Number, Prim};
 use giop_print::{Line, Out, OutFault, Path, Position, Root, Value, value_line};
 
-/// A header that begins with its request id says it with its first four octets, and nothing else. It has no body, and is
-/// called for its contract.
+/// If a header begins with its request id, its first four octets add the line of the id, and no
+/// other line. If the header begins with the id in version 1, it does so with each table. The
+/// function has no body; it is called for its contract.
 pub fn request_id_laws()
     ensures few { (C : Table) (answers : Answers) (number : ℕ) (header : List ℕ) (T : Ty) →
-        header_type (minor header) (kind header) ≡ Some T → BeginsWithId T →
+        header_type 1 (minor header) (kind header) ≡ Some T → BeginsWithId T →
         (xs : List ℕ) → length xs < 4 → (message_reader C answers).reads number header xs ≡ [] }
     ensures value { (C : Table) (answers : Answers) (number : ℕ) (header : List ℕ) (T : Ty) →
-        header_type (minor header) (kind header) ≡ Some T → BeginsWithId T →
+        header_type 1 (minor header) (kind header) ≡ Some T → BeginsWithId T →
         (a b c d : ℕ) → (message_reader C answers).reads number header (a ∷ b ∷ c ∷ d ∷ [])
         ≡ request_id_said (num (order header) (a ∷ b ∷ c ∷ d ∷ [])) ∷ [] }
 {}
@@ -61,7 +62,7 @@ impl Position for RequestIdPlace {
     }
 }
 
-/// The line of the request id of the message of this number.
+/// The line of the request id of the message with this number.
 pub fn request_id_line<O: Out>(out: &mut O, number: u64, id: u32) -> Result<(), OutFault>
     ensures { Writes result (O.log out.old) (O.log out.new)
         (numbered_line number (request_id_text id)) }

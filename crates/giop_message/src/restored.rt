@@ -1,5 +1,5 @@
-//! A message from the octets that were stored of one. They are read without a check of each; the message is then stored
-//! anew, and the octets are compared.
+//! A message from the octets that were stored of one. They are read without a check of each octet;
+//! then the message is stored again, and the octets are compared.
 
 ghost use Rattle.std.specs.Prelude.{◌≡◌, ℕ, ◌+◌, ◌<◌, ◌≤◌, ◌↔◌, List, length, IfSome, IsSome, IsTrue, Some};
 ghost use Rattle.std.specs.Option.{IsSomeAnd};
@@ -15,7 +15,7 @@ use giop_decode::Decoder;
 use giop_octets::{eight_at, four_at, held_at, octet_at, octets_at, optional_at};
 use giop_sig::{Catalogue, TypeId};
 
-/// Whether octets are the same.
+/// Whether the octets and the others are the same.
 fn same(octets: &[u8], others: &[u8]) -> bool
     ensures { IsTrue result ↔ (octets.now ≡ others.now) }
 {
@@ -29,7 +29,8 @@ fn is_after_header(at: u64) -> bool
     at >= 12
 }
 
-/// Whether a rest can have so many octets before its last part and so many in it, of a message that has taken so many.
+/// Whether a message that has taken `at` octets can have a rest with this many octets before its
+/// last part, and this many in it.
 fn is_rest(offset: u64, held: usize, at: u64) -> bool
     ensures { IsTrue result ↔ (held < 32) × (offset + held ≤ at) }
 {
@@ -41,8 +42,8 @@ impl BodyTypeId {
     ghost use Rattle.giop_message.specs.MessageState.{IsKnown};
     ghost use Rattle.giop_message.specs.Stored.{IsPaddingOf};
 
-    /// The type of the body after the padding that was stored in these octets: None where no padding of a body of the
-    /// catalogue is stored so.
+    /// The type of the body after the padding that was stored in these octets. It is None if these
+    /// octets store no padding before a body of the catalogue.
     fn restore(catalogue: &Catalogue, octets: &[u8; 208]) -> Option<BodyTypeId>
         ensures known { IfSome result (λ w. IsKnown catalogue.now w) }
         ensures stored { IfSome result (λ w. IsPaddingOf octets.now w) }
@@ -59,7 +60,7 @@ impl BodyTypeId {
         Some(body_type_id)
     }
 
-    /// The type of a body that octets stand for, unchecked.
+    /// The type of a body that these octets stand for. The octets aren't checked.
     fn parsed(octets: &[u8; 208]) -> BodyTypeId
         ensures { (w : BodyType) → IsPaddingOf octets.now w → result ≡ w }
     {
@@ -71,7 +72,7 @@ impl BodyTypeId {
         }
     }
 
-    /// Whether its type is one of the catalogue.
+    /// Whether the body's type is one of the catalogue.
     fn is_known(self, catalogue: &Catalogue) -> bool
         ensures { IsTrue result ↔ IsKnown catalogue.now self }
     {
@@ -88,8 +89,8 @@ impl Rest {
     ghost use Rattle.giop_message.specs.declared.part.Rest.{Rest as StoredRest};
     ghost use Rattle.giop_message.specs.Stored.{IsRestOf, IsSameRest};
 
-    /// The rest that was stored in these octets, of a message that has taken so many: None where no rest of such a
-    /// message is stored so.
+    /// The rest that was stored in these octets, if the message has taken `at` octets. It is None
+    /// if these octets store no rest of such a message.
     fn restore(octets: &[u8; 208], at: u64) -> Option<Rest>
         ensures within { IfSome result (λ r. r.offset + length r.held.items ≤ at) }
         ensures stored { IfSome result (λ r. IsRestOf octets.now r) }
@@ -115,8 +116,9 @@ impl Part {
     ghost use Rattle.giop_message.specs.MessageState.{FitsPart};
     ghost use Rattle.giop_message.specs.Stored.{section_octet, part_octet, PartStored, GoesOn};
 
-    /// The part that was stored in these octets and frames, of a message that has taken so many octets and has this
-    /// octet for the part: None where no part of such a message is stored so.
+    /// The part that was stored in these octets and frames, if the message has taken `at` octets
+    /// and this octet stands for the part. It is None if these octets store no part of such a
+    /// message.
     fn restore(
         catalogue: &Catalogue,
         octet: u8,
@@ -144,7 +146,7 @@ impl Part {
         }
     }
 
-    /// The section whose decoder was stored in these octets and frames.
+    /// The section whose decoder was stored in these octets and frames, with its decoder.
     fn restore_typed(
         catalogue: &Catalogue,
         section: Section,
@@ -221,8 +223,8 @@ impl Message {
     ghost use Rattle.giop_message.specs.MessageState.{Fits, Follows};
     ghost use Rattle.giop_message.specs.Stored.{Stored};
 
-    /// The message of this number and header that was stored in these octets and frames: None where no message that
-    /// fits the catalogue is stored so.
+    /// The message with this number and header that was stored in these octets and frames. It is
+    /// None if these store no message that fits the catalogue.
     pub fn restore(
         catalogue: &Catalogue,
         number: u64,
@@ -236,7 +238,7 @@ impl Message {
         ensures stored { IfSome result (λ m. Stored m fixed.now frames.now) }
         ensures again { (m : StoredMessage) → Fits catalogue.now m → m.header ≡ header →
             Stored m fixed.now frames.now → IsSome result }
-        // It follows whatever list the stored one follows.
+        // The message follows each list of octets that the stored one follows.
         ensures follows { IfSome result (λ e. (m : StoredMessage) → Fits catalogue.now m →
             m.number ≡ number → m.header ≡ header → Stored m fixed.now frames.now →
             (answers : Answers) (n : ℕ) (h s : List ℕ) → Follows catalogue.now answers n h m s →

@@ -1,5 +1,5 @@
-//! What a checkpoint keeps of a message, written as octets (docs/FORMATS.md): 16 of its own, and 208 of the part that
-//! it is in.
+//! What a checkpoint keeps of a message, written as octets (docs/FORMATS.md): 16 octets of the
+//! message itself, and 208 of the part in which it is.
 
 ghost use Rattle.std.specs.Prelude.{◌≡◌, ℕ, ◌*◌, ◌≤◌, take, drop};
 ghost use Rattle.giop_sig.specs.HeaderTypes.{IsTable};
@@ -17,7 +17,7 @@ use giop_octets::{put_eight, put_four, put_held, put_octets, put_optional, put_z
 impl Section {
     ghost use Rattle.giop_message.specs.Stored.{section_octet};
 
-    /// Its octet in a checkpoint.
+    /// The octet of the section in a checkpoint.
     pub(crate) fn octet(self) -> u8
         ensures { result ≡ section_octet self }
     {
@@ -33,7 +33,7 @@ impl Section {
 impl BodyTypeId {
     ghost use Rattle.giop_message.specs.Stored.{IsPaddingOf};
 
-    /// The octets of the padding in front of such a body.
+    /// The octets of the padding before such a body.
     #[tactic(auto, unfolding(crate::specs::Stored::padding_octets))]
     pub(crate) fn octets(self) -> [u8; 208]
         ensures { IsPaddingOf result self }
@@ -57,7 +57,7 @@ impl BodyTypeId {
 impl Rest {
     ghost use Rattle.giop_message.specs.Stored.{IsRestOf};
 
-    /// Its octets.
+    /// The octets of the rest.
     #[tactic(auto, unfolding(crate::specs::Stored::rest_octets))]
     pub(crate) fn octets(&self) -> [u8; 208]
         ensures { IsRestOf result self.now }
@@ -76,7 +76,7 @@ impl Part {
     ghost use Rattle.giop_message.specs.MessageState.{FitsPart};
     ghost use Rattle.giop_message.specs.Stored.{part_octet, PartStored};
 
-    /// Its octet in a checkpoint.
+    /// The octet of the part in a checkpoint.
     fn octet(&self) -> u8
         ensures { result ≡ part_octet self.now }
     {
@@ -87,8 +87,8 @@ impl Part {
         }
     }
 
-    /// Writes what is kept of it and of its decoder, and answers the number of the decoder's frames: 0 where it has
-    /// none.
+    /// Writes what is kept of the part and of its decoder, and returns how many frames the decoder
+    /// has: 0 if the part has no decoder.
     fn store(&self, decoder: &Decoder, octets: &mut [u8; 208], frames: &mut [u8; 576]) -> u8
         ensures few { result ≤ 24 }
         ensures depth { (C : Table) (minor at : ℕ) → IsTable C →
@@ -117,21 +117,21 @@ impl Message {
     ghost use Rattle.giop_message.specs.MessageState.{Fits, reach};
     ghost use Rattle.giop_message.specs.Stored.{kept_id, IsOwnOf, Stored};
 
-    /// How many of its octets it has taken, its header's 12 included.
+    /// How many of its octets the message has taken, with the 12 of its header.
     pub fn reach(&self) -> u64
         ensures { result ≡ reach self.now }
     {
         self.at
     }
 
-    /// Writes what is kept of it, its number and its header apart: its octets, and the frames of its decoder, of which
-    /// it answers the number.
+    /// Writes what is kept of the message, except its number and its header: its octets, and the
+    /// frames of its decoder. Returns how many frames there are.
     pub fn store(&self, fixed: &mut [u8; 224], frames: &mut [u8; 576]) -> u8
         ensures few { result ≤ 24 }
         ensures depth { (C : Table) → IsTable C → Fits C self.now → result ≤ catalogue_depth C }
         ensures stored { (C : Table) → Fits C self.now →
             Stored self.now fixed.new (take (frame_size * result) frames.new) }
-        // The octets after them are unchanged.
+        // The octets after these frames are unchanged.
         ensures behind { drop (frame_size * result) frames.new
             ≡ drop (frame_size * result) frames.old }
     {
@@ -145,7 +145,7 @@ impl Message {
         count
     }
 
-    /// The octets of its own.
+    /// The 16 octets of the message itself.
     #[tactic(auto, unfolding(crate::specs::Stored::own_octets))]
     pub(crate) fn own_octets(&self) -> [u8; 16]
         ensures { IsOwnOf result self.now }
@@ -160,7 +160,7 @@ impl Message {
         octets
     }
 
-    /// The request id, unless the header's decoder has it.
+    /// The request id, unless the header's decoder still has it.
     fn kept_id(&self) -> Option<u32>
         ensures { result ≡ kept_id self.now.part self.now.id }
     {

@@ -1,4 +1,4 @@
-//! Takes octets of a message, by the part that they belong to.
+//! Takes octets of a message, depending on the part to which they belong.
 
 ghost use Rattle.std.specs.Prelude.{◌≡◌, ℕ, ◌+◌, ◌^◌, ◌<◌, ◌≤◌, true, false, List, [], ◌∷◌, ◌++◌, length, IfOk};
 ghost use Rattle.giop_print.specs.Output.{Writes};
@@ -19,7 +19,7 @@ use giop_decode::{Decoder, Progress};
 use giop_print::{Out, OutFault, Root, call_line, fault_line, interface_call_line};
 use giop_sig::Catalogue;
 
-/// Writes the call line of a Request, whose operation has just ended in its header.
+/// Writes the call line of a Request whose operation has just ended in its header.
 #[tactic(auto, unfolding(crate::specs::MessageSteps::request_call, crate::specs::MessageSteps::called_text, crate::specs::Signatures::signatures_of))]
 fn call<O: Out>(
     catalogue: &Catalogue,
@@ -68,7 +68,7 @@ impl Message {
     ghost use Rattle.giop_message.specs.MessageSteps.{TookSome};
     ghost use Rattle.giop_message.specs.DueOctets.{TakesFront};
 
-    /// Takes an octet of the padding in front of a body of this type.
+    /// Takes an octet of the padding before a body of this type.
     fn take_padding(&mut self, catalogue: &Catalogue, body_type_id: BodyTypeId)
         requires is { self.old.part ≡ Part.Padding body_type_id }
         requires known { IsKnown catalogue.now body_type_id }
@@ -89,9 +89,10 @@ impl Message {
         }
     }
 
-    /// Takes some of the octets, of which there is at least one, after so many octets of the stream: of a section all,
-    /// or as many as there are up to one that ends an operation or the section, or breaks a rule; of padding one; of
-    /// the rest those of one part. Answers how many it took, and whether the last of them is faulted.
+    /// Takes some of the octets, after `place` octets of the stream; there must be at least one. In
+    /// a section it takes all, or those up to one that ends an operation or the section, or breaks
+    /// a rule; in padding it takes one; in the rest it takes those of one part. Returns how many it
+    /// took, and whether the last of them is faulted.
     #[inline]
     pub(crate) fn take_some<O: Out, Q: Correspondent>(
         &mut self,

@@ -1,4 +1,4 @@
--- What a correspondent keeps that listens for exceptions alone: the number of the message that
+-- What a correspondent keeps that listens only for exceptions: the number of the message that
 -- raised the last one, and how many octets its name has (meaning).
 use Rattle.std.specs.Prelude.{ℕ, Option, Some, length}
 use Rattle.giop_message.specs.HeaderEnds.{CallEvent, Requested, Replied, Raised}

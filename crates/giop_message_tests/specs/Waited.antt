@@ -1,4 +1,4 @@
--- Whether a correspondent is due that waits for what it is told of a Reply (meaning).
+-- Whether a correspondent is due, if it waits for what it is told of a Reply (meaning).
 use Rattle.std.specs.Prelude.{Bool, true}
 use Rattle.giop_message.specs.HeaderEnds.{CallEvent, Requested, Replied, Raised}
 

@@ -1,4 +1,4 @@
-//! After which octets of a message the reading stops for a correspondent that is due there.
+//! After which octets of a message the reading stops, if the correspondent is due there.
 
 use crate::expecting::expect_same_in;
 use crate::waiter::Waiter;
@@ -8,8 +8,9 @@ use giop_sig::Catalogue;
 use giop_testing::spelled;
 use std::process::Abort;
 
-/// A message, after how many of its octets the reading stops first, whether the correspondent is due there, and after how
-/// many it stops then. It stops at the message's end in any case.
+/// A message; after how many of its octets the reading stops first; whether the correspondent is
+/// due there; and after how many octets the reading stops then. It stops at the message's end in
+/// any case.
 #[derive(Clone, Copy)]
 struct Row {
     name: &'static str,
@@ -58,7 +59,7 @@ const ROWS: [Row; 5] = [
     },
 ];
 
-/// A message stops where its correspondent is due.
+/// The reading of each message stops at the octets at which it should.
 pub fn each_row_stops(rt: &impl Abort, catalogue: &Catalogue) {
     for row in &ROWS {
         for is_cut in [false, true] {
@@ -68,8 +69,8 @@ pub fn each_row_stops(rt: &impl Abort, catalogue: &Catalogue) {
     }
 }
 
-/// What differs of the octets that are taken by each call, where a call is given all that are left, or those alone that
-/// it is to take; empty if nothing does.
+/// What differs in the octets that each call takes. A call is given all octets that are left, or
+/// only those that it must take. The text is empty if nothing differs.
 fn stops_differ(catalogue: &Catalogue, row: &Row, is_cut: bool) -> &'static str {
     let mut room = [0; 256];
     let octets = &*spelled(row.octets, &mut room);

@@ -1,19 +1,19 @@
-//! What stops a test, with the row that isn't as wanted. A formatted text in an assertion takes seconds to prove: here each
-//! is proved once for all tests.
+//! What stops a test, with the name of the row that isn't as it should be. An assertion with a
+//! formatted text takes seconds to prove, so each of these is proved once for all tests.
 
 use std::process::Abort;
 
-/// Stops where a row isn't as wanted.
+/// Stops the test if a row isn't as it should be.
 pub fn expect(rt: &impl Abort, is_wanted: bool, row: &str) {
     assert!(rt; is_wanted, "{row}");
 }
 
-/// Stops where something differs in a row.
+/// Stops the test if something differs in a row.
 pub fn expect_same(rt: &impl Abort, differs: &str, row: &str) {
     assert!(rt; differs.is_empty(), "{row}: {differs}");
 }
 
-/// Stops where something differs at a place of a row.
+/// Stops the test if something differs at a place of a row.
 pub fn expect_same_in(rt: &impl Abort, differs: &str, row: &str, place: usize) {
     assert!(rt; differs.is_empty(), "{row}, {place}: {differs}");
 }

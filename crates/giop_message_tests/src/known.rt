@@ -1,4 +1,5 @@
-//! What a test makes: the built-in types with the requests of an empty list.
+//! What a test uses: the built-in types of version 1 or of version 3, with the requests of an empty
+//! list.
 ghost use Rattle.std.specs.Prelude.{IfOk};
 ghost use Rattle.giop_message.specs.MessageState.{AreOf};
 
@@ -11,6 +12,15 @@ pub fn built_in(alloc: Global) -> Result<(Catalogue, Requests), Fail>
     ensures { IfOk result (λ known. AreOf known.0 known.1) }
 {
     let catalogue = Catalogue::builtin(alloc)?;
+    let requests = Requests::parse(alloc, b"", &catalogue)?;
+    Ok((catalogue, requests))
+}
+
+/// The built-in types of a signature file of version 3, and the requests of an empty list.
+pub fn third(alloc: Global) -> Result<(Catalogue, Requests), Fail>
+    ensures { IfOk result (λ known. AreOf known.0 known.1) }
+{
+    let catalogue = Catalogue::parse_types(alloc, b"signatures 3;")?;
     let requests = Requests::parse(alloc, b"", &catalogue)?;
     Ok((catalogue, requests))
 }

@@ -1,5 +1,6 @@
-//! Tests of messages: what is known of their headers, what is told of exceptions, where the reading stops, and messages
-//! that are stored and restored. `waiter` is a correspondent that other crates' tests use too.
+//! Tests of messages: what is known of their headers, what is told of exceptions, after which
+//! octets the reading stops, and messages that are stored and restored. `waiter` is a correspondent
+//! that the tests of other crates use too.
 #![tactic(auto)]
 
 #[cfg(test)]

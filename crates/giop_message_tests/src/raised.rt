@@ -1,4 +1,4 @@
-//! Where a correspondent is told of the exception that a Reply raises.
+//! At which octet a correspondent is told of the exception that a Reply raises.
 ghost use Rattle.std.specs.Prelude.{ℕ, Option, None, false};
 ghost use Rattle.giop_message_tests.specs.Listened.{listened};
 
@@ -9,10 +9,11 @@ use giop_sig::{Catalogue, OpId};
 use giop_testing::spelled;
 use std::process::Abort;
 
-/// A correspondent that listens for exceptions alone, answers no operation, and is never due.
+/// A correspondent that listens only for exceptions, answers no operation, and is never due.
 #[derive(Clone, Copy, Debug, PartialEq, Eq)]
 struct Listener {
-    /// The number of the message that raised the last one, and how many octets its name has.
+    /// The number of the message that raised the last exception, and how many octets the
+    /// exception's name has.
     raised: Option<(u64, usize)>,
 }
 
@@ -59,7 +60,8 @@ impl Correspondent for Listener {
     ghost known = { λ C s event k h id. tt };
 }
 
-/// A Reply, how many octets it has up to the one that is tried, and the length of the name that is told at it, if one is.
+/// A Reply; how many octets it has up to and with the one that is tried; and the length of the name
+/// that is told at that octet, if one is told.
 #[derive(Clone, Copy)]
 struct Reply {
     name: &'static str,
@@ -107,7 +109,7 @@ const REPLIES: [Reply; 6] = [
     },
 ];
 
-/// An exception is told where its name is complete.
+/// The correspondent is told of an exception at the octet that completes its name.
 pub fn each_reply_tells(rt: &impl Abort, catalogue: &Catalogue) {
     for reply in &REPLIES {
         let differs = reply_differs(catalogue, reply);
@@ -115,7 +117,7 @@ pub fn each_reply_tells(rt: &impl Abort, catalogue: &Catalogue) {
     }
 }
 
-/// What differs of what is told before the octet that is tried, at it and after it.
+/// What differs in what is told before the octet that is tried, at it and after it.
 fn reply_differs(catalogue: &Catalogue, reply: &Reply) -> &'static str {
     let mut room = [0; 256];
     let octets = &*spelled(reply.octets, &mut room);

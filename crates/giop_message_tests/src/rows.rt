@@ -1,4 +1,5 @@
-//! A message for each way to close, of the built-in types, and its lines.
+//! Messages of the built-in types with their lines, one for each way to close; and messages with
+//! numbers that have names in version 3 of signature files.
 
 use std::str::Split;
 
@@ -7,12 +8,12 @@ use std::str::Split;
 pub enum Closing {
     Ends,
     Short,
-    /// With a fault: the number of octets up to and with the one that has it.
+    /// The message ends with a fault, at the octet with this number, counted from 1.
     Fault(usize),
 }
 
-/// A message: its octets in hexadecimal digits, where `xx*n` is n times, the first 12 of them its header, and its
-/// lines.
+/// A message: its octets in hexadecimal digits, and its lines. In the digits, `xx*n` stands for n
+/// times `xx`. The first 12 octets are the header.
 #[derive(Clone, Copy)]
 pub struct Row<'a> {
     pub name: &'a str,
@@ -21,7 +22,8 @@ pub struct Row<'a> {
     pub lines: &'a str,
 }
 
-/// The row that a text spells: its name, its closing and its octets, each in a line, and its lines.
+/// The row that a text spells: its name, its closing and its octets, each in a line of its own, and
+/// then its lines.
 pub fn row_of(text: &str) -> Row {
     let mut parts = text.splitn(4, '\n');
     Row {
@@ -46,6 +48,11 @@ fn closing_of(text: &str) -> Closing {
 /// The messages. No other function names the table.
 pub fn rows() -> Split<'static, &'static str> {
     ROWS.split("=\n")
+}
+
+/// The messages whose numbers have names. No other function names the table.
+pub fn named_rows() -> Split<'static, &'static str> {
+    NAMED_ROWS.split("=\n")
 }
 
 static ROWS: &str = r#"a 1.2 body begins at the next multiple of 8
@@ -79,4 +86,40 @@ m1 header.service_contexts[0].context_data encapsulation 8
 m1 header.service_contexts[0].context_data order big
 m1 header.service_contexts[0].context_data.char_data ulong 65537
 m1 fault encap-short at 32
+"#;
+
+static NAMED_ROWS: &str = r#"code sets of a service context
+ends
+47494f50 0100 00 01 00000020 00000001 00000001 0000000c 00 000000 00010001 00010109 00000007 00000000
+m1 header.service_contexts count 1
+m1 header.service_contexts[0].context_id ulong 1 CodeSets
+m1 header.service_contexts[0].context_data encapsulation 12
+m1 header.service_contexts[0].context_data order big
+m1 header.service_contexts[0].context_data.char_data ulong 65537 ISO_8859_1
+m1 header.service_contexts[0].context_data.wchar_data ulong 65801 UTF_16
+m1 header.request_id ulong 7
+m1 header.reply_status enum NO_EXCEPTION
+m1 end
+=
+the minor code of a vendor
+ends
+47494f50 0100 00 01 0000001c 00000000 00000007 00000002 00000002 41000000 4f4d0002 00000000
+m1 header.service_contexts count 0
+m1 header.request_id ulong 7
+m1 header.reply_status enum SYSTEM_EXCEPTION
+m1 body.exception_id string @0 "A"
+m1 body.minor ulong 1330446338 OMG 2
+m1 body.completed enum COMPLETED_YES
+m1 end
+=
+a profile that is short
+short
+47494f50 0100 00 01 00000020 00000000 00000007 00000003 00000001 00000000 00000001 00000000
+m1 header.service_contexts count 0
+m1 header.request_id ulong 7
+m1 header.reply_status enum LOCATION_FORWARD
+m1 body.type_id string @0 ""
+m1 body.profiles count 1
+m1 body.profiles[0].tag ulong 0 TAG_INTERNET_IOP
+m1 fault short at 40
 "#;

@@ -1,4 +1,5 @@
-//! Messages that are stored and restored between two octets, and the octets that are stored of them.
+//! Messages that are stored and restored between two octets, and the octets that are stored of
+//! them.
 ghost use Rattle.std.specs.Prelude.{◌≡◌, ◌≤◌, length, IfSome};
 ghost use Rattle.giop_message.specs.MessageState.{AreOf, Fits};
 
@@ -9,8 +10,9 @@ use giop_print::{OutFault, Sheet};
 use giop_sig::{Catalogue, Requests};
 use giop_testing::spelled;
 use std::process::Abort;
+use std::str::Split;
 
-/// The message that is restored from what is stored of one.
+/// The message that is restored from what is stored of a message.
 fn again(catalogue: &Catalogue, message: &Message) -> Option<Message>
     ensures { IfSome result (λ m. Fits catalogue.now m) }
 {
@@ -21,8 +23,9 @@ fn again(catalogue: &Catalogue, message: &Message) -> Option<Message>
     Message::restore(catalogue, number, header, &fixed, &frames[..24 * count])
 }
 
-/// Takes the octets after a header in two pieces, as message 1 of a stream, and closes the message, which is stored
-/// and restored between the pieces: None if it can't be restored, or doesn't take a piece whole.
+/// Takes the octets after a header in two pieces, as message 1 of a stream, and closes the message.
+/// The message is stored and restored between the pieces. The result is None if the message can't
+/// be restored, or doesn't take a whole piece.
 fn takes_restored(
     catalogue: &Catalogue,
     requests: &Requests,
@@ -66,11 +69,16 @@ fn takes_restored(
     }
 }
 
-/// A restored message goes on as the stored one.
-fn each_row_is_restored(rt: &impl Abort, catalogue: &Catalogue, requests: &Requests)
+/// In each of these rows, a restored message goes on as the stored one does.
+pub fn each_row_is_restored(
+    rt: &impl Abort,
+    catalogue: &Catalogue,
+    requests: &Requests,
+    rows: Split<'static, &'static str>,
+)
     requires of { AreOf catalogue.now requests.now }
 {
-    for text in rows() {
+    for text in rows {
         let row = row_of(text);
         let mut room = [0; 256];
         let octets = &*spelled(row.octets, &mut room);
@@ -81,7 +89,7 @@ fn each_row_is_restored(rt: &impl Abort, catalogue: &Catalogue, requests: &Reque
     }
 }
 
-/// What differs where the message is stored and restored after so many of its octets.
+/// What differs if the message is stored and restored after this many of its octets.
 fn restored_differs(
     catalogue: &Catalogue,
     requests: &Requests,
@@ -112,8 +120,8 @@ fn restored_differs(
     }
 }
 
-/// The first octets of a message, the first 12 of them its header; the octets that are stored of it after them, as
-/// message 1 of a stream; and those of its frames.
+/// The first octets of a message, with the 12 of its header; the octets that are stored of it after
+/// them, as message 1 of a stream; and the octets that are stored of its frames.
 #[derive(Clone, Copy)]
 struct Case {
     name: &'static str,
@@ -123,7 +131,8 @@ struct Case {
     frames: &'static str,
 }
 
-/// In padding, in its rest, and after "IDL:" in the first string of a body, or of a system exception.
+/// A message in padding, in its rest, and after "IDL:" in the first string of a body or of a system
+/// exception.
 const CASES: [Case; 5] = [
     Case {
         name: "in front of a forward",
@@ -162,7 +171,7 @@ const CASES: [Case; 5] = [
     },
 ];
 
-/// A message is stored in these octets.
+/// The octets that are stored of each case are those of the case.
 fn each_case_is_stored(rt: &impl Abort, catalogue: &Catalogue, requests: &Requests)
     requires of { AreOf catalogue.now requests.now }
 {
@@ -172,7 +181,7 @@ fn each_case_is_stored(rt: &impl Abort, catalogue: &Catalogue, requests: &Reques
     }
 }
 
-/// What differs of what is stored of a case.
+/// What differs in what is stored of a case.
 fn case_differs(catalogue: &Catalogue, requests: &Requests, case: &Case) -> &'static str
     requires of { AreOf catalogue.now requests.now }
 {
@@ -184,7 +193,7 @@ fn case_differs(catalogue: &Catalogue, requests: &Requests, case: &Case) -> &'st
     stored_differs(catalogue, requests, octets, own, part, frames)
 }
 
-/// What differs of what is stored of a message of these octets.
+/// What differs in what is stored of a message with these octets.
 fn stored_differs(
     catalogue: &Catalogue,
     requests: &Requests,
@@ -223,7 +232,8 @@ fn stored_differs(
     ""
 }
 
-/// Octets that no message stores, each in a line: the case, the octet's index, and its value instead of the one there.
+/// Octets that no message stores, each in a line: the case, the octet's index, the octet's value in
+/// the place of the right one, and a name.
 static WRONG: &str = r#"0 0 6 a part of no kind
 0 8 11 a next octet in the message header
 0 9 2 a request id that was neither said nor not
@@ -238,7 +248,8 @@ static WRONG: &str = r#"0 0 6 a part of no kind
 3 20 1 a type beside a system exception
 4 223 1 an octet without a use behind a system exception"#;
 
-/// The first line of the table whose octet isn't refused, or nothing: no message stores it.
+/// The first line of the table whose octet isn't refused. The text is empty if no message stores
+/// any of the octets.
 fn not_refused(catalogue: &Catalogue) -> &'static str {
     for line in WRONG.split('\n') {
         if !is_refused(catalogue, line) {
@@ -248,7 +259,8 @@ fn not_refused(catalogue: &Catalogue) -> &'static str {
     ""
 }
 
-/// Whether the octets of a line's case are restored, and refused with another instead of one of them.
+/// Whether the octets of a line's case are restored, and are refused if one of them has another
+/// value.
 fn is_refused(catalogue: &Catalogue, line: &str) -> bool {
     let mut words = line.split(' ');
     let case = usize::from_str_radix(words.next().unwrap_or(""), 10);
@@ -270,7 +282,7 @@ fn is_refused(catalogue: &Catalogue, line: &str) -> bool {
     !is_restored(catalogue, &fixed, frames)
 }
 
-/// The octets that are stored of a case in front of its frames.
+/// The octets that are stored of a case before its frames.
 fn fixed_of(case: &Case) -> [u8; 224] {
     let (mut own, mut part, mut fixed) = ([0; 16], [0; 208], [0; 224]);
     let _sixteen = spelled(case.own, &mut own);
@@ -285,7 +297,8 @@ fn is_restored(catalogue: &Catalogue, fixed: &[u8; 224], frames: &[u8]) -> bool 
     Message::restore(catalogue, 1, [0; 12], fixed, frames).is_some()
 }
 
-/// Whether a case is restored without a frame, and refused with one: padding and a rest have none.
+/// Whether a case is restored without a frame, and is refused with one: padding and a rest have no
+/// frames.
 fn has_no_frame(catalogue: &Catalogue, case: usize) -> bool {
     let fixed = fixed_of(&CASES[case % 5]);
     is_restored(catalogue, &fixed, &[]) && !is_restored(catalogue, &fixed, &[0; 24])
@@ -295,7 +308,7 @@ fn has_no_frame(catalogue: &Catalogue, case: usize) -> bool {
 pub fn each_is_stored(rt: &impl Abort, catalogue: &Catalogue, requests: &Requests)
     requires of { AreOf catalogue.now requests.now }
 {
-    each_row_is_restored(rt, catalogue, requests);
+    each_row_is_restored(rt, catalogue, requests, rows());
     each_case_is_stored(rt, catalogue, requests);
     expect(rt, has_no_frame(catalogue, 0), CASES[0].name);
     expect(rt, has_no_frame(catalogue, 1), CASES[1].name);

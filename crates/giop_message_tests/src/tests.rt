@@ -1,11 +1,13 @@
-//! The tests of messages, of the built-in types: what is known of a header, the request id, and the rows of the other files.
+//! The tests of messages of the built-in types: what is known of a header, the request id, and the
+//! rows of the other files.
 ghost use Rattle.giop_message.specs.MessageState.{AreOf};
 
 use crate::due::each_row_stops;
 use crate::expecting::{expect, expect_same};
-use crate::known::built_in;
+use crate::known::{built_in, third};
 use crate::raised::each_reply_tells;
-use crate::stored::each_is_stored;
+use crate::rows::named_rows;
+use crate::stored::{each_is_stored, each_row_is_restored};
 use giop_cdr::Order;
 use giop_message::{Message, kind_of, message_laws, message_reader_laws, minor_of, order_of};
 use giop_print::Sheet;
@@ -13,7 +15,7 @@ use giop_sig::{Catalogue, Requests};
 use std::process::Abort;
 use std::test::Fail;
 
-/// A header of a Request of 1.0.
+/// A header of a Request of GIOP 1.0.
 const REQUEST: &[u8; 12] = b"GIOP\x01\x00\x00\x00\x00\x00\x00\x00";
 
 fn has_number_and_header(catalogue: &Catalogue) -> bool {
@@ -21,14 +23,14 @@ fn has_number_and_header(catalogue: &Catalogue) -> bool {
     message.number() == 7 && message.header() == *REQUEST
 }
 
-/// What differs of the id while its octets come, or nothing.
+/// What differs in the request id while its octets come. The text is empty if nothing differs.
 fn id_differs(catalogue: &Catalogue, requests: &Requests) -> &'static str
     requires of { AreOf catalogue.now requests.now }
 {
     let mut requests = requests;
     let mut room = [0; 256];
     let mut sheet = Sheet::new(&mut room);
-    // A little-endian Reply of 1.0, with one service context in front of its id.
+    // A little-endian Reply of GIOP 1.0, with one service context before its request id.
     let header = *b"GIOP\x01\x00\x01\x01\x14\x00\x00\x00";
     let front = b"\x01\x00\x00\x00\x09\x00\x00\x00\x00\x00\x00\x00\x05\x04\x03".as_slice();
     let mut message = Message::start(catalogue, 7, header);
@@ -56,11 +58,11 @@ fn has(header: &[u8; 12], minor: u8, order: Order, kind: u8) -> bool {
     minor_of(header) == minor && order_of(header) == order && kind_of(header) == kind
 }
 
-/// Checks all of this over the built-in types.
+/// Checks all of this with the built-in types.
 fn each(rt: &impl Abort, catalogue: &Catalogue, requests: &Requests)
     requires of { AreOf catalogue.now requests.now }
 {
-    // The second flag is set if more fragments follow.
+    // Bit 1 of the flags is set if more fragments follow.
     let little = b"GIOP\x01\x02\x03\x01\x14\x00\x00\x00";
     expect(
         rt,
@@ -86,5 +88,7 @@ fn messages_are_as_their_rows_say(rt: HostRuntime) -> Result<(), Fail> {
     message_reader_laws();
     let known = built_in(rt.alloc())?;
     each(&rt, &known.0, &known.1);
+    let known = third(rt.alloc())?;
+    each_row_is_restored(&rt, &known.0, &known.1, named_rows());
     Ok(())
 }

@@ -1,4 +1,4 @@
-//! A correspondent that is due from the first that it is told of a Reply.
+//! A correspondent that is due from the first event that it is told of a Reply.
 
 ghost use Rattle.std.specs.Prelude.{Bool, None, false};
 ghost use Rattle.giop_message_tests.specs.Waited.{waited};
@@ -6,7 +6,8 @@ ghost use Rattle.giop_message_tests.specs.Waited.{waited};
 use giop_message::Correspondent;
 use giop_sig::OpId;
 
-/// It is due from the first that it is told of a Reply, awaits no messages, and answers no operation.
+/// It is due from the first event that it is told of a Reply. It awaits no messages, and answers no
+/// operation.
 #[derive(Clone, Copy, Debug, PartialEq, Eq)]
 pub struct Waiter {
     pub is_due: bool,

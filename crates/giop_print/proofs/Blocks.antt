@@ -1,5 +1,5 @@
--- A block of octets that is copied in front of a line, the last octets of a line, and the two blocks
--- of a head.
+-- A block of octets that is copied before a line, the last octets of a line, and the two blocks of
+-- a head.
 use Rattle.std.proofs.Common.{◌≡◌, ℕ, ◌+◌, ◌-◌, ◌≤◌, ◌<◌, List, [], ◌∷◌, ◌++◌, length, take, drop, sym, ap, ◌∙◌, arith, append_assoc, append-nil, length-take, length-drop, refl}
 use Rattle.std.proofs.Math.Seq.{drop-append-add}
 use Rattle.std.proofs.lemmas.List.{drop_all, drop-drop, drop-append-le, drop-set, take-append-drop, take_all}
@@ -8,7 +8,7 @@ use borrow.Rule.Slice.PartMut.{put_mid, mid_of}
 use lib.Lanes.{put_chunk}
 use lib.ListN.{set}
 
--- all octets of an array from one on
+-- all octets of an array from index `a` on
 all_from : (octets : List ℕ) (a : ℕ) → a ≤ 256 → length octets ≡ 256 →
     mid_of a (256 - a) octets ≡ drop a octets
 all_from octets a within size =
@@ -28,7 +28,7 @@ last_behind octets at within size =
     all_from octets 192 (omega arith) size
     ∙ sym (drop-drop (192 - at) at octets ∙ ap (λ n. drop n octets) at_last)
 
--- the array with a block in it, up to a place
+-- the array after a block was copied into it, up to the end of the block
 placed : (octets block : List ℕ) (a : ℕ) → length octets ≡ 256 → length block ≡ 16 → a ≤ 240 →
     put_mid a (256 - a) octets (put_chunk 0 (mid_of a (256 - a) octets) block)
     ≡ take a octets ++ (block ++ drop (a + 16) octets)
@@ -56,7 +56,7 @@ block_before octets block at count size few room within less =
     (drop-append-add before (block ++ drop at octets) (16 - count)
     ∙ drop-append-le (16 - count) block (drop at octets) (omega (arith, few)))
 
--- ---- the two blocks of a head, at whose end a text stands
+-- ---- the two blocks of a head, whose text is at the end of the blocks
 
 last_block : (octets : List ℕ) → mid_of 16 (length octets - 16) octets ≡ drop 16 octets
 last_block octets =
@@ -83,7 +83,7 @@ two_blocks octets rest count size more =
     (sym (append_assoc front (drop 16 octets) rest)
     ∙ ap (λ t. t ++ rest) (all ∙ ap (λ n. drop n octets) from))
 
--- the last 32 of 64 octets, at whose end a text stands
+-- the last 32 of 64 octets have the same text at their end
 pub last_half : (last text rest : List ℕ) (room : ℕ) → length last ≡ 64 → 256 - room ≤ 32 →
     room ≤ 256 → drop (room - 192) last ≡ text →
     drop (32 - (256 - room)) (mid_of 32 (length last - 32) last) ++ rest ≡ text ++ rest
@@ -93,13 +93,13 @@ last_half last text rest room size few most is =
     take_all (length last - 32) (drop 32 last) (omega (arith, length-drop 32 last)) in
     ap (λ t. t ++ rest) (rw (all, drop-drop (32 - (256 - room)) 32 last, from) is)
 
--- how long the text is
+-- the length of a text that is the last `count` of 32 octets
 pub text_size : (octets text : List ℕ) (count : ℕ) → length octets ≡ 32 → count ≤ 32 →
     drop (32 - count) octets ≡ text → length text ≡ count
 text_size octets text count size few is =
     rw (← is) (omega (arith, length-drop (32 - count) octets, size, few))
 
--- the digits of a number in front of a word, and a letter in front of these
+-- the digits of a number come before a word, and a letter comes before the digits
 pub head_spelled : (octets before number word : List ℕ) (at end : ℕ) → length octets ≡ 32 →
     1 ≤ at → at ≤ 32 → drop at octets ≡ number ++ drop end before → drop end before ≡ 32 ∷ word →
     drop (32 - (33 - at)) (set octets (at - 1) 109) ≡ 109 ∷ (number ++ 32 ∷ (word ++ []))

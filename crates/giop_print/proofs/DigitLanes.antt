@@ -7,7 +7,7 @@ use Rattle.std.specs.Prelude.{codes}
 use lib.Lanes.{Each1, zip2, pick_l}
 use Rattle.giop_print.specs.Text.{hex_digit, hex}
 
--- the digits of numbers, from this lane of a vector on
+-- the digits of the numbers of a vector, from lane `i` on
 pub looked_up : (js : List ℕ) (i : ℕ) → i + length js ≤ 16 → Each1 (λ j. j < 16) js →
     swz_l w8 16 (codes "0123456789abcdef") i js ≡ map hex_digit js
 looked_up [] i within below = refl
@@ -21,7 +21,7 @@ looked_up (j ∷ js) i within below =
 abbrev low : ℕ → ℕ
 low x = bit_and x 15
 
--- the upper and the lower half of each octet, one after another
+-- the upper half and the lower half of each octet, one octet after another
 abbrev halves : List ℕ → List ℕ
 halves [] = []
 halves (x ∷ xs) = x / 16 ∷ low x ∷ halves xs

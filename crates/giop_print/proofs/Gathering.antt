@@ -1,4 +1,4 @@
--- Gathering parts for one put: each call of the code does what the specs say of it.
+-- Gathering parts for one put: each call in the code does what the specs say of it.
 use Rattle.std.proofs.Common.{◌≡◌, Result, Ok, Err, ℕ, suc, get_or, flat_map, ◌+◌, ◌<◌, List, [], ◌∷◌, ◌++◌, length, take, drop, false, sym, ap, subst, ◌∙◌, append-nil, append_assoc}
 use Rattle.std.proofs.Math.Seq.{take-suc}
 use Rattle.std.proofs.lemmas.List.Concat.{flat_map-append}
@@ -9,7 +9,7 @@ use Rattle.giop_print.specs.Output.{OutLog, Wrote, WroteFront, Writes}
 use Rattle.giop_print.specs.Gathering.{WroteBut, Gathers}
 use Rattle.giop_print.proofs.Writing.{wrote-append, wrote-front, front-append, flat_map-take}
 
--- what was gathered is written, and so is the part
+-- the gathered octets are written, and then the part
 pub but-none : (a b c : OutLog) (gathered part : List ℕ) → Wrote a b gathered → Wrote b c part →
     WroteBut a c [] (gathered ++ part)
 but-none a b c gathered part v w =
@@ -20,7 +20,7 @@ but-none a b c gathered part v w =
           append-nil (gathered ++ part);
     }
 
--- one part more
+-- one part more is gathered
 pub but-more : (a b c : OutLog) (gathered left due part : List ℕ) → WroteBut a b gathered due →
     WroteBut b c left (gathered ++ part) → WroteBut a c left (due ++ part)
 but-more a b c gathered left due part v w =
@@ -31,7 +31,7 @@ but-more a b c gathered left due part v w =
           ∙ (sym (append_assoc v.front gathered part) ∙ ap (λ z. z ++ part) v.both));
     }
 
--- one part more, at which a put failed
+-- a put failed at the next part
 pub but-front : (a b c : OutLog) (gathered due part : List ℕ) → WroteBut a b gathered due →
     WroteFront b c (gathered ++ part) → WroteFront a c (due ++ part)
 but-front a b c gathered due part v w =
@@ -39,7 +39,7 @@ but-front a b c gathered due part v w =
     sym (append_assoc v.front gathered part) ∙ ap (λ z. z ++ part) v.both in
     subst (WroteFront a c) e (wrote-front a b c v.front (gathered ++ part) v.wrote w)
 
--- one part of a list more
+-- one part more of a list is gathered
 pub but-parts : {X : Type 0} (f : X → List ℕ) (a b c : OutLog) (gathered left : List ℕ)
     (xs : List X) (i : ℕ) (d : X) → i < length xs → WroteBut a b gathered (flat_map f (take i xs)) →
     WroteBut b c left (gathered ++ f (get_or xs i d)) →
@@ -48,7 +48,7 @@ but-parts f a b c gathered left xs i d h p q =
     rw (flat_map-take f xs i d h) (but-more a b c gathered left (flat_map f (take i xs))
     (f (get_or xs i d)) p q)
 
--- at a part of a list a put failed
+-- a put failed at a part of a list
 pub gathered-front : {X : Type 0} (f : X → List ℕ) (a b c : OutLog) (gathered : List ℕ)
     (xs : List X) (i : ℕ) (d : X) → i < length xs → WroteBut a b gathered (flat_map f (take i xs)) →
     WroteFront b c (gathered ++ f (get_or xs i d)) → WroteFront a c (flat_map f xs)
@@ -65,7 +65,7 @@ gathered-front f a b c gathered xs i d h p q =
     (flat_map f (drop (suc i) xs))
     (but-front a b c gathered (flat_map f (take i xs)) (f (get_or xs i d)) p q))
 
--- all the parts are gathered, and what is left is written
+-- all the parts are gathered, and then what is left is written
 pub writes_left : {A E : Type 0} (r : Result A E) (a b c : OutLog) (gathered due : List ℕ) →
     WroteBut a b gathered due → Writes r b c gathered → Writes r a c due
 writes_left (Ok v) a b c gathered due p q =
@@ -73,7 +73,7 @@ writes_left (Ok v) a b c gathered due p q =
 writes_left (Err e) a b c gathered due p q =
     subst (WroteFront a c) p.both (wrote-front a b c p.front gathered p.wrote q)
 
--- where there was no room
+-- there was no room
 pub had_no_room : {A E : Type 0} (r : Result A E) (P : Type 0) → is_ok r ≡ false → OnErr r P → P
 had_no_room (Ok v) P h p = absurd (true≢false h)
 had_no_room (Err e) P h p = p

@@ -9,12 +9,12 @@ use Rattle.std.specs.Prelude.{codes}
 use Rattle.giop_print.specs.Text.{hex_digit, hex_octet, hex, hex_number, escaped_octet, escaped, quoted}
 use Rattle.giop_print.specs.Lines.{spaced_hex}
 
--- octets, and those that follow them
+-- the digits of octets and of those that follow them
 pub hex_append : (xs ys : List ℕ) → hex (xs ++ ys) ≡ hex xs ++ hex ys
 unfolding hex
 hex_append xs ys = flat_map-append hex_octet xs ys
 
--- the first octets, and those after them
+-- the digits of the first octets, and of those after them
 pub hex_parted : (n : ℕ) (xs text : List ℕ) →
     hex (take n xs) ++ (hex (drop n xs) ++ text) ≡ hex xs ++ text
 hex_parted n xs text =
@@ -30,7 +30,7 @@ pub spaced_some : (xs : List ℕ) → 0 < length xs → spaced_hex xs ≡ codes 
 spaced_some [] h = absurd (omega arith)
 spaced_some (x ∷ xs) h = refl
 
--- a piece's text before another
+-- the text of a piece, if the piece comes in two parts
 pub quoted_before : (held next text : List ℕ) →
     32 ∷ 34 ∷ (escaped held ++ (escaped next ++ (34 ∷ text))) ≡ (codes " " ++ quoted (held ++ next))
     ++ text
@@ -45,18 +45,18 @@ spaced_before held next text some =
     rw (spaced_some (held ++ next) some, hex_append)
     (ap (λ z. 32 ∷ z) (sym (append_assoc (hex held) (hex next) text)))
 
--- one octet alone
+-- the text of one octet alone
 pub escaped_one : (x : ℕ) → escaped (x ∷ []) ≡ escaped_octet x
 unfolding escaped
 escaped_one x = append-nil (escaped_octet x)
 
--- a power of 16 as one of 2
+-- a power of 16 as a power of 2
 pow-16 : (k : ℕ) → 16 ^ k ≡ 2 ^ (4 * k)
 pow-16 zero = refl
 pow-16 (suc k) = let e : 4 * suc k ≡ 4 * k + 4 = omega arith in
     rw (pow-suc, e, pow-add, pow-16 k) refl
 
--- the two digits of each octet stand in a table
+-- the table holds the two digits of each octet
 are_pairs : ℕ → Bool
 are_pairs zero = true
 are_pairs (suc x) = (eqb (get_or PAIRS (x * 2) 0) (hex_digit (x / 16))
@@ -78,7 +78,7 @@ pub pair_at : (x : ℕ) → x < 256 → (get_or PAIRS (x * 2) 0 ≡ hex_digit (x
 unfolding are_pairs
 pair_at x h = pairs_below 256 x tt h
 
--- no octet yet, from the end
+-- octets are spelled from the last to the first: no octet is spelled yet
 pub hex_last : (text : List ℕ) (xs : List ℕ) → text ≡ hex (drop (length xs) xs) ++ text
 unfolding hex
 hex_last text xs = rw (drop_all (length xs) xs (omega arith)) refl
@@ -87,7 +87,7 @@ pub escaped_last : (text : List ℕ) (xs : List ℕ) → text ≡ escaped (drop 
 unfolding escaped
 escaped_last text xs = rw (drop_all (length xs) xs (omega arith)) refl
 
--- one octet more, from the end
+-- one octet more is spelled
 from_end : (xs : List ℕ) (i : ℕ) → 0 < i → i ≤ length xs →
     drop (i - 1) xs ≡ get_or xs (i - 1) 0 ∷ drop i xs
 from_end xs i p h = let e : i - 1 + 1 ≡ i = omega arith in
@@ -118,7 +118,7 @@ low_digit k n =
     let e : 4 * (2 * k) ≡ 8 * k = omega arith in
     rw (pow-16 (2 * k), e) (omega arith)
 
--- the octets of a number from the one at k, each by one shift more
+-- a number without its last 8 * k bits: the octets of a number are spelled from these
 abbrev shifted : ℕ → ℕ → ℕ
 shifted zero n = n
 shifted (suc k) n = shifted k n / 256

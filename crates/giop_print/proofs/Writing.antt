@@ -1,5 +1,5 @@
--- Writing a text in parts, one call after the other: all of it, or a front of it before a put
--- failed.
+-- Writing a text in parts, one call after another: all of the text was written, or a front of it
+-- before a put failed.
 use Rattle.std.proofs.Common.{◌≡◌, Result, Ok, Err, IsErr, ℕ, suc, get_or, flat_map, ◌+◌, ◌-◌, ◌≤◌, List, [], ◌∷◌, ◌++◌, length, take, drop, take-add, ◌<◌, length-take, length-drop, drop-drop, Option, Some, None, refl, sym, ap, ◌∙◌, subst, arith, append-nil, append_assoc, add-one, length-append, min, inl, inr}
 use Rattle.std.proofs.Math.Seq.{take-append-add, take-append_seam, take-suc}
 use Rattle.std.proofs.lemmas.List.Concat.{flat_map-append}
@@ -64,7 +64,7 @@ front-append a b x y p =
       failures = p.failures;
     }
 
--- one put of a run of them
+-- one put of a run of puts
 pub wrote-took : (a b c : OutLog) (bytes : List ℕ) (at n : ℕ) → at < length bytes →
     Wrote a b (take at bytes) → Took b c (drop at bytes) n → Wrote a c (take (at + n) bytes)
 unfolding counted
@@ -81,7 +81,7 @@ wrote-took a b c bytes at n h p q =
       failures = q.failures ∙ p.failures;
     }
 
--- all but a rest is written, and a put takes some of that
+-- all octets except the rest are written
 pub record LeavesRest (before after : OutLog) (bytes rest : List ℕ) : Type 0 where
   pub within : length rest ≤ length bytes
   pub behind : rest ≡ drop (length bytes - length rest) bytes
@@ -119,7 +119,7 @@ pub rest_from : (at : ℕ) (bytes : List ℕ) → take (length bytes - at) (drop
 rest_from at bytes = let l = length-drop at bytes in
     take_all (length bytes - at) (drop at bytes) (omega arith)
 
--- a part that was not written whole
+-- a part of a list wasn't written completely
 pub front-parts : {X : Type 0} (f : X → List ℕ) (a b c : OutLog) (xs : List X) (i : ℕ) (d : X) →
     i < length xs → Wrote a b (flat_map f (take i xs)) → WroteFront b c (f (get_or xs i d)) →
     WroteFront a c (flat_map f xs)
@@ -142,19 +142,19 @@ flat_map-take f xs i d h =
     rw (add-one, take-suc xs i d h) (flat_map-append f (take i xs) (get_or xs i d ∷ [])
     ∙ ap (λ z. flat_map f (take i xs) ++ z) (append-nil (f (get_or xs i d))))
 
--- a part that was written, and the call that writes the rest
+-- a part was written, and then a call writes the rest
 pub writes_then : {A E : Type 0} (r : Result A E) (a b c : OutLog) (x y : List ℕ) → Wrote a b x →
     Writes r b c y → Writes r a c (x ++ y)
 writes_then (Ok v) a b c x y p q = wrote-append a b c x y p q
 writes_then (Err e) a b c x y p q = wrote-front a b c x y p q
 
--- the exit of a `?` at a part that was not written whole
+-- the exit of a `?` at a part that wasn't written completely
 pub writes_err : {A E : Type 0} (r : Result A E) (a b : OutLog) (x y : List ℕ) → IsErr r →
     WroteFront a b x → Writes r a b (x ++ y)
 writes_err (Ok v) a b x y e p = absurd (false≢true e)
 writes_err (Err e) a b x y h p = front-append a b x y p
 
--- a front, where the answer is an error
+-- a front was written, and the answer is an error
 pub writes_failed : {A E : Type 0} (r : Result A E) (a b : OutLog) (x : List ℕ) → IsErr r →
     WroteFront a b x → Writes r a b x
 writes_failed (Ok v) a b x e p = absurd (false≢true e)

@@ -1,15 +1,15 @@
--- Gathering parts for one put: what was written, and what is still to write (steps).
+-- Gathering parts for one put: what was written, and what is still to be written (steps).
 use Rattle.std.specs.Prelude.{◌≡◌, ℕ, List, ◌++◌, Result, MatchResult}
 use Rattle.giop_print.specs.Output.{OutLog, Wrote, WroteFront}
 
--- all that was due was written but for what is left to write
+-- all that was due was written, except what is left to be written
 pub record WroteBut (before after : OutLog) (left due : List ℕ) : Type 0 where
   pub front : List ℕ
   pub wrote : Wrote before after front
   pub both : front ++ left ≡ due
 
--- what gathering a part did: all was written but for what is gathered now, or a front of it and a
--- put failed
+-- what gathering a part did: all was written except what is gathered now; or a front of it was
+-- written, and then a put failed
 abbrev pub Gathers : {A E : Type 0} → Result A E → OutLog → OutLog → List ℕ → List ℕ → List ℕ →
     Type 0
 Gathers r before after gathered left part =

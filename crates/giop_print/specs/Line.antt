@@ -2,24 +2,25 @@
 use Rattle.std.specs.Prelude.{◌≡◌, ℕ, ◌+◌, Bool, IsTrue, List, ◌++◌, length, drop, codes, decimal}
 use Rattle.giop_print.specs.declared.line.Line.{Line}
 
--- what was spelled
+-- the text that was spelled
 abbrev pub line_text : Line → List ℕ
 line_text l = drop l.at l.octets
 
--- how many octets more fit
+-- how many more octets fit
 abbrev pub line_room : Line → ℕ
 line_room l = l.at
 
--- a line of a message: its number and what follows that
+-- a line of a message: `m`, the message's number, and the rest of the line
 abbrev pub numbered : ℕ → List ℕ → List ℕ
 numbered message rest = codes "m" ++ (decimal message ++ rest)
 
--- a line of a message at a place, and what the place is followed by
+-- a line of a message at a place: `m`, the message's number, a space, the place, and the rest of
+-- the line
 abbrev pub headed : ℕ → List ℕ → List ℕ → List ℕ
 headed message place rest = numbered message (codes " " ++ (place ++ rest))
 
--- what spelling a text in front of a line did: all of the text is there now, or an end of it where
--- the line had no room
+-- what spelling a text before a line did: all of the text was put there, or an end of it if the
+-- line had no room for all
 pub record Spells (whole : Bool) (before after : Line) (text : List ℕ) : Type 0 where
   pub front : List ℕ
   pub spelled : line_text after ≡ front ++ line_text before

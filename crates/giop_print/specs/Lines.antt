@@ -1,5 +1,5 @@
 -- The text of each line (docs/FORMATS.md; meaning).
-use Rattle.std.specs.Prelude.{ℕ, ◌*◌, List, [], ◌∷◌, ◌++◌, Bool, true, false, ◌==◌, if◌then◌else◌, codes, decimal}
+use Rattle.std.specs.Prelude.{ℕ, ◌*◌, List, [], ◌∷◌, ◌++◌, Bool, true, false, ◌==◌, if◌then◌else◌, Option, Some, None, codes, decimal}
 use Rattle.std.specs.Fmt.{signed_decimal}
 use Rattle.giop_cdr.specs.declared.order.Order.{Order}
 use Rattle.giop_cdr.specs.declared.order.Order.TheVariants.{Big, Little}
@@ -18,7 +18,7 @@ abbrev pub order_word : Order → List ℕ
 order_word Big = codes "big"
 order_word Little = codes "little"
 
--- the word of a message type, or above 7 its number
+-- the word of a message type, or its number if the type is above 7
 unfoldable pub type_word : ℕ → List ℕ
 type_word t =
     if t == 0 then codes "Request"
@@ -53,7 +53,7 @@ kind_word prims.ULongLong = codes "ulonglong"
 kind_word prims.Float = codes "float"
 kind_word prims.Double = codes "double"
 
--- a number of a primitive of this size: bits have two digits for each octet
+-- the text of a number of a primitive of this size; bits have two digits for each octet
 abbrev pub number_text : ℕ → Number → List ℕ
 number_text size (Unsigned n) = decimal n
 number_text size (Signed z) = signed_decimal z
@@ -65,10 +65,16 @@ number_text size (Char c) = quoted (c ∷ [])
 abbrev pub spaced : List ℕ → List ℕ
 spaced word = codes " " ++ word ++ codes " "
 
--- a value of a kind, whose word has its spaces
+-- the line of a value of a kind; the word of the kind already has its spaces
 unfoldable pub kind_line : ℕ → List ℕ → List ℕ → List ℕ → List ℕ
 kind_line message path kind text =
     joined (codes "m" ∷ decimal message ∷ codes " " ∷ path ∷ kind ∷ text ∷ codes "\n" ∷ [])
+
+-- the text of a number with its name: a word, and the code after it if there is one
+abbrev pub named_text : ℕ → List ℕ → Option ℕ → List ℕ
+named_text number word None = decimal number ++ (codes " " ++ word)
+named_text number word (Some code) =
+    decimal number ++ (codes " " ++ (word ++ (codes " " ++ decimal code)))
 
 abbrev pub value_line : ℕ → List ℕ → Value → List ℕ
 value_line message path (values.Primitive prim number) =
@@ -76,6 +82,8 @@ value_line message path (values.Primitive prim number) =
 value_line message path (values.Enum name) = kind_line message path (codes " enum ") name.now
 value_line message path (values.Count count) =
     kind_line message path (codes " count ") (decimal count)
+value_line message path (values.Named number word code) =
+    kind_line message path (codes " ulong ") (named_text number word.now code)
 
 -- the octets of a piece
 abbrev pub piece_octets : Piece → List ℕ
@@ -99,12 +107,12 @@ abbrev pub piece_text : Piece → List ℕ
 piece_text (pieces.Text octets) = codes " " ++ quoted octets.now
 piece_text piece = spaced_hex (piece_octets piece)
 
--- the same of a piece whose octets are followed by more
+-- the text of a piece whose octets are followed by more octets
 abbrev pub split_text : Piece → List ℕ → List ℕ
 split_text (pieces.Text octets) next = codes " " ++ quoted (octets.now ++ next)
 split_text piece next = spaced_hex (piece_octets piece ++ next)
 
--- a part of a content: its offset there, its text, and whether more comes
+-- the line of a part of a content: its offset in the content, its text, and whether more comes
 unfoldable pub content_line : ℕ → List ℕ → List ℕ → ℕ → List ℕ → List ℕ → List ℕ
 content_line message path word offset text more =
     joined (codes "m" ∷ decimal message ∷ codes " " ∷ path ∷ word ∷ decimal offset ∷ text ∷ more
@@ -118,7 +126,8 @@ abbrev pub split_piece_line : ℕ → List ℕ → Piece → List ℕ → ℕ �
 split_piece_line message path held octets offset more =
     content_line message path (piece_word held) offset (split_text held octets) (more_word more)
 
--- an encapsulation: how many octets it has, their order, and those that are left after its value
+-- the lines of an encapsulation: how many octets it has, their order, and the octets that are left
+-- after its value
 abbrev pub encapsulation_line : ℕ → List ℕ → ℕ → List ℕ
 encapsulation_line message path length =
     kind_line message path (codes " encapsulation ") (decimal length)
@@ -146,7 +155,7 @@ call_line message id name =
     joined (codes "m" ∷ decimal message ∷ codes " call " ∷ decimal id ∷ codes " " ∷ name ∷ codes
     "\n" ∷ [])
 
--- of a Request whose object key has an interface
+-- the line of a Request whose object key has an interface
 unfoldable pub interface_call_line : ℕ → ℕ → List ℕ → List ℕ → List ℕ
 interface_call_line message id name interface =
     joined (codes "m" ∷ decimal message ∷ codes " call " ∷ decimal id ∷ codes " " ∷ name

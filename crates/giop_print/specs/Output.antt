@@ -2,17 +2,17 @@
 use Rattle.std.specs.Prelude.{◌≡◌, ℕ, ◌+◌, ◌-◌, ◌^◌, ◌≤◌, ◌<◌, List, length, take, Option, Result, min, MatchResult}
 use Rattle.std.specs.Io.KnownBytes.{Appends, Keeps}
 
--- what was written, where that is known, and how many puts and failures there were
+-- what was written, if that is known, and how many puts and failures there were
 pub record OutLog : Type 0 where
   pub written : Option (List ℕ)
   pub puts : ℕ
   pub failures : ℕ
 
--- one more, in a count that stays at its greatest
+-- one more, except that a count of 2^64 - 1 stays
 unfoldable pub counted : ℕ → ℕ
 counted n = min (n + 1) (2 ^ 64 - 1)
 
--- a put took the first n octets of what it was handed, at least one unless there were none
+-- a put took the first n octets of those that it was given: at least one, unless there were none
 pub record Took (before after : OutLog) (octets : List ℕ) (n : ℕ) : Type 0 where
   pub some : 0 < length octets → 0 < n
   pub within : n ≤ length octets
@@ -26,7 +26,7 @@ pub record Failed (before after : OutLog) : Type 0 where
   pub puts : after.puts ≡ counted before.puts
   pub failures : after.failures ≡ counted before.failures
 
--- all that was due was written, by no more puts than octets, and none failed
+-- all that was due was written, by at most as many puts as octets, and no put failed
 pub record Wrote (before after : OutLog) (due : List ℕ) : Type 0 where
   pub written : Appends before.written after.written due
   pub puts : after.puts ≤ before.puts + length due
@@ -39,7 +39,7 @@ pub record WroteFront (before after : OutLog) (due : List ℕ) : Type 0 where
   pub puts : after.puts ≤ before.puts + length due
   pub failures : after.failures ≡ counted before.failures
 
--- what writing did: all that was due, or a front of it and a failed put
+-- what writing did: all that was due was written; or a front of it, and then a put failed
 abbrev pub Writes : {A E : Type 0} → Result A E → OutLog → OutLog → List ℕ → Type 0
 Writes r before after due = MatchResult r (λ _. Wrote before after due)
     (λ _. WroteFront before after due)

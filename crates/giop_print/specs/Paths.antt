@@ -1,4 +1,4 @@
--- Where a value stands in its message: a root and what is added for each part on the way
+-- Where a value stands in its message: a root, and what is added for each step from there
 -- (docs/FORMATS.md; meaning).
 use Rattle.std.specs.Prelude.{ℕ, List, ◌++◌, codes, decimal}
 use Rattle.giop_print.specs.declared.path.Root.{Root}
@@ -23,10 +23,10 @@ root_word Header = codes "header"
 root_word Exception = codes "exception"
 root_word Body = codes "body"
 
--- a member
+-- the step to a member
 abbrev pub name_segment : List ℕ → List ℕ
 name_segment name = codes "." ++ name
 
--- an element
+-- the step to an element
 abbrev pub index_segment : ℕ → List ℕ
 index_segment index = codes "[" ++ decimal index ++ codes "]"

@@ -11,6 +11,6 @@ sheet_log s = record {
       s.failures;
 }
 
--- how many octets more fit
+-- how many more octets fit
 abbrev pub sheet_room : Sheet → ℕ
 sheet_room s = length s.into.now - s.used

@@ -6,7 +6,7 @@ ghost use Rattle.giop_print.specs.Text.{hex_digit, hex, hex_number};
 
 use std::simd::prelude::*;
 
-/// The digit of each of some numbers below 16, in one step where the processor looks up lanes.
+/// The digit of each of these numbers below 16, in one step if the processor looks up lanes.
 #[inline(always)]
 fn digits(numbers: u8x16) -> u8x16
     requires { Each1 (λ number. number < 16) numbers }
@@ -15,7 +15,8 @@ fn digits(numbers: u8x16) -> u8x16
     u8x16::from_array(*b"0123456789abcdef").swizzle_dyn(numbers)
 }
 
-/// The two digits of each of 16 octets: those of the first eight, and those of the others.
+/// The two digits of each of 16 octets: first the digits of the first eight, and then those of the
+/// others.
 #[inline(always)]
 pub(crate) fn digit_pairs(octets: u8x16) -> (u8x16, u8x16)
     ensures first { result.0 ≡ hex (take 8 octets) }

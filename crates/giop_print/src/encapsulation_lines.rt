@@ -1,5 +1,6 @@
-//! The lines of an encapsulation, written to any `Out` (docs/FORMATS.md): how many octets it has, their order, and
-//! those that are left after its value. Each function returns as those of the other lines do.
+//! The lines of an encapsulation, written to any `Out` (docs/FORMATS.md): how many octets it has,
+//! their order, and the octets that are left after its value. Each function returns as the
+//! functions of the other lines do.
 
 ghost use Rattle.std.specs.Prelude.{◌+◌, ◌≤◌, ◌++◌, length};
 ghost use Rattle.giop_print.specs.Output.{Writes};
@@ -47,8 +48,8 @@ pub fn inner_rest_line<O: Out, P: Position>(
     split_inner_rest_line(out, path, offset, octets, &[])
 }
 
-/// The line of a part of an encapsulation's rest that came in two: the octets that were held, and those that follow
-/// them, at most 32 in all.
+/// The line of a part of an encapsulation's rest that came in two parts: the octets that were held,
+/// and those that follow them, at most 32 together.
 #[tactic(auto, unfolding(crate::specs::Lines::content_line))]
 pub fn split_inner_rest_line<O: Out, P: Position>(
     out: &mut O,

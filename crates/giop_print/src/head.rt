@@ -9,15 +9,16 @@ use crate::path::Root;
 use itoa::write_digits;
 use std::marker::Model;
 
-/// The most octets that a head has: `m`, 20 digits, a space, and `exception`, which are 31.
+/// The most octets that a head can have is 31: `m`, 20 digits, a space, and `exception`.
 const SIZE: usize = 32;
 
-/// The number of a message and a root, spelled once for all lines that begin with them. A contract sees the two.
+/// The number of a message and a root, spelled once for all lines that begin with them. A contract
+/// sees the number and the root.
 #[derive(Clone, Debug, Drop)]
 pub struct Head {
     message: u64,
     root: Root,
-    // The text stands at their end.
+    // The text stands at the end of these octets.
     octets: [u8; SIZE],
     count: u8,
 }
@@ -35,7 +36,7 @@ impl Model for Head {
         × (drop (32 - head.count) head.octets ≡ headed head.message (root_word head.root) []) };
 }
 
-/// The octets of a head but for the number of its message, and where that ends.
+/// The octets of a head without the number of its message, and the place at which that number ends.
 #[inline(always)]
 fn behind_number(root: Root) -> ([u8; SIZE], usize)
     ensures text { drop result.1 result.0 ≡ codes " " ++ root_word root }
@@ -81,7 +82,7 @@ impl Head {
         self.root
     }
 
-    /// Puts it before what was spelled of a line.
+    /// Puts the head before what was spelled of a line.
     #[inline(always)]
     pub fn put(&self, line: &mut Line)
         requires { 32 ≤ line_room line.old }

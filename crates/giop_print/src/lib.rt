@@ -1,4 +1,4 @@
-//! The lines of a dump: their text, and the sinks that they are written to.
+//! The lines of a dump: their text, and the sinks to which they are written.
 #![tactic(auto)]
 
 mod digits;

@@ -1,4 +1,5 @@
-//! A line that is spelled from its end to its front, so that the digits of a number go straight to their place.
+//! A line that is spelled from its end to its front, so that the digits of a number can be put
+//! straight into their place.
 
 ghost use Rattle.std.specs.Prelude.{◌≡◌, ◌≤◌, ◌<◌, ◌+◌, ◌-◌, ◌*◌, [], ◌∷◌, ◌++◌, length, take, drop, decimal};
 ghost use Rattle.std.specs.Fmt.{signed_decimal};
@@ -20,7 +21,7 @@ const BLOCK: usize = 16;
 static PAIRS: [u8; 512] =
     *b"000102030405060708090a0b0c0d0e0f101112131415161718191a1b1c1d1e1f202122232425262728292a2b2c2d2e2f303132333435363738393a3b3c3d3e3f404142434445464748494a4b4c4d4e4f505152535455565758595a5b5c5d5e5f606162636465666768696a6b6c6d6e6f707172737475767778797a7b7c7d7e7f808182838485868788898a8b8c8d8e8f909192939495969798999a9b9c9d9e9fa0a1a2a3a4a5a6a7a8a9aaabacadaeafb0b1b2b3b4b5b6b7b8b9babbbcbdbebfc0c1c2c3c4c5c6c7c8c9cacbcccdcecfd0d1d2d3d4d5d6d7d8d9dadbdcdddedfe0e1e2e3e4e5e6e7e8e9eaebecedeeeff0f1f2f3f4f5f6f7f8f9fafbfcfdfeff";
 
-/// The end of a line, in the last octets of an array; the octets before them are unused.
+/// The end of a line, in the last octets of an array. The octets before it are unused.
 #[derive(Drop)]
 pub struct Line {
     octets: [u8; ROOM],
@@ -31,7 +32,8 @@ pub struct Line {
 impl Line {
     ghost use Rattle.giop_print.specs.Line.{line_text, line_room};
 
-    /// A line of which nothing is spelled. Its room is filled with spaces, of which none ends a line.
+    /// A line before anything of it is spelled. Its room is filled with spaces, so no octet in it
+    /// ends a line.
     #[inline]
     pub fn new() -> Line
         ensures text { line_text result ≡ [] }
@@ -43,7 +45,7 @@ impl Line {
         }
     }
 
-    /// What was spelled.
+    /// The text that was spelled.
     #[inline]
     pub fn text(&self) -> &[u8]
         ensures { result.now ≡ line_text self.now }
@@ -51,7 +53,7 @@ impl Line {
         &self.octets[self.at..]
     }
 
-    /// How many octets more fit.
+    /// How many more octets fit.
     #[inline]
     pub fn room(&self) -> usize
         ensures value { result ≡ line_room self.now }
@@ -60,8 +62,8 @@ impl Line {
         self.at
     }
 
-    /// The last 64 octets that fit. What was spelled stands at their end, where it isn't longer; else
-    /// they are its end.
+    /// The last 64 octets of the room. If what was spelled isn't longer, it stands at their end;
+    /// else they are its end.
     #[inline]
     pub fn last_octets(&self) -> &[u8]
         ensures size { length result.now ≡ 64 }
@@ -73,7 +75,7 @@ impl Line {
         &self.octets[ROOM - 64..]
     }
 
-    /// Begins anew: nothing is spelled.
+    /// Begins a new line: nothing of it is spelled.
     #[inline]
     pub fn clear(&mut self)
         ensures text { line_text self.new ≡ [] }
@@ -82,7 +84,7 @@ impl Line {
         self.at = ROOM;
     }
 
-    /// Drops what was spelled last, so that so many octets more fit.
+    /// Drops what was spelled last, until this many octets fit.
     #[inline]
     pub(crate) fn cut(&mut self, room: usize)
         requires within { line_room self.old ≤ room }
@@ -117,8 +119,8 @@ impl Line {
         self.at = at;
     }
 
-    /// Puts the end of a block, so many octets, before what was spelled. All of the block is
-    /// copied, since a copy of a fixed size is one step.
+    /// Puts the last `count` octets of a block before what was spelled. The whole block is copied,
+    /// since a copy of a fixed size is one step.
     #[inline]
     pub fn put_end(&mut self, block: &[u8], count: usize)
         requires size { length block.now ≡ 16 }
@@ -130,7 +132,7 @@ impl Line {
         self.put_lanes(u8x16::from_slice(block), count);
     }
 
-    /// Puts the end of two blocks, so many octets, before what was spelled, the last block first.
+    /// Puts the last `count` octets of two blocks before what was spelled, the last block first.
     #[inline(always)]
     pub(crate) fn put_blocks(&mut self, blocks: &[u8], count: usize)
         requires size { length blocks.now ≡ 32 }
@@ -147,7 +149,8 @@ impl Line {
         }
     }
 
-    /// Puts what was spelled of another line before what was spelled of this: by blocks, where it is short.
+    /// Puts what was spelled of another line before what was spelled of this line. If the other
+    /// line is short, it is copied in blocks.
     #[inline(always)]
     pub(crate) fn put_front(&mut self, front: &Line)
         requires within { length (line_text front.now) ≤ line_room self.old }
@@ -163,7 +166,7 @@ impl Line {
         }
     }
 
-    /// Puts the last lanes of a vector, so many, before what was spelled.
+    /// Puts the last `count` lanes of a vector before what was spelled.
     #[inline(always)]
     fn put_lanes(&mut self, block: u8x16, count: usize)
         requires within { count ≤ 16 }
@@ -212,8 +215,8 @@ impl Line {
         self.put(PAIRS[pair]);
     }
 
-    /// Puts two digits for each octet before what was spelled: of 16 octets at once, from the last,
-    /// and of those in front of them one by one.
+    /// Puts two digits for each octet before what was spelled: first 16 octets at once, from the
+    /// last, and then one by one the octets before those.
     #[inline(always)]
     #[tactic(auto, using(crate::proofs::Spelling::spelling_steps))]
     pub(crate) fn put_hex(&mut self, octets: &[u8])
@@ -301,7 +304,8 @@ impl Line {
         self.put(b'"');
     }
 
-    /// Puts the digits of a number of so many octets, two for each, before what was spelled.
+    /// Puts the digits of a number that has this many octets before what was spelled, two for each
+    /// octet.
     #[inline]
     pub(crate) fn put_bits(&mut self, n: u64, octets: u8)
         requires octets { octets ≤ 8 }
@@ -312,8 +316,9 @@ impl Line {
         self.put_lanes(number_digits(n), 2 * usize::from(octets));
     }
 
-    /// Puts what a piece has after its offset, where `next` follows its octets, before what was spelled: a space and
-    /// its text between quotes, or, of any but a string, a space and its digits where it has octets.
+    /// Puts what a piece has after its offset before what was spelled; the octets `next` follow
+    /// those of the piece. A string has a space and its text between quotes. Any other piece has a
+    /// space and its digits, or nothing if there are no octets.
     #[inline(always)]
     pub(crate) fn put_piece(&mut self, piece: Piece<'_>, next: &[u8])
         requires size { length (piece_octets piece) + length next.now ≤ 32 }
@@ -335,7 +340,8 @@ impl Line {
         }
     }
 
-    /// Puts a space and two digits for each octet, or nothing where there is none, before what was spelled.
+    /// Puts a space and two digits for each octet before what was spelled, or nothing if there are
+    /// no octets.
     #[inline(always)]
     fn put_spaced_hex(&mut self, octets: &[u8], next: &[u8])
         requires size { length octets.now + length next.now ≤ 32 }

@@ -1,11 +1,12 @@
-//! The lines of a dump, written to any `Out` (docs/FORMATS.md). A function returns Ok where its whole line was
-//! written; else a put failed, and a front of the line was written. Messages are named by their numbers.
+//! The lines of a dump, written to any `Out` (docs/FORMATS.md). If a function returns Ok, its whole
+//! line was written; else a put failed after a front of the line was written. Messages are named by
+//! their numbers.
 
 ghost use Rattle.std.specs.Prelude.{◌≡◌, ◌+◌, ◌≤◌, [], ◌++◌, length, codes, decimal};
 ghost use Rattle.giop_cdr.specs.Primitives.{size_of};
 ghost use Rattle.giop_print.specs.Output.{Writes};
 ghost use Rattle.giop_print.specs.Line.{line_text, line_room, numbered, headed, Spells};
-ghost use Rattle.giop_print.specs.Lines.{kind_line, kind_word, spaced, number_text, piece_octets, piece_word, split_text, more_word, value_line, piece_line, split_piece_line, rest_line, start_line, call_line, interface_call_line, continues_line, cancelled_line, fault_line, end_line, stream_fault_line, unfinished_line, total_line};
+ghost use Rattle.giop_print.specs.Lines.{kind_line, kind_word, spaced, named_text, number_text, piece_octets, piece_word, split_text, more_word, value_line, piece_line, split_piece_line, rest_line, start_line, call_line, interface_call_line, continues_line, cancelled_line, fault_line, end_line, stream_fault_line, unfinished_line, total_line};
 
 use crate::line::Line;
 use crate::position::Position;
@@ -15,7 +16,7 @@ use crate::words::{put_kind, put_more, put_order, put_piece_word, put_type, trut
 use giop_cdr::{Number, Prim, size};
 use itoa::Buffer;
 
-/// The line of a value: a number, an enum's name or a count.
+/// The line of a value: a number, an enum's name, a count, or an unsigned long with a name.
 pub fn value_line<O: Out, P: Position>(
     out: &mut O,
     path: &P,
@@ -28,10 +29,11 @@ pub fn value_line<O: Out, P: Position>(
         Value::Primitive(prim, number) => number_line(out, path, prim, number),
         Value::Enum(name) => kind_line(out, path, b" enum ", name),
         Value::Count(count) => counted_line(out, path, b" count ", count),
+        Value::Named { number, word, code } => named_line(out, path, number, word, code),
     }
 }
 
-/// The line of how many there are of something, whose word has its spaces.
+/// The line that says how many there are of something. The word of the kind already has its spaces.
 #[tactic(auto, unfolding(crate::specs::Lines::kind_line))]
 #[inline(always)]
 pub(crate) fn counted_line<O: Out, P: Position>(
@@ -68,7 +70,8 @@ fn number_line<O: Out, P: Position>(
     spelled_line(out, path, &mut line)
 }
 
-/// Puts what the line of a primitive's number has after its path on an empty line: kind, number and line feed.
+/// Puts what the line of a primitive's number has after its path on an empty line: the kind, the
+/// number and the line feed.
 #[inline(always)]
 pub fn put_number_end(line: &mut Line, prim: Prim, number: Number)
     requires empty { line_text line.old ≡ [] }
@@ -88,7 +91,7 @@ pub fn put_number_end(line: &mut Line, prim: Prim, number: Number)
     put_kind(line, prim);
 }
 
-/// A line whose front is at hand, and the rest of it, which is spelled.
+/// A line whose front is given, and whose rest is already spelled.
 #[inline(always)]
 pub fn line_behind<O: Out>(out: &mut O, front: &Line, line: &mut Line) -> Result<(), OutFault>
     requires within { length (line_text front.now) ≤ line_room line.old }
@@ -100,10 +103,10 @@ pub fn line_behind<O: Out>(out: &mut O, front: &Line, line: &mut Line) -> Result
     out.put_line(line)
 }
 
-/// How long a text may be that is spelled with its line. Most are shorter.
+/// The longest text that is spelled in one piece with its line. Most texts are shorter.
 const SHORT: usize = 128;
 
-/// The line of a value of a kind, whose word has its spaces.
+/// The line of a value of a kind. The word of the kind already has its spaces.
 #[tactic(auto, unfolding(crate::specs::Lines::kind_line))]
 pub fn kind_line<'a, O: Out, P: Position>(
     out: &mut O,
@@ -123,7 +126,70 @@ pub fn kind_line<'a, O: Out, P: Position>(
     placed_line(out, path, kind, &mut line)
 }
 
-/// The same of any text, in parts.
+/// The line of an unsigned long that has a name: the number, a word, and the code after it if there
+/// is one.
+#[tactic(auto, unfolding(crate::specs::Lines::kind_line))]
+#[inline(never)]
+fn named_line<O: Out, P: Position>(
+    out: &mut O,
+    path: &P,
+    number: u32,
+    word: &[u8],
+    code: Option<u16>,
+) -> Result<(), OutFault>
+    ensures { Writes result (O.log out.old) (O.log out.new)
+        (kind_line (P.message path.now) (P.spelled path.now) (codes " ulong ")
+        (named_text number word.now code)) }
+{
+    let mut line = Line::new();
+    line.put(b'\n');
+    if let Some(code) = code {
+        line.put_number(u64::from(code));
+        line.put(b' ');
+    }
+    if word.len() > SHORT {
+        return long_named_line(out, path, number, word, line.text());
+    }
+    line.put_octets(word);
+    line.put(b' ');
+    line.put_number(u64::from(number));
+    line.put_octets(b" ulong ");
+    spelled_line(out, path, &mut line)
+}
+
+/// The same line with a word of any length, written in parts, with what follows the word.
+#[inline(never)]
+fn long_named_line<O: Out, P: Position>(
+    out: &mut O,
+    path: &P,
+    number: u32,
+    word: &[u8],
+    end: &[u8],
+) -> Result<(), OutFault>
+    ensures { Writes result (O.log out.old) (O.log out.new)
+        (headed (P.message path.now) (P.spelled path.now)
+        (codes " ulong " ++ (decimal number ++ (codes " " ++ (word.now ++ end.now))))) }
+{
+    let mut message_digits = Buffer::new();
+    let mut digits = Buffer::new();
+    let place = path.path();
+    put_parts(
+        out,
+        &[
+            b"m",
+            message_digits.format(path.message()).as_bytes(),
+            b" ",
+            place.text(),
+            b" ulong ",
+            digits.format(number).as_bytes(),
+            b" ",
+            word,
+            end,
+        ],
+    )
+}
+
+/// The same line with a text of any length, written in parts.
 #[tactic(auto, unfolding(crate::specs::Lines::kind_line))]
 #[inline(never)]
 fn long_kind_line<'a, O: Out, P: Position>(
@@ -151,7 +217,7 @@ fn long_kind_line<'a, O: Out, P: Position>(
     )
 }
 
-/// What begins a line of a message at a position, and the rest of it, in parts.
+/// A line of a message at a position, written in parts: what it begins with, and the rest.
 #[inline(never)]
 fn long_line<'a, O: Out, P: Position>(
     out: &mut O,
@@ -177,7 +243,8 @@ fn long_line<'a, O: Out, P: Position>(
     )
 }
 
-/// What begins a line of a message at a position, a kind, and the rest of it, which is spelled.
+/// A line of a message at a position: what it begins with, a kind, and the rest, which is already
+/// spelled.
 fn placed_line<O: Out, P: Position>(
     out: &mut O,
     path: &P,
@@ -194,7 +261,8 @@ fn placed_line<O: Out, P: Position>(
     spelled_line(out, path, line)
 }
 
-/// What begins a line of a message at a position, and the rest of it, which is spelled with its kind.
+/// A line of a message at a position: what it begins with, and the rest, which is already spelled
+/// with its kind.
 pub(crate) fn spelled_line<O: Out, P: Position>(
     out: &mut O,
     path: &P,
@@ -211,7 +279,7 @@ pub(crate) fn spelled_line<O: Out, P: Position>(
     long_line(out, path, &[], line.text())
 }
 
-/// The number of a message, and the rest of its line, which is spelled.
+/// A line of a message: its number, and the rest, which is already spelled.
 #[inline(always)]
 pub fn numbered_line<O: Out>(out: &mut O, message: u64, line: &mut Line) -> Result<(), OutFault>
     requires { 21 ≤ line_room line.old }
@@ -223,7 +291,8 @@ pub fn numbered_line<O: Out>(out: &mut O, message: u64, line: &mut Line) -> Resu
     out.put_line(line)
 }
 
-/// The line of a piece of at most 32 octets, which stands at this offset in its content, and whether more comes.
+/// The line of a piece of at most 32 octets, with its offset in its content, and whether more
+/// comes.
 pub fn piece_line<O: Out, P: Position>(
     out: &mut O,
     path: &P,
@@ -244,7 +313,7 @@ pub fn piece_line<O: Out, P: Position>(
     split_piece_line(out, path, piece)
 }
 
-/// The line of a piece that came in two, at most 32 octets in all.
+/// The line of a piece that came in two parts, at most 32 octets together.
 #[tactic(auto, unfolding(crate::specs::Lines::content_line))]
 pub fn split_piece_line<O: Out, P: Position>(
     out: &mut O,
@@ -277,8 +346,8 @@ pub fn put_piece_end(line: &mut Line, piece: SplitPiece<'_>)
     put_piece_word(line, piece.held);
 }
 
-/// Puts what the line of a part of a content, which came in two, has after its word on an empty line: its offset,
-/// its octets, whether more comes, and the line feed.
+/// Puts what the line of a part of a content has after its word on an empty line: its offset, its
+/// octets, whether more comes, and the line feed. The part came in two parts.
 #[inline(always)]
 pub(crate) fn put_content(line: &mut Line, piece: SplitPiece<'_>)
     requires size { length (piece_octets piece.held) + length piece.rest.now ≤ 32 }
@@ -308,8 +377,8 @@ pub fn rest_line<O: Out>(
     split_rest_line(out, message, offset, octets, &[])
 }
 
-/// The line of a part of the rest that came in two: the octets that were held, and those that follow them, at most 32
-/// in all.
+/// The line of a part of the rest that came in two parts: the octets that were held, and those that
+/// follow them, at most 32 together.
 pub fn split_rest_line<O: Out>(
     out: &mut O,
     message: u64,
@@ -368,7 +437,7 @@ pub fn call_line<O: Out>(out: &mut O, message: u64, id: u32, name: &[u8]) -> Res
     numbered_line(out, message, &mut line)
 }
 
-/// The same of any name, in parts.
+/// The same line with a name of any length, written in parts.
 #[tactic(auto, unfolding(crate::specs::Lines::call_line))]
 #[inline(never)]
 fn long_call_line<O: Out>(out: &mut O, message: u64, id: u32, name: &[u8]) -> Result<(), OutFault>
@@ -451,7 +520,8 @@ pub fn cancelled_line<O: Out>(out: &mut O, message: u64, by: u64) -> Result<(), 
     )
 }
 
-/// The line of a message's fault: its word, and the number of stream octets up to the octet that has it.
+/// The line of a message's fault: its word, and the number of octets of the stream up to and with
+/// the octet that has the fault.
 #[tactic(auto, unfolding(crate::specs::Lines::fault_line))]
 pub fn fault_line<O: Out>(out: &mut O, message: u64, word: &str, place: u64) -> Result<(), OutFault>
     ensures { Writes result (O.log out.old) (O.log out.new) (fault_line message word.now place) }
@@ -468,7 +538,7 @@ pub fn fault_line<O: Out>(out: &mut O, message: u64, word: &str, place: u64) -> 
     numbered_line(out, message, &mut line)
 }
 
-/// The same of any word, in parts.
+/// The same line with a word of any length, written in parts.
 #[tactic(auto, unfolding(crate::specs::Lines::fault_line))]
 #[inline(never)]
 fn long_fault_line<O: Out>(
@@ -505,7 +575,8 @@ pub fn end_line<O: Out>(out: &mut O, message: u64) -> Result<(), OutFault>
     numbered_line(out, message, &mut line)
 }
 
-/// The line of the stream's fault: its word, and the number of octets up to the octet that has it.
+/// The line of the stream's fault: its word, and the number of octets up to and with the octet that
+/// has the fault.
 #[tactic(auto, unfolding(crate::specs::Lines::stream_fault_line))]
 pub fn stream_fault_line<O: Out>(out: &mut O, word: &str, place: u64) -> Result<(), OutFault>
     ensures { Writes result (O.log out.old) (O.log out.new) (stream_fault_line word.now place) }
@@ -539,7 +610,8 @@ pub fn unfinished_line<O: Out>(out: &mut O, message: u64) -> Result<(), OutFault
     )
 }
 
-/// The line of the whole stream: how many messages began, how many faults there were, and how many octets.
+/// The line of the whole stream: how many messages have begun, how many faults there were, and how
+/// many octets.
 #[tactic(auto, unfolding(crate::specs::Lines::total_line))]
 pub fn total_line<O: Out>(
     out: &mut O,

@@ -23,7 +23,7 @@ pub enum Root {
 /// A path: its root and at most 24 segments. A contract sees its text and how many segments it has.
 #[derive(Clone, Debug, Drop, PartialEq, Eq)]
 pub struct Path {
-    // a root of at most 9 octets, and segments of at most 65
+    // Room for a root of at most 9 octets, and for 24 segments of at most 65.
     text: ArrayVec<u8, 1569>,
     segments: u8,
 }
@@ -47,8 +47,8 @@ impl Model for Path {
 }
 
 impl Path {
-    /// The path of the whole that the root names. It fills some 1,600 octets: who writes many lines keeps one path, and
-    /// begins it anew by `restart`.
+    /// The path of the whole that the root names. It takes some 1,600 octets, so a caller that
+    /// writes many lines keeps one path and begins it again with `restart`.
     #[inline]
     pub fn new(root: Root) -> Path
         ensures { result ≡ record { text = root_word root; segments = 0 } }
@@ -61,7 +61,7 @@ impl Path {
         path
     }
 
-    /// Begins anew, in the same memory.
+    /// Begins the path again, in the same memory.
     #[inline]
     pub fn restart(&mut self, root: Root)
         ensures { self.new ≡ record { text = root_word root; segments = 0 } }
@@ -71,7 +71,7 @@ impl Path {
         self.text.try_extend_from_slice(root_word(root)).unwrap();
     }
 
-    /// The text.
+    /// The text of the path.
     #[inline]
     pub fn text(&self) -> &[u8]
         ensures { result.now ≡ self.now.text }
@@ -79,7 +79,7 @@ impl Path {
         &self.text
     }
 
-    /// Another of the same text.
+    /// Another path with the same text.
     pub fn copied(&self) -> Path
         ensures { result ≡ self.now }
     {
@@ -99,7 +99,7 @@ impl Path {
         usize::from(self.segments)
     }
 
-    /// Goes to a member, a case, or with the name `switch` to the discriminator.
+    /// Goes to a member or a case; with the name `switch`, it goes to the discriminator.
     #[inline]
     pub fn push_name(&mut self, name: &[u8])
         requires room { self.old.segments < 24 }

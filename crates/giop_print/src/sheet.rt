@@ -5,7 +5,8 @@ ghost use Rattle.giop_print.specs.Output.{Took, Failed};
 
 use crate::sink::{Out, OutFault, one_more};
 
-/// Octets in memory: it takes what fits, and fails only where it is full and is handed something.
+/// Octets in memory. A put takes as many octets as fit; it fails only if the memory is full and
+/// there are octets to put.
 #[derive(Drop)]
 pub struct Sheet<'a> {
     into: &'a mut [u8],
@@ -31,7 +32,7 @@ impl<'a> Sheet<'a> {
         }
     }
 
-    /// What was written.
+    /// The octets that were written.
     pub fn held(&self) -> &[u8]
         ensures { (sheet_log self.now).written ≡ Some result.now }
     {
@@ -48,9 +49,9 @@ impl<'a> Out for Sheet<'a> {
         ensures put { MatchResult result
             (λ n. Took (sheet_log self.old) (sheet_log self.new) octets.now n)
             (λ _. Failed (sheet_log self.old) (sheet_log self.new)) }
-        // It takes what fits.
+        // It takes as many octets as fit.
         ensures fits { IfOk result (λ n. n ≡ min (length octets.now) (sheet_room self.old)) }
-        // It fails only where it is full and is handed something.
+        // It fails only if the memory is full and there are octets to put.
         ensures full { OnErr result ((sheet_room self.old ≡ 0) × (0 < length octets.now)) }
     {
         self.puts = one_more(self.puts);
@@ -64,7 +65,7 @@ impl<'a> Out for Sheet<'a> {
     }
 }
 
-/// Copies what fits after the first `used` octets, and returns how much that is.
+/// Copies as many octets as fit to the place after the first `used` octets, and returns how many.
 fn copy_in(into: &mut [u8], used: usize, octets: &[u8]) -> usize
     requires { used ≤ length into.old }
     ensures count { result ≡ min (length octets.now) (length into.old - used) }

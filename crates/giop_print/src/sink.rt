@@ -1,4 +1,5 @@
-//! The sink of the lines: a trait `Out` for what takes octets, and writing all of some octets to one.
+//! The sink of the lines: a trait `Out` for what takes octets, and functions that write all of some
+//! octets to it.
 
 ghost use Rattle.std.specs.Prelude.{◌≡◌, MatchResult, flat_map};
 ghost use Rattle.giop_print.specs.Output.{OutLog, counted, Took, Failed, Writes};
@@ -9,17 +10,19 @@ use crate::line::Line;
 use arrayvec::ArrayVec;
 use thiserror::Error;
 
-/// A put that failed: nothing of what it was handed was written.
+/// A put failed: it wrote none of the octets that it was given.
 #[derive(Clone, Copy, Debug, PartialEq, Eq, Error)]
 #[error("write failed")]
 pub struct OutFault;
 
 /// Something that takes octets.
 pub trait Out {
-    /// What was written, where that is known, and how many puts and failures there were. A count at its greatest stays.
+    /// What was written, if that is known, and how many puts and failures there were. A count of
+    /// 2^64 - 1 stays.
     ghost log: { Self → OutLog };
 
-    /// Takes the first octets of what it is handed, at least one unless there are none, and returns how many.
+    /// Takes the first octets of those that it is given, at least one unless there are none, and
+    /// returns how many it took.
     fn put(&mut self, octets: &[u8]) -> Result<usize, OutFault>
         ensures { MatchResult result
             (λ n. Took (log self.old) (log self.new) octets.now n)
@@ -37,8 +40,8 @@ pub trait Out {
         Ok(())
     }
 
-    /// Writes a line that is spelled. Where something else is to stand in front of it, the room that the line has left
-    /// may be used for that, so what the line holds after this says nothing.
+    /// Writes a line that is spelled. If something must stand before the line, the unused room of
+    /// the line may be used for it, so this says nothing about what the line holds afterwards.
     fn put_line(&mut self, line: &mut Line) -> Result<(), OutFault>
         ensures { Writes result (log self.old) (log self.new) (line_text line.old) }
     {
@@ -69,7 +72,8 @@ pub fn put_parts<O: Out>(out: &mut O, parts: &[&[u8]]) -> Result<(), OutFault>
     put_all(out, gathered.as_slice())
 }
 
-/// Appends a part to what is gathered. Where it has no room all of it is written, and the part where it is long.
+/// Appends a part to what is gathered. If there is no room for it, all that is gathered is written
+/// first; and if the part is longer than the whole room, it is written too.
 #[inline]
 fn gather<O: Out>(
     out: &mut O,
@@ -96,7 +100,7 @@ fn gather<O: Out>(
     put_all(out, part)
 }
 
-/// One more, in a count that stays at its greatest.
+/// One more, except that a count of 2^64 - 1 stays.
 #[tactic(auto, unfolding(crate::specs::Output::counted))]
 pub fn one_more(count: u64) -> u64
     ensures { result ≡ counted count }

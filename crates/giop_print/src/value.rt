@@ -1,4 +1,4 @@
-//! What a line shows: of a header, or of a body a value or a piece of a content.
+//! What a line shows: a message's header, a value, or a piece of a content.
 
 use giop_cdr::{Number, Order, Prim};
 
@@ -11,29 +11,39 @@ pub enum Value<'a> {
     Enum(&'a [u8]),
     /// How many elements a sequence has.
     Count(u32),
+    /// The number of an unsigned long that has a name: a word, and the code after it if there is
+    /// one.
+    Named {
+        /// The number.
+        number: u32,
+        /// The word.
+        word: &'a [u8],
+        /// The code.
+        code: Option<u16>,
+    },
 }
 
 /// A piece of a content.
 #[derive(Clone, Copy, Debug, PartialEq, Eq)]
 pub enum Piece<'a> {
-    /// Of a string.
+    /// A piece of a string.
     Text(&'a [u8]),
-    /// Of an octet sequence.
+    /// A piece of an octet sequence.
     Octets(&'a [u8]),
-    /// Of a wide string.
+    /// A piece of a wide string.
     WideText(&'a [u8]),
-    /// Of a wide character.
+    /// A piece of a wide character.
     WideChar(&'a [u8]),
 }
 
-/// A piece of a content that came in two, and where it stands.
+/// A piece of a content that came in two parts, and where it stands.
 #[derive(Clone, Copy)]
 pub struct SplitPiece<'a> {
     /// How many octets of the content stand before it.
     pub offset: u64,
     /// The octets that were held.
     pub held: Piece<'a>,
-    /// Those that follow them.
+    /// The octets that follow them.
     pub rest: &'a [u8],
     /// Whether more of the content comes.
     pub more: bool,

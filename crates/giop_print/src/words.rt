@@ -32,7 +32,8 @@ pub fn put_order(line: &mut Line, order: Order)
     }
 }
 
-/// Puts the word of a message type, or above 7 its number, before what was spelled of a line.
+/// Puts the word of a message type before what was spelled of a line, or its number if the type is
+/// above 7.
 #[tactic(auto, unfolding(crate::specs::Lines::type_word))]
 #[inline(always)]
 pub fn put_type(line: &mut Line, kind: u8)
@@ -53,7 +54,7 @@ pub fn put_type(line: &mut Line, kind: u8)
     }
 }
 
-/// Puts what ends a line after which more comes before what was spelled of it.
+/// Puts ` more` before what was spelled of a line, if more comes.
 #[inline(always)]
 pub fn put_more(line: &mut Line, more: bool)
     requires { 5 ≤ line_room line.old }
@@ -73,8 +74,8 @@ pub fn truth_word(truth: bool) -> &'static [u8]
     if truth { b"true" } else { b"false" }
 }
 
-/// Puts the word of a primitive's kind, between spaces, before what was spelled of a line. Each word has a copy of its
-/// own, whose length the compiler knows.
+/// Puts the word of a primitive's kind, between spaces, before what was spelled of a line. There is
+/// a copy of the code for each word, so that the compiler knows the length of the word.
 #[inline(always)]
 pub fn put_kind(line: &mut Line, prim: Prim)
     requires { 11 ≤ line_room line.old }

@@ -5,7 +5,8 @@ ghost use Rattle.std.specs.Prelude.{◌≡◌};
 use crate::sink::{Out, OutFault, one_more};
 use std::io::Write;
 
-/// A writer as an `Out`. It fails where its writer does, and where that takes none of the octets that it is handed.
+/// A writer as an `Out`. A put fails if the writer fails, or if the writer takes none of the octets
+/// that it is given.
 #[derive(Drop)]
 pub struct Written<W: Write> {
     writer: W,

@@ -1,4 +1,4 @@
-//! Tests of lines: those of worked streams, of each kind of value, and outs that fail.
+//! Tests of lines: the lines of worked streams, the line of each kind of value, and outs that fail.
 #![tactic(auto)]
 
 #[cfg(test)]

@@ -30,7 +30,7 @@ fn lines_of_fragments_and_faults(rt: HostRuntime) -> Result<(), Fail> {
     Ok(())
 }
 
-/// Pieces of a text and of octets, whole and with more to come.
+/// Pieces of a text and of octets: the last ones, and ones after which more comes.
 fn pieces(sheet: &mut Sheet, path: &mut Path) -> Result<(), OutFault> {
     piece_line(
         sheet,
@@ -71,7 +71,7 @@ fn pieces_are_escaped_or_spelled_and_say_whether_more_comes(rt: HostRuntime) -> 
     Ok(())
 }
 
-/// A piece that came in two.
+/// A piece that came in two parts.
 fn split<'a>(offset: u64, held: Piece<'a>, rest: &'a [u8], more: bool) -> SplitPiece<'a>
     ensures held { result.held ≡ held.entry }
     ensures rest { result.rest ≡ rest.entry }
@@ -84,7 +84,7 @@ fn split<'a>(offset: u64, held: Piece<'a>, rest: &'a [u8], more: bool) -> SplitP
     }
 }
 
-/// Pieces of a text and of octets, and a part of a rest, of which each came in two.
+/// Pieces of a text and of octets, and a part of a rest. Each of them came in two parts.
 fn split_parts(sheet: &mut Sheet, path: &Path) -> Result<(), OutFault> {
     split_piece_line(
         sheet,
@@ -126,7 +126,7 @@ fn parts_that_came_in_two_are_written_as_one(rt: HostRuntime) -> Result<(), Fail
     Ok(())
 }
 
-/// Whether the head of a message and a root says these, and puts this text before a line.
+/// Whether the head has this message and this root, and puts this text before a line.
 fn is_head(message: u64, root: Root, text: &[u8]) -> bool {
     let head = Head::new(message, root);
     let mut line = Line::new();
@@ -162,7 +162,8 @@ fn the_end_of_a_block_goes_before_a_line(rt: HostRuntime) {
     assert!(rt; line.last_octets() == &line.text()[24..]);
 }
 
-/// An encapsulation and its order, and what is left of it after its value, whole and in two.
+/// An encapsulation and its order, and the octets that are left after its value: in one part, and
+/// in two.
 fn encapsulations(sheet: &mut Sheet, path: &Path) -> Result<(), OutFault> {
     encapsulation_line(sheet, &placed(1, path), 12)?;
     order_line(sheet, &placed(1, path), Order::Big)?;

@@ -7,7 +7,7 @@ use giop_cdr::Order;
 use giop_print::{Out, OutFault, Sheet, Written, end_line, put_all, start_line};
 use std::test::Fail;
 
-/// One more, in a count that stays at its greatest.
+/// One more, except that a count of 2^64 - 1 stays.
 #[tactic(auto, unfolding(giop_print::specs::Output::counted))]
 fn one_more(count: u64) -> u64
     ensures { result ≡ counted count }
@@ -54,7 +54,7 @@ fn an_out_that_fails_holds_what_came_before(rt: HostRuntime) {
     }
 }
 
-/// What differs of a request's lines where the put of this number fails.
+/// What differs of a request's lines if the put of this number fails.
 fn failing_differs(lines: &[u8], number: usize) -> &'static str {
     if number == 0 || number > lines.len() + 1 {
         return "the number";
@@ -83,7 +83,7 @@ fn a_full_sheet_fails(rt: HostRuntime) {
     assert!(rt; differs.is_empty(), "{differs}");
 }
 
-/// What differs over a sheet with room for a front of a line.
+/// What differs if a sheet has room only for a front of a line.
 fn full_differs(front: &[u8]) -> &'static str {
     let mut room = [0; 20];
     let mut sheet = Sheet::new(&mut room);

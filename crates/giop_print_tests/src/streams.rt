@@ -19,7 +19,7 @@ pub fn header(minor: u8, order: Order, kind: u8, size: u32) -> MessageHeader {
     }
 }
 
-/// The header of a Request and what it asks for.
+/// The lines of a stream with one Request: its start, header, call, body and end, and the total.
 pub fn request<O: Out>(out: &mut O) -> Result<(), OutFault> {
     let mut path = Path::new(Root::Header);
     start_line(out, 1, header(0, Order::Big, 0, 36))?;

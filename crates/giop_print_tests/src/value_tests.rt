@@ -6,8 +6,8 @@ use giop_print::{OutFault, Path, Root, Sheet, Value, put_all, value_line};
 use std::process::Abort;
 use std::test::Fail;
 
-/// A value and what its line has after `m9 body.m.switch`.
-static VALUES: [(Value<'static>, &str); 17] = [
+/// A value, and what its line has after `m9 body.m.switch`.
+static VALUES: [(Value<'static>, &str); 20] = [
     (
         Value::Primitive(Prim::Octet, Number::Unsigned(255)),
         "octet 255",
@@ -64,6 +64,30 @@ static VALUES: [(Value<'static>, &str); 17] = [
     (Value::Enum(b"red"), "enum red"),
     (Value::Enum(b"COMPLETED_NO"), "enum COMPLETED_NO"),
     (Value::Count(4_294_967_295), "count 4294967295"),
+    (
+        Value::Named {
+            number: 1,
+            word: b"CodeSets",
+            code: None,
+        },
+        "ulong 1 CodeSets",
+    ),
+    (
+        Value::Named {
+            number: 1_330_446_337,
+            word: b"OMG",
+            code: Some(1),
+        },
+        "ulong 1330446337 OMG 1",
+    ),
+    (
+        Value::Named {
+            number: 4_294_967_295,
+            word: b"TAO",
+            code: Some(65_535),
+        },
+        "ulong 4294967295 TAO 65535",
+    ),
 ];
 
 #[test]
@@ -81,7 +105,7 @@ fn each_has_its_line(rt: &impl Abort, path: &Path) -> Result<(), Fail> {
     Ok(())
 }
 
-/// Whether the line of a value ends in this.
+/// Whether the line of a value ends in this text.
 fn is_its_line(path: &Path, value: Value, want: &str) -> Result<bool, OutFault> {
     let mut room = [0; 128];
     let mut sheet = Sheet::new(&mut room);
@@ -94,10 +118,10 @@ fn is_its_line(path: &Path, value: Value, want: &str) -> Result<bool, OutFault> 
     Ok(sheet.held() == sample.held())
 }
 
-/// A name of 64 octets, the most that a name has.
+/// A name of 64 octets, the most that a name can have.
 const LONG_NAME: &[u8] = b"abcdefghijklmnopqrstuvwxyz0123456789_ABCDEFGHIJKLMNOPQRSTUVWXYZ0";
 
-/// A path of five such names, for which no line that is spelled from its end has room.
+/// A path of five such names. A line that is spelled from its end has no room for it.
 fn long_path() -> Path {
     let mut path = Path::new(Root::Body);
     path.push_name(LONG_NAME);
@@ -122,6 +146,28 @@ fn a_value_at_a_long_path_has_its_line(rt: HostRuntime) -> Result<(), Fail> {
         put_all(&mut sample, LONG_NAME)?;
     }
     put_all(&mut sample, b" ulong 7\n")?;
+    assert!(&rt; sheet.held() == sample.held());
+    Ok(())
+}
+
+#[test]
+fn a_name_may_be_longer_than_the_line_that_is_spelled_with_it(rt: HostRuntime) -> Result<(), Fail> {
+    let mut path = Path::new(Root::Body);
+    path.push_name(b"m");
+    let word = [b'n'; 129];
+    let mut room = [0; 256];
+    let mut sheet = Sheet::new(&mut room);
+    let value = Value::Named {
+        number: 70_000,
+        word: &word,
+        code: Some(12),
+    };
+    value_line(&mut sheet, &placed(9, &path), value)?;
+    let mut wanted = [0; 256];
+    let mut sample = Sheet::new(&mut wanted);
+    put_all(&mut sample, b"m9 body.m ulong 70000 ")?;
+    put_all(&mut sample, &word)?;
+    put_all(&mut sample, b" 12\n")?;
     assert!(&rt; sheet.held() == sample.held());
     Ok(())
 }

@@ -16,7 +16,7 @@ use Rattle.giop_sig.specs.declared.types.TypeId.{TypeId}
 use Rattle.giop_sig.specs.declared.catalogue.Signature.{Signature}
 use Rattle.giop_sig.specs.Table as nodes
 use Rattle.giop_sig.specs.Table.{Node, Case, TakesOctet, node_in, Operation, Exception, Identity, Table, keyed_number, exception_in, members_at, identified_in, identity_at, no_operation, no_exception, no_identity, with_type, with_operation, with_exception, with_identity}
-use Rattle.giop_sig.specs.Builtin.{builtin_types}
+use Rattle.giop_sig.specs.AnyTypes.{first_types}
 use Rattle.giop_sig.specs.HeaderTypes.{ArePlain, IsPlain, KnowsAnys, IsOperation, IsException, IsIdentity, AreDistinct, TableOf}
 use Rattle.giop_sig.specs.Trees.{AreFormed, AreWide, IsWide, IsWidePart}
 use Rattle.giop_sig.proofs.Builtins.{wide_plain}
@@ -104,7 +104,7 @@ type_added t n laws plain are = record {
   begins = (
     laws.begins.0 ++ n ∷ [],
     ap (λ xs. xs ++ n ∷ []) laws.begins.1
-        ∙ append_assoc builtin_types laws.begins.0 (n ∷ []),
+        ∙ append_assoc (first_types t.version) laws.begins.0 (n ∷ []),
   );
   operations = λ k d lt. call_stays t.types n (get_or t.operations k d) (laws.operations k d lt);
   exceptions = λ k d lt. raised_stays t.types n (get_or t.exceptions k d) (laws.exceptions k d lt);

@@ -1,28 +1,29 @@
--- The built-in types are a table, shown by computed tests, and every catalogue begins with them.
-use Rattle.std.proofs.Common.{◌≡◌, ℕ, zero, suc, ◌+◌, ◌-◌, ◌^◌, ◌<◌, ◌≤◌, Bool, true, false, ◌&&◌, ltb, leb, List, [], ◌∷◌, ◌++◌, length, get_or, Option, Some, None, refl, sym, ap, ◌∙◌, subst, take, lit<, lit≤, arith}
+-- The types of each version are a table, shown by computed tests, and every catalogue begins with
+-- those of its version.
+use Rattle.std.proofs.Common.{◌≡◌, ℕ, zero, suc, ◌+◌, ◌-◌, ◌^◌, ◌<◌, ◌≤◌, Bool, true, false, ◌&&◌, ltb, leb, List, [], ◌∷◌, ◌++◌, length, map, get_or, Option, Some, None, refl, sym, ap, ◌∙◌, subst, take, lit<, lit≤, arith}
 use Rattle.std.specs.Prelude.{slice_get, IfSome, cond, ◌==◌}
 use Rattle.std.specs.Option.{option_map}
 use Rattle.std.specs.List.{AllByRecursion}
-use Rattle.std.proofs.lemmas.Bool.{eqb-true, ltb-true, leb-true}
+use Rattle.std.proofs.lemmas.Bool.{eqb-true, ltb-true, ltb-false, leb-true}
 use Rattle.std.proofs.Math.Seq.{get_or-append_right}
-use Rattle.std.proofs.lemmas.List.{append-nil, get_or_append_left, length-append, length-take, length-take-le, take_more, get_or-take}
+use Rattle.std.proofs.lemmas.List.{append-nil, get_or-map, get_or_append_left, length-append, length-take-le, get_or-take}
 use Rattle.std.proofs.lemmas.List.Elements.{All-from_recursion}
 use Rattle.giop_cdr.specs.declared.prim.Primitive.TheVariants.{Octet}
 use Rattle.giop_sig.specs.declared.types.Selected.TheVariants as selecteds
 use Rattle.giop_sig.specs.declared.types.Fixed.{Fixed}
 use Rattle.giop_sig.specs.declared.types.Fixed.TheVariants as fixeds
-use Rattle.giop_sig.specs.declared.numbers.TheConstants.{BUILTIN_LEN, THIRD_LEN}
+use Rattle.giop_sig.specs.declared.numbers.TheConstants.{BUILTIN_LEN, CODE_SETS, CONTEXT_ID, THIRD_LEN, ULONG}
 use Rattle.giop_sig.specs.Fits.{IsFit}
 use Rattle.giop_sig.specs.Table.{Node, Part, Case, Table, node_in, takes_octet, IsFormed, IsInner, IsPart, IsSwitch, TakesOctet, IsScalarNode}
 use Rattle.giop_sig.specs.Table as nodes
 use Rattle.giop_sig.specs.Trees.{tree, depth_at, depth_in, depth_of, wide_room, AreFormed, AreTypes, AreWide, IsWide, IsWidePart}
-use Rattle.giop_sig.specs.AnyTypes.{first_types, third_types}
 use Rattle.giop_sig.specs.Heard.{first_fronts}
-use Rattle.giop_sig.specs.Builtin.{builtin_table, builtin_types}
-use Rattle.giop_sig.specs.HeaderTypes.{fixed_number, header_number, cell_of, cell_in, ArePlain, IsPlain, IsTable, KnowsAnys, TableOf}
+use Rattle.giop_sig.specs.Builtin.{builtin_types, compound_types, leaf_types, named_types, number_in, older, renumbered}
+use Rattle.giop_sig.specs.AnyTypes.{any_types, first_table, first_types, third_types}
+use Rattle.giop_sig.specs.HeaderTypes.{fixed_number, third_fixed, header_number, header_rows, header_type, cell_of, cell_in, ArePlain, IsPlain, IsTable, KnowsAnys, TableOf}
 use Rattle.giop_sig.proofs.Rooms.{tree_moved}
 use Rattle.giop_sig.proofs.Formed.{SameNodes, formed_moved}
-use Rattle.giop_sig.proofs.Depths.{FormedBelow, deepest_more}
+use Rattle.giop_sig.proofs.Depths.{FormedBelow, IsSteady, deepest_more}
 use Rattle.giop_sig.proofs.Solid.{both, fit_at, takes_by}
 
 scalar_test : Node → Bool
@@ -182,26 +183,72 @@ table_by types n (x ∷ xs) (suc i) k e lt at =
     let b = both (node_test types n x) (table_test types (suc n) xs) e in
     table_by types (suc n) xs i k b.1 (omega arith) (omega arith)
 
--- the deepest built-in type is the header of a 1.2 request
-pub builtin_depth : depth_of builtin_types ≡ 9
+-- ---- the types of each version
+
+-- the deepest of each version is the header of a 1.2 request
+builtin_depth : depth_of builtin_types ≡ 9
 unfolding depth_of depth_at builtin_types
 builtin_depth = refl
+
+third_depth : depth_of third_types ≡ 9
+unfolding depth_of depth_at third_types any_types
+third_depth = refl
+
+depth_by : (v : Bool) → depth_of (cond v third_types builtin_types) ≡ 9
+depth_by true = third_depth
+depth_by false = builtin_depth
+
+first_depth : (version : ℕ) → depth_of (first_types version) ≡ 9
+first_depth version = depth_by (version == 3)
 
 builtin_test : table_test builtin_types 0 builtin_types ≡ true
 unfolding table_test node_test names_test cases_test parts_test part_test switch_test inner_test
     scalar_test builtin_types
 builtin_test = refl
 
--- the built-in types are a table
-pub builtin_are : AreTypes builtin_types
-unfolding builtin_types
-builtin_are = record {
-  placed = record {
-    few = lit< tt;
-    formed = λ i lt. table_by builtin_types 0 builtin_types i i builtin_test lt (omega arith);
-  };
-  shallow = omega (arith, builtin_depth);
+third_test : table_test third_types 0 third_types ≡ true
+unfolding table_test node_test names_test cases_test narrow_test parts_test part_test switch_test
+    inner_test scalar_test third_types any_types
+third_test = refl
+
+are_by : (v : Bool) → AreFormed (cond v third_types builtin_types)
+unfolding builtin_types third_types any_types
+are_by true = record {
+  few = lit< tt;
+  formed = λ i lt. table_by third_types 0 third_types i i third_test lt (omega arith);
 }
+are_by false = record {
+  few = lit< tt;
+  formed = λ i lt. table_by builtin_types 0 builtin_types i i builtin_test lt (omega arith);
+}
+
+-- they are a table
+pub first_are : (version : ℕ) → AreTypes (first_types version)
+first_are version = record {
+  placed = are_by (version == 3);
+  shallow = omega (arith, first_depth version);
+}
+
+pub first_shallow : (version : ℕ) → depth_of (first_types version) ≤ 24
+first_shallow version = (first_are version).shallow
+
+few_by : (v : Bool) → length (cond v third_types builtin_types) ≤ THIRD_LEN
+unfolding builtin_types third_types any_types
+few_by true = lit≤ tt
+few_by false = lit≤ tt
+
+pub first_few : (version : ℕ) → length (first_types version) ≤ THIRD_LEN
+first_few version = few_by (version == 3)
+
+pub more_by : (v w : Bool) → (v ≡ true → w ≡ true)
+    → length (cond v third_types builtin_types) ≤ length (cond w third_types builtin_types)
+unfolding builtin_types third_types any_types
+more_by true true on = lit≤ tt
+more_by true false on = let e = on refl in absurd cc
+more_by false true on = lit≤ tt
+more_by false false on = lit≤ tt
+
+-- ---- what they have to do with an any
 
 plain_test : Node → Bool
 plain_test nodes.wide_text = false
@@ -231,8 +278,8 @@ all_plain_by (x ∷ xs) e zero lt = search (arith, both, plain_by)
 all_plain_by (x ∷ xs) e (suc i) lt = let k = both (plain_test x) (all_plain_test xs) e in
     all_plain_by xs k.1 i (omega arith)
 
--- no built-in type has to do with an any
-pub builtin_plain : ArePlain builtin_types
+-- no type of versions 1 and 2 has to do with an any
+builtin_plain : ArePlain builtin_types
 unfolding all_plain_test plain_test builtin_types
 builtin_plain = all_plain_by builtin_types refl
 
@@ -240,10 +287,10 @@ pub wide_plain : (types : List Node) (node : Node) → IsPlain node → IsWide t
 wide_plain types (nodes.typecode wide kind cases) plain = absurd plain
 wide_plain types _ plain = tt
 
-pub plain_wide : (types : List Node) → ArePlain types → AreWide types
+plain_wide : (types : List Node) → ArePlain types → AreWide types
 plain_wide types are i lt = wide_plain types (node_in types i) (are i lt)
 
-pub first_anys : (version : ℕ) (types : List Node) → ((version ≡ 3 → ⊥) → ArePlain types)
+first_anys : (version : ℕ) (types : List Node) → ((version ≡ 3 → ⊥) → ArePlain types)
     → AreWide types → KnowsAnys version types first_fronts
 first_anys version types plain wide = record {
   plain = plain;
@@ -252,28 +299,6 @@ first_anys version types plain wide = record {
       (lit≤ tt, (lit≤ tt, (lit≤ tt, tt)));
   few = lit≤ tt;
 }
-
--- and that of a catalogue without declarations
-pub builtin_is : IsTable builtin_table
-builtin_is = record {
-  types = builtin_are;
-  begins = ([], search (append-nil));
-  operations = search (arith);
-  exceptions = search (arith);
-  operations_distinct = λ i j li lj e. absurd (omega arith);
-  exceptions_distinct = λ i j li lj e. absurd (omega arith);
-  operations_few = lit≤ tt;
-  exceptions_few = lit≤ tt;
-  declared_few = lit≤ tt;
-  called_few = lit≤ tt;
-  identities = search (arith);
-  identities_distinct = λ i j li lj e. absurd (omega arith);
-  interfaces_few = lit≤ tt;
-  anys =
-      first_anys 1 builtin_types (λ other. builtin_plain) (plain_wide builtin_types builtin_plain);
-}
-
--- ---- the types with which a file of version 3 begins
 
 wide_part_test : List Node → ℕ → Bool
 wide_part_test types i =
@@ -327,109 +352,196 @@ all_wide_by types (x ∷ xs) (suc i) e lt =
     let k = both (wide_test types x) (all_wide_test types xs) e in
     all_wide_by types xs i k.1 (omega arith)
 
--- none is deeper than the header of a 1.2 request
-third_depth : depth_of (builtin_types ++ third_types) ≡ 9
-unfolding depth_of depth_at builtin_types third_types
-third_depth = refl
-
-third_test : table_test (builtin_types ++ third_types) 0 (builtin_types ++ third_types) ≡ true
-unfolding table_test node_test names_test cases_test narrow_test parts_test part_test switch_test
-    inner_test scalar_test builtin_types third_types
-third_test = refl
-
-third_wide_test :
-    all_wide_test (builtin_types ++ third_types) (builtin_types ++ third_types) ≡ true
-unfolding all_wide_test wide_test wide_cases_test wide_part_test depth_at builtin_types third_types
+third_wide_test : all_wide_test third_types third_types ≡ true
+unfolding all_wide_test wide_test wide_cases_test wide_part_test depth_at third_types any_types
 third_wide_test = refl
 
--- these are a table too
-pub third_are : AreTypes (builtin_types ++ third_types)
-unfolding builtin_types third_types
-third_are = record {
-  placed = record {
-    few = lit< tt;
-    formed = λ i lt. table_by (builtin_types ++ third_types) 0 (builtin_types ++ third_types) i i
-        third_test lt (omega arith);
-  };
-  shallow = omega (arith, third_depth);
-}
+third_wide : AreWide third_types
+third_wide i lt = all_wide_by third_types third_types i third_wide_test lt
 
-pub third_wide : AreWide (builtin_types ++ third_types)
-third_wide i lt =
-    all_wide_by (builtin_types ++ third_types) (builtin_types ++ third_types) i third_wide_test lt
+anys_by : (version : ℕ) (v : Bool) → (version == 3) ≡ v
+    → KnowsAnys version (cond v third_types builtin_types) first_fronts
+anys_by version true third = first_anys version third_types
+    (λ other. absurd (other (eqb-true version 3 third))) third_wide
+anys_by version false other = first_anys version builtin_types (λ other. builtin_plain)
+    (plain_wide builtin_types builtin_plain)
 
-third_after : (more : List Node) × (builtin_types ++ third_types ≡ builtin_types ++ more)
-third_after = (third_types, refl)
-
-shallow_by : (v : Bool) → depth_of (cond v (builtin_types ++ third_types) builtin_types) ≤ 24
-shallow_by true = third_are.shallow
-shallow_by false = builtin_are.shallow
-
-few_by : (v : Bool) → length (cond v (builtin_types ++ third_types) builtin_types) ≤ 92
-unfolding builtin_types third_types
-few_by true = lit≤ tt
-few_by false = lit≤ tt
-
-pub more_by : (v w : Bool) → (v ≡ true → w ≡ true)
-    → length (cond v (builtin_types ++ third_types) builtin_types)
-    ≤ length (cond w (builtin_types ++ third_types) builtin_types)
-unfolding builtin_types third_types
-more_by true true on = lit≤ tt
-more_by true false on = let e = on refl in absurd cc
-more_by false true on = lit≤ tt
-more_by false false on = lit≤ tt
-
--- the types with which a file of a version begins
-pub first_shallow : (version : ℕ) → depth_of (first_types version) ≤ 24
-first_shallow version = shallow_by (version == 3)
-
-pub first_few : (version : ℕ) → length (first_types version) ≤ 92
-first_few version = few_by (version == 3)
-
--- the table with which a file of a version begins
-first_by : (version : ℕ) (v : Bool) → (version == 3) ≡ v
-    → TableOf AreFormed (record builtin_table {
-      version = version;
-      types = cond v (builtin_types ++ third_types) builtin_types;
-    })
-first_by version true third = record {
-  types = third_are.placed;
-  begins = third_after;
+-- the table of a file without declarations
+pub builtin_is : (version : ℕ) → IsTable (first_table version)
+builtin_is version = record {
+  types = first_are version;
+  begins = ([], search (append-nil));
   operations = search (arith);
   exceptions = search (arith);
-  operations_distinct = builtin_is.operations_distinct;
-  exceptions_distinct = builtin_is.exceptions_distinct;
+  operations_distinct = λ i j li lj e. absurd (omega arith);
+  exceptions_distinct = λ i j li lj e. absurd (omega arith);
   operations_few = lit≤ tt;
   exceptions_few = lit≤ tt;
   declared_few = lit≤ tt;
   called_few = lit≤ tt;
   identities = search (arith);
-  identities_distinct = builtin_is.identities_distinct;
+  identities_distinct = λ i j li lj e. absurd (omega arith);
   interfaces_few = lit≤ tt;
-  anys = first_anys version (builtin_types ++ third_types)
-      (λ other. absurd (other (eqb-true version 3 third))) third_wide;
-}
-first_by version false other = record {
-  types = builtin_are.placed;
-  begins = builtin_is.begins;
-  operations = builtin_is.operations;
-  exceptions = builtin_is.exceptions;
-  operations_distinct = builtin_is.operations_distinct;
-  exceptions_distinct = builtin_is.exceptions_distinct;
-  operations_few = builtin_is.operations_few;
-  exceptions_few = builtin_is.exceptions_few;
-  declared_few = builtin_is.declared_few;
-  called_few = builtin_is.called_few;
-  identities = builtin_is.identities;
-  identities_distinct = builtin_is.identities_distinct;
-  interfaces_few = builtin_is.interfaces_few;
-  anys = first_anys version builtin_types (λ other. builtin_plain)
-      (plain_wide builtin_types builtin_plain);
+  anys = anys_by version (version == 3) refl;
 }
 
-pub first_is : (version : ℕ) → TableOf AreFormed
-    (record builtin_table { version = version; types = first_types version })
-first_is version = first_by version (version == 3) refl
+pub first_is : (version : ℕ) → TableOf AreFormed (first_table version)
+first_is version = let is = builtin_is version in record {
+  types = is.types.placed;
+  begins = is.begins;
+  operations = is.operations;
+  exceptions = is.exceptions;
+  operations_distinct = is.operations_distinct;
+  exceptions_distinct = is.exceptions_distinct;
+  operations_few = is.operations_few;
+  exceptions_few = is.exceptions_few;
+  declared_few = is.declared_few;
+  called_few = is.called_few;
+  identities = is.identities;
+  identities_distinct = is.identities_distinct;
+  interfaces_few = is.interfaces_few;
+  anys = is.anys;
+}
+
+-- ---- the types from their front
+
+-- the next one can be added
+pub next_formed : (all : List Node) (n : ℕ) (types : List Node) (node : Node) → AreFormed all
+    → n < length all → types ≡ take n all → node ≡ node_in all n
+    → IsFormed types (length types) node
+next_formed all n types node are lt front is =
+    let length_is : length types ≡ n = ap length front ∙ length-take-le n all (omega arith) in
+    subst (λ k. IsFormed types k node) (sym length_is)
+    (subst (IsFormed types n) (sym is)
+    (formed_moved all types n (node_in all n)
+    (λ i below. sym (ap (λ xs. node_in xs i) front ∙ get_or-take n all i (nodes.prim Octet) below))
+    (are.formed n lt)))
+
+pub next_few : (all : List Node) (n : ℕ) (types : List Node) → AreFormed all
+    → n < length all → types ≡ take n all → length types + 1 < 2 ^ 32
+next_few all n types are lt front =
+    omega (arith, ap length front, length-take-le n all (omega arith), are.few)
+
+-- those after the built-in ones
+pub third_node : (n : ℕ) → BUILTIN_LEN ≤ n
+    → node_in third_types n ≡ node_in any_types (n - BUILTIN_LEN)
+unfolding third_types
+third_node n le =
+    get_or-append_right (leaf_types ++ named_types ++ compound_types) any_types n
+    (nodes.prim Octet) le
+
+third_same : map (renumbered (λ n. n)) third_types ≡ third_types
+unfolding third_types any_types
+third_same = refl
+
+-- a type is that of version 3, with the numbers of its version
+numbered_third : (n : ℕ) → n < length third_types
+    → renumbered (λ n. n) (node_in third_types n) ≡ node_in third_types n
+numbered_third n lt =
+    sym (get_or-map (renumbered (λ n. n)) third_types n (nodes.prim Octet) (nodes.prim Octet) lt)
+    ∙ ap (λ types. node_in types n) third_same
+
+numbered_older : (n : ℕ) → n < length builtin_types
+    → node_in builtin_types n ≡ renumbered older (node_in (leaf_types ++ compound_types) n)
+unfolding builtin_types
+numbered_older n lt =
+    get_or-map (renumbered older) (leaf_types ++ compound_types) n (nodes.prim Octet)
+    (nodes.prim Octet) lt
+
+-- the same number in each version
+leaf_by : (n : ℕ) → n < CONTEXT_ID
+    → node_in third_types n ≡ node_in (leaf_types ++ compound_types) n
+unfolding third_types
+leaf_by n lt =
+    get_or_append_left leaf_types (named_types ++ compound_types ++ any_types) (nodes.prim Octet) n
+    lt
+    ∙ sym (get_or_append_left leaf_types compound_types (nodes.prim Octet) n lt)
+
+-- 4 more in version 3
+later_by : (n : ℕ) → CONTEXT_ID ≤ n → n < length builtin_types
+    → node_in third_types (n + 4) ≡ node_in (leaf_types ++ compound_types) n
+unfolding third_types builtin_types
+later_by n le lt =
+    let less : n + 4 - 17 ≡ n - CONTEXT_ID = omega arith in
+    get_or-append_right (leaf_types ++ named_types) (compound_types ++ any_types) (n + 4)
+    (nodes.prim Octet) (omega arith)
+    ∙ ap (node_in (compound_types ++ any_types)) less
+    ∙ get_or_append_left compound_types any_types (nodes.prim Octet) (n - CONTEXT_ID) (omega arith)
+    ∙ sym (get_or-append_right leaf_types compound_types n (nodes.prim Octet) le)
+
+pub leaf_older : (n : ℕ) → n < CONTEXT_ID → n < length builtin_types
+    → renumbered older (node_in third_types n) ≡ node_in builtin_types n
+leaf_older n front lt = ap (renumbered older) (leaf_by n front) ∙ sym (numbered_older n lt)
+
+pub later_older : (n : ℕ) → CONTEXT_ID ≤ n → n < length builtin_types
+    → renumbered older (node_in third_types (n + 4)) ≡ node_in builtin_types n
+later_older n le lt = ap (renumbered older) (later_by n le lt) ∙ sym (numbered_older n lt)
+
+pub later_few : (n : ℕ) → n < length builtin_types → n + 4 < THIRD_LEN
+unfolding builtin_types
+later_few n lt = omega arith
+
+third_by : (v : Bool) (n : ℕ) → v ≡ true → n < length (cond v third_types builtin_types)
+    → renumbered (λ k. cond v k (older k)) (node_in third_types n)
+    ≡ node_in (cond v third_types builtin_types) n
+third_by true n third lt = numbered_third n lt
+third_by false n third lt = absurd cc
+
+older_by : (v : Bool) (k n : ℕ) → v ≡ false
+    → renumbered older (node_in third_types k) ≡ node_in builtin_types n
+    → renumbered (λ k. cond v k (older k)) (node_in third_types k)
+    ≡ node_in (cond v third_types builtin_types) n
+older_by true k n other same = absurd cc
+older_by false k n other same = same
+
+known_by : (v : Bool) (n : ℕ) → v ≡ false → n < length (cond v third_types builtin_types)
+    → n < length builtin_types
+known_by true n other lt = absurd cc
+known_by false n other lt = lt
+
+-- the type of a number in version 3
+pub in_third : (version n : ℕ) → (version == 3) ≡ true → n < length (first_types version)
+    → renumbered (number_in version) (node_in third_types n) ≡ node_in (first_types version) n
+in_third version n third lt = third_by (version == 3) n third lt
+
+-- and in another
+pub in_older : (version k n : ℕ) → (version == 3) ≡ false
+    → renumbered older (node_in third_types k) ≡ node_in builtin_types n
+    → renumbered (number_in version) (node_in third_types k) ≡ node_in (first_types version) n
+in_older version k n other same = older_by (version == 3) k n other same
+
+pub known_third : (version n : ℕ) → n < length (first_types version) → n < THIRD_LEN
+known_third version n lt = omega (arith, first_few version)
+
+pub known_older : (version n : ℕ) → (version == 3) ≡ false → n < length (first_types version)
+    → n < length builtin_types
+known_older version n other lt = known_by (version == 3) n other lt
+
+-- ---- in every catalogue
+
+-- how many types of a version were before anys
+abbrev pub builtin_len : ℕ → ℕ
+builtin_len version = number_in version BUILTIN_LEN
+
+front_by : (v : Bool)
+    → cond v BUILTIN_LEN (older BUILTIN_LEN) ≤ length (cond v third_types builtin_types)
+unfolding builtin_types third_types any_types
+front_by true = lit≤ tt
+front_by false = lit≤ tt
+
+first_front : (version : ℕ) → builtin_len version ≤ length (first_types version)
+first_front version = front_by (version == 3)
+
+pub builtin_known : (t : Table) (i : ℕ) → IsTable t → i < builtin_len t.version
+    → i < length t.types
+builtin_known t i laws lt =
+    let b = laws.begins in
+    omega (
+      arith,
+      ap length b.1,
+      length-append (first_types t.version) b.0,
+      first_front t.version,
+    )
 
 all_take_test : List Node → Bool
 all_take_test [] = true
@@ -443,102 +555,112 @@ all_take_by (x ∷ xs) zero e lt = search (arith, both, takes_by)
 all_take_by (x ∷ xs) (suc i) e lt = let k = both (takes_octet x) (all_take_test xs) e in
     all_take_by xs i k.1 (omega arith)
 
-builtin_takes : (i : ℕ) → i < BUILTIN_LEN → TakesOctet (node_in builtin_types i)
-unfolding all_take_test builtin_types
-builtin_takes i lt = search (arith, all_take_by)
+takes_by_version : (v : Bool) (i : ℕ) → i < length (cond v third_types builtin_types)
+    → TakesOctet (node_in (cond v third_types builtin_types) i)
+unfolding all_take_test builtin_types third_types any_types
+takes_by_version true i lt = all_take_by third_types i refl lt
+takes_by_version false i lt = all_take_by builtin_types i refl lt
 
--- ---- the table from its front
+-- each takes some octet
+pub first_takes : (version i : ℕ) → i < length (first_types version)
+    → TakesOctet (node_in (first_types version) i)
+first_takes version i lt = takes_by_version (version == 3) i lt
 
--- the built-in types up to the next one
-pub next_builtin : (n : ℕ) → n < BUILTIN_LEN
-    → take (n + 1) builtin_types ≡ take n builtin_types ++ node_in builtin_types n ∷ []
-unfolding builtin_types
-next_builtin n lt = search (arith, take_more)
+steady_test : Node → Bool
+steady_test (nodes.any code) = false
+steady_test (nodes.typecode wide kind cases) = false
+steady_test node = true
 
--- the next built-in type can be added
-pub builtin_formed : (n : ℕ) (types : List Node) (node : Node) → n < BUILTIN_LEN
-    → types ≡ take n builtin_types → node ≡ node_in builtin_types n
-    → IsFormed types (length types) node
-unfolding builtin_types
-builtin_formed n types node lt front is = search (
-  arith,
-  length-take,
-  get_or-take,
-  formed_moved,
-  builtin_are,
-)
+steady_by : (node : Node) → steady_test node ≡ true → IsSteady node
+unfolding steady_test
+steady_by (nodes.any code) e = absurd cc
+steady_by (nodes.typecode wide kind cases) e = absurd cc
+steady_by _ e = tt
 
-pub builtin_few : (n : ℕ) (types : List Node) → n < BUILTIN_LEN → types ≡ take n builtin_types
-    → length types + 1 < 2 ^ 32
-builtin_few n types lt front = search (arith, length-take)
+all_steady_test : ℕ → List Node → Bool
+all_steady_test zero xs = true
+all_steady_test (suc n) [] = true
+all_steady_test (suc n) (x ∷ xs) = steady_test x && all_steady_test n xs
 
--- the types of a file of version 3 up to the next one
-pub next_third : (n : ℕ) → n < THIRD_LEN
-    → take (n + 1) (builtin_types ++ third_types)
-    ≡ take n (builtin_types ++ third_types) ++ node_in (builtin_types ++ third_types) n ∷ []
-unfolding builtin_types third_types
-next_third n lt = search (arith, take_more)
+all_steady_by : (n : ℕ) (xs : List Node) (i : ℕ) → all_steady_test n xs ≡ true → i < n
+    → IsSteady (node_in xs i)
+unfolding all_steady_test
+all_steady_by zero xs i e lt = absurd (omega arith)
+all_steady_by (suc n) [] i e lt = tt
+all_steady_by (suc n) (x ∷ xs) zero e lt = search (arith, both, steady_by)
+all_steady_by (suc n) (x ∷ xs) (suc i) e lt =
+    let k = both (steady_test x) (all_steady_test n xs) e in all_steady_by n xs i k.1 (omega arith)
 
--- the next one can be added
-pub third_formed : (n : ℕ) (types : List Node) (node : Node) → n < THIRD_LEN
-    → types ≡ take n (builtin_types ++ third_types)
-    → node ≡ node_in (builtin_types ++ third_types) n
-    → IsFormed types (length types) node
-unfolding builtin_types third_types
-third_formed n types node lt front is =
-    let all = builtin_types ++ third_types in
-    let length_is : length types ≡ n = ap length front ∙ length-take-le n all (omega arith) in
-    let formed = third_are.placed.formed n lt in
-    subst (λ k. IsFormed types k node) (sym length_is)
-    (subst (IsFormed types n) (sym is)
-    (formed_moved all types n (node_in all n)
-    (λ i below. sym (ap (λ xs. node_in xs i) front ∙ get_or-take n all i (nodes.prim Octet) below))
-    formed))
+steady_in : (v : Bool) (i : ℕ) → i < cond v BUILTIN_LEN (older BUILTIN_LEN)
+    → IsSteady (node_in (cond v third_types builtin_types) i)
+unfolding all_steady_test steady_test builtin_types third_types
+steady_in true i lt = all_steady_by BUILTIN_LEN third_types i refl lt
+steady_in false i lt = all_steady_by (older BUILTIN_LEN) builtin_types i refl lt
 
-pub third_few : (n : ℕ) (types : List Node) → n < THIRD_LEN
-    → types ≡ take n (builtin_types ++ third_types) → length types + 1 < 2 ^ 32
-unfolding builtin_types third_types
-third_few n types lt front = search (arith, length-take)
-
--- those after the built-in ones
-pub third_node : (n : ℕ) → BUILTIN_LEN ≤ n
-    → node_in (builtin_types ++ third_types) n ≡ node_in third_types (n - BUILTIN_LEN)
-unfolding builtin_types
-third_node n le = get_or-append_right builtin_types third_types n (nodes.prim Octet) le
-
-pub third_begins : builtin_types ≡ take BUILTIN_LEN (builtin_types ++ third_types)
-unfolding builtin_types
-third_begins = refl
-
-pub third_whole : take THIRD_LEN (builtin_types ++ third_types) ≡ builtin_types ++ third_types
-unfolding builtin_types third_types
-third_whole = refl
-
--- ---- in every catalogue
-
-pub builtin_known : (t : Table) (i : ℕ) → IsTable t → i < BUILTIN_LEN → i < length t.types
-unfolding builtin_types
-builtin_known t i laws lt = search (arith, length-append)
-
-builtin_same : (t : Table) → IsTable t → SameNodes builtin_types t.types BUILTIN_LEN
-unfolding builtin_types
-builtin_same t laws i lt = let b = laws.begins in
+first_same : (t : Table) → IsTable t
+    → SameNodes (first_types t.version) t.types (builtin_len t.version)
+first_same t laws i lt = let b = laws.begins in
+    let below : i < length (first_types t.version) = omega (arith, first_front t.version) in
     sym (ap (λ types. node_in types i) b.1
-    ∙ get_or_append_left builtin_types b.0 (nodes.prim Octet) i lt)
+    ∙ get_or_append_left (first_types t.version) b.0 (nodes.prim Octet) i below)
 
-pub builtin_tree : (t : Table) (i : ℕ) → IsTable t → i < BUILTIN_LEN
-    → tree t i ≡ tree builtin_table i
-unfolding builtin_types
+first_placed : (version : ℕ) → FormedBelow (first_types version) (builtin_len version)
+first_placed version i lt =
+    (first_are version).placed.formed i (omega (arith, first_front version))
+
+older_less : (a b : Bool) (n : ℕ) → ltb n CONTEXT_ID ≡ a → ltb n CODE_SETS ≡ b
+    → n < BUILTIN_LEN → cond a n (cond b ULONG (n - 4)) < older BUILTIN_LEN
+older_less true b n e f lt = omega (arith, ltb-true n CONTEXT_ID e)
+older_less false true n e f lt = lit< tt
+older_less false false n e f lt = omega (arith, ltb-false n CODE_SETS f)
+
+less_by : (v : Bool) (n : ℕ) → n < BUILTIN_LEN
+    → cond v n (older n) < cond v BUILTIN_LEN (older BUILTIN_LEN)
+less_by true n lt = lt
+less_by false n lt = older_less (ltb n CONTEXT_ID) (ltb n CODE_SETS) n refl refl lt
+
+-- a built-in type is one in each version
+number_less : (version n : ℕ) → n < BUILTIN_LEN → number_in version n < builtin_len version
+number_less version n lt = less_by (version == 3) n lt
+
+-- the types of a version that a file's types can have for parts: those of the same number in each
+least_by : (v : Bool) → 41 ≤ length (cond v third_types builtin_types)
+unfolding builtin_types third_types any_types
+least_by true = lit≤ tt
+least_by false = lit≤ tt
+
+pub first_leaf : (version k : ℕ) → k < CONTEXT_ID → k < length (first_types version)
+first_leaf version k lt = omega (arith, least_by (version == 3))
+
+-- built-in ones
+pub first_known : (version k : ℕ) → k < BUILTIN_LEN
+    → number_in version k < length (first_types version)
+first_known version k lt = omega (arith, number_less version k lt, first_front version)
+
+-- and in version 3 all
+whole_by : (v : Bool) → v ≡ true → length (cond v third_types builtin_types) ≡ THIRD_LEN
+unfolding third_types any_types
+whole_by true third = refl
+whole_by false third = absurd cc
+
+pub first_third : (version k : ℕ) → (version == 3) ≡ true → k < THIRD_LEN
+    → k < length (first_types version)
+first_third version k third lt = omega (arith, whole_by (version == 3) third)
+
+-- what is before anys has the same tree in each catalogue of its version
+pub builtin_tree : (t : Table) (i : ℕ) → IsTable t → i < builtin_len t.version
+    → tree t i ≡ tree (first_table t.version) i
 builtin_tree t i laws lt =
-    let formed : FormedBelow builtin_types BUILTIN_LEN = builtin_are.placed.formed in
-    sym (tree_moved builtin_table t BUILTIN_LEN 24 i formed builtin_plain (builtin_same t laws) lt)
+    sym (tree_moved (first_table t.version) t (builtin_len t.version) 24 i
+    (first_placed t.version) (λ k below. steady_in (t.version == 3) k below) (first_same t laws) lt)
 
-pub builtin_fit : (t : Table) (i : ℕ) → IsTable t → i < BUILTIN_LEN → IsFit 24 (tree t i)
-unfolding builtin_types
+pub builtin_fit : (t : Table) (i : ℕ) → IsTable t → i < builtin_len t.version
+    → IsFit 24 (tree t i)
 builtin_fit t i laws lt =
+    let below : i < length (first_types t.version) = omega (arith, first_front t.version) in
     subst (IsFit 24) (sym (builtin_tree t i laws lt))
-    (fit_at builtin_table i builtin_are (plain_wide builtin_types builtin_plain) lt
-    (builtin_takes i lt))
+    (fit_at (first_table t.version) i (first_are t.version) (builtin_is t.version).anys.wide below
+    (first_takes t.version i below))
 
 -- ---- the header types
 
@@ -574,15 +696,23 @@ rows_by (r ∷ rs) zero minor e = search (arith, both, row_by)
 rows_by (r ∷ rs) (suc i) minor e = let k = both (row_test r) (rows_test rs) e in
     rows_by rs i minor k.1
 
-pub header_built_in : (minor kind : ℕ) → IfSome (header_number minor kind) (λ n. n < BUILTIN_LEN)
-unfolding rows_test row_test cell_test
-header_built_in minor kind = search (arith, rows_by)
+some_less : (version : ℕ) (o : Option ℕ) → IfSome o (λ n. n < BUILTIN_LEN)
+    → IfSome (option_map (number_in version) o) (λ n. n < builtin_len version)
+some_less version None less = tt
+some_less version (Some n) less = number_less version n less
 
-pub header_tree : (t : Table) (o : Option ℕ) → IsTable t → IfSome o (λ n. n < BUILTIN_LEN)
-    → option_map (tree t) o ≡ option_map (tree builtin_table) o
-unfolding builtin_types
+pub header_built_in : (version minor kind : ℕ)
+    → IfSome (header_number version minor kind) (λ n. n < builtin_len version)
+unfolding rows_test row_test cell_test
+header_built_in version minor kind =
+    some_less version (cell_in (slice_get header_rows kind) minor)
+    (rows_by header_rows kind minor refl)
+
+header_tree : (t : Table) (o : Option ℕ) → IsTable t
+    → IfSome o (λ n. n < builtin_len t.version)
+    → option_map (tree t) o ≡ option_map (tree (first_table t.version)) o
 header_tree t None laws lt = refl
-header_tree t (Some n) laws lt = search (arith, builtin_tree)
+header_tree t (Some n) laws lt = ap Some (builtin_tree t n laws lt)
 
 -- what holds of a number holds of what has that number
 pub some_numbered : {X Y : Type 0} (P : Y → Type 0) (f : X → Y) (r : Option X) (o : Option Y)
@@ -590,13 +720,13 @@ pub some_numbered : {X Y : Type 0} (P : Y → Type 0) (f : X → Y) (r : Option 
 some_numbered P f None o e h = tt
 some_numbered P f (Some x) o e h = search (arith)
 
-pub some_known : (t : Table) (o : Option ℕ) → IsTable t → IfSome o (λ n. n < BUILTIN_LEN)
-    → IfSome o (λ n. n < length t.types)
+pub some_known : (t : Table) (o : Option ℕ) → IsTable t
+    → IfSome o (λ n. n < builtin_len t.version) → IfSome o (λ n. n < length t.types)
 some_known t None laws lt = tt
 some_known t (Some n) laws lt = builtin_known t n laws lt
 
-pub some_fit : (t : Table) (o : Option ℕ) → IsTable t → IfSome o (λ n. n < BUILTIN_LEN)
-    → IfSome o (λ n. IsFit 24 (tree t n))
+pub some_fit : (t : Table) (o : Option ℕ) → IsTable t
+    → IfSome o (λ n. n < builtin_len t.version) → IfSome o (λ n. IsFit 24 (tree t n))
 some_fit t None laws lt = tt
 some_fit t (Some n) laws lt = builtin_fit t n laws lt
 
@@ -607,19 +737,22 @@ map_twice f g (Some x) = refl
 
 -- the tree of the header type that was found
 pub header_found : {X : Type 0} (t : Table) (f : X → ℕ) (r : Option X) (minor kind : ℕ) → IsTable t
-    → option_map f r ≡ header_number minor kind
-    → option_map (λ x. tree t (f x)) r
-    ≡ option_map (tree builtin_table) (header_number minor kind)
+    → option_map f r ≡ header_number t.version minor kind
+    → option_map (λ x. tree t (f x)) r ≡ header_type t.version minor kind
 header_found t f r minor kind laws e =
     map_twice f (tree t) r ∙ ap (option_map (tree t)) e
-    ∙ header_tree t (header_number minor kind) laws (header_built_in minor kind)
+    ∙ header_tree t (header_number t.version minor kind) laws
+    (header_built_in t.version minor kind)
 
 -- no catalogue is less deep than its built-in types
 pub least_depth : (t : Table) → IsTable t → 9 ≤ depth_of t.types
 least_depth t laws = let b = laws.begins in
     subst (λ types. 9 ≤ depth_of types) (sym b.1)
-    (omega (arith, builtin_depth, deepest_more builtin_types b.0))
+    (omega (arith, first_depth t.version, deepest_more (first_types t.version) b.0))
 
-pub fixed_built_in : (f : Fixed) → fixed_number f < BUILTIN_LEN
-fixed_built_in fixeds.ExceptionId = lit< tt
-fixed_built_in _ = lit< tt
+third_fixed_less : (f : Fixed) → third_fixed f < BUILTIN_LEN
+third_fixed_less fixeds.ExceptionId = lit< tt
+third_fixed_less _ = lit< tt
+
+pub fixed_built_in : (version : ℕ) (f : Fixed) → fixed_number version f < builtin_len version
+fixed_built_in version f = number_less version (third_fixed f) (third_fixed_less f)

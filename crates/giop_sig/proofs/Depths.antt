@@ -136,10 +136,24 @@ depth_grown h tree (nodes.any code) plain = absurd plain
 depth_grown h tree (nodes.typecode wide kind cases) plain = absurd plain
 depth_grown h tree _ plain = refl
 
--- a node that is plain is the same in each room
+-- neither an any nor a TypeCode, whose trees are others in other tables and rooms
+abbrev pub IsSteady : Node → Type 0
+IsSteady (nodes.any code) = ⊥
+IsSteady (nodes.typecode wide kind cases) = ⊥
+IsSteady node = Unit {0}
+
+pub plain_steady : (node : Node) → IsPlain node → IsSteady node
+plain_steady (nodes.any code) plain = absurd plain
+plain_steady (nodes.typecode wide kind cases) plain = absurd plain
+plain_steady _ plain = tt
+
+-- such a node is the same in each room
+pub steady_in : (room : ℕ) (node : Node) → IsSteady node → in_room room node ≡ node
+steady_in room (nodes.typecode wide kind cases) steady = absurd steady
+steady_in room _ steady = refl
+
 pub plain_in : (room : ℕ) (node : Node) → IsPlain node → in_room room node ≡ node
-plain_in room (nodes.typecode wide kind cases) plain = absurd plain
-plain_in room _ plain = refl
+plain_in room node plain = steady_in room node (plain_steady node plain)
 
 plain_by : (types : List Node) (i : ℕ) → ArePlain types → (i < length types) ⊎ (length types ≤ i)
     → IsPlain (node_in types i)

@@ -150,6 +150,13 @@ heard_any t i n told result sign led is =
     ∙ told_again (hears t (told_of told) (sign_is sign))
     ∙ sym (any_hears t n i any.0 (told_of told) (sign_is sign) any.1)
 
+pub heard_after : (t : Table) (i : ℕ) (told result : Signal) (sign : Heard)
+    → shape_of (node_at t i) ≡ shapes.Led
+    → result ≡ signal_of (hears t (told_of told) (sign_is sign))
+    → result ≡ signal_after t i told sign
+heard_after t i told result sign led is =
+    is ∙ sym (ap (λ node. signal_by_node t node told (sign_is sign)) (led_any (node_at t i) led).1)
+
 none_by : (t : Table) (node : Node) (told : Signal) (sign : Sign)
     → (shape_of node ≡ shapes.Led → ⊥) → told ≡ signal_by_node t node told sign
 none_by t (nodes.any code) told sign other = absurd (other refl)

@@ -15,15 +15,15 @@ use Rattle.giop_tokens.specs.Names.{too_long, identifier_at}
 use Rattle.giop_tokens.proofs.ReaderLaws.{mark_again, mark_if_again, identifier_again, identifier_long}
 use Rattle.giop_sig.specs.Table.{Node, Part}
 use Rattle.giop_sig.specs.Trees.{depth_of}
-use Rattle.giop_sig.specs.Grammar.{TypeExpr, Base, Item, spell_length, spell_type, spell_item, spell_items}
-use Rattle.giop_sig.specs.Scopes.{Names, is_third, Scope, item_part, place, add_array, add_item, add_items}
+use Rattle.giop_sig.specs.Grammar.{TypeExpr, Base, Item, spell_lengths, spell_type, spell_item, spell_items}
+use Rattle.giop_sig.specs.Scopes.{Names, is_third, Scope, item_part, place, add_arrays, add_item, add_items}
 use Rattle.giop_sig.specs.Validity.{Kind, IsFree, is_among, OfNewName, OfSome, OfItem, OfItems, OfDeclared}
 use Rattle.giop_sig.specs.Outcomes.{refused}
-use Rattle.giop_sig.specs.TypeReading.{enclosed_at, type_at}
-use Rattle.giop_sig.specs.ItemReading.{new_name_at, declared_at, ItemRead, read_item, item_at, Members, member_at, member_step, MembersRead, members_run, filled_at, Declared, too_deep, end_of}
-use Rattle.giop_sig.proofs.PlaceLaws.{within_same, length_more, item_names, items_more}
+use Rattle.giop_sig.specs.TypeReading.{type_at}
+use Rattle.giop_sig.specs.ItemReading.{new_name_at, declared_at, ItemRead, lengths_at, most_lengths, read_item, item_at, Members, member_at, member_step, MembersRead, members_run, filled_at, Declared, too_deep, end_of}
+use Rattle.giop_sig.proofs.PlaceLaws.{within_same, arrays_more, item_names, items_more}
 use Rattle.giop_sig.proofs.ReadingLaws.{Out, good, broken, out_bind, out_more, Apart, if_apart}
-use Rattle.giop_sig.proofs.SizeReads.{enclosed_reads}
+use Rattle.giop_sig.proofs.LengthLaws.{lengths_reads}
 use Rattle.giop_sig.proofs.TypeLaws.{type_reads}
 use Rattle.giop_sig.proofs.ItemTaken.{none_of, unused, then_run}
 use Rattle.giop_sig.proofs.RepeatLaws.{step_first}
@@ -139,25 +139,24 @@ unfolding item_at
 item_reads most seen s i text more free apart h =
     let p = place s i.type in
     out_bind (type_at s text) (λ t. new_name_at (is_third s.names) most seen t.2 >>= λ n.
-    enclosed_at marks.OpenBracket marks.CloseBracket n.1
-    >>= λ l. Ok (read_item (add_array l.0 (t.0, t.1)) n.0 l.1))
-    (type_reads s i.type text (word i.name ∷ spell_length i.length more) free.0 refl h)
+    lengths_at (most_lengths (is_third s.names) n.1) n.1
+    >>= λ l. Ok (read_item (add_arrays l.0 (t.0, t.1)) n.0 l.1))
+    (type_reads s i.type text (word i.name ∷ spell_lengths i.lengths more) free.0 refl h)
     (λ a ta ka.
     out_bind (new_name_at (is_third s.names) most seen a)
-    (λ n. enclosed_at marks.OpenBracket marks.CloseBracket n.1
-    >>= λ l. Ok (read_item (add_array l.0 p) n.0 l.1))
+    (λ n. lengths_at (most_lengths (is_third s.names) n.1) n.1
+    >>= λ l. Ok (read_item (add_arrays l.0 p) n.0 l.1))
     (new_name_reads (is_third s.names) (place s i.type).0.table.types most seen a i.name
-    (spell_length i.length more)
+    (spell_lengths i.lengths more)
     free.1 ta)
     (λ b tb kb.
-    out_bind (enclosed_at marks.OpenBracket marks.CloseBracket b)
-    (λ l. Ok (read_item (add_array l.0 p) i.name l.1))
-    (enclosed_reads (place s i.type).0.table.types marks.OpenBracket marks.CloseBracket b i.length
-    more apart tb)
+    out_bind (lengths_at (most_lengths (is_third s.names) b) b)
+    (λ l. Ok (read_item (add_arrays l.0 p) i.name l.1))
+    (lengths_reads (place s i.type).0.table.types s.names i.lengths b more free.2 apart tb)
     (λ c tc kc. good c tc (λ k. (ka k, kb k, kc k)))
-    (λ k w. w.2) (length_more i.length (place s i.type)))
-    (λ k w. w.1) (length_more i.length (place s i.type)))
-    (λ k w. w.0) (length_more i.length (place s i.type))
+    (λ k w. w.2) (arrays_more i.lengths (place s i.type)))
+    (λ k w. w.1) (arrays_more i.lengths (place s i.type)))
+    (λ k w. w.0) (arrays_more i.lengths (place s i.type))
 
 -- ---- members
 
@@ -276,7 +275,7 @@ members_reads [] (suc n) seen parts s names text more same fuel few free h =
 members_reads (i ∷ is) (suc n) seen parts s names text more same fuel few free h =
     let apart = if_apart marks.CloseBrace text
     (spell_item i (mark marks.Semicolon ∷ spell_items is more))
-    (type_apart i.type (word i.name ∷ spell_length i.length
+    (type_apart i.type (word i.name ∷ spell_lengths i.lengths
     (mark marks.Semicolon ∷ spell_items is more))) h in
     rw (run_on n (s, seen, parts, text) apart)
     (member_on n seen parts s names i is more same (member_at (s, seen, parts, text))

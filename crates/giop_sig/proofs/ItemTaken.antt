@@ -16,19 +16,19 @@ use Rattle.giop_tokens.specs.Readers.{mark_at, mark_if}
 use Rattle.giop_tokens.proofs.ReaderLaws.{bind_ok, ok_is, Takes, word_takes, mark_takes, mark_if_takes, repository_takes, identifier_word, repository_few}
 use Rattle.giop_sig.specs.Table.{Node, Part, IsPart, TakesOctet, exception_in}
 use Rattle.giop_sig.specs.Table as nodes
-use Rattle.giop_sig.specs.Grammar.{Item, spell_length, spell_item, spell_items}
+use Rattle.giop_sig.specs.Grammar.{Item, spell_lengths, spell_item, spell_items}
 use Rattle.giop_sig.specs.Trees.{depth_of}
-use Rattle.giop_sig.specs.Scopes.{is_third, Scope, AddedType, with_node, add_array}
-use Rattle.giop_sig.specs.Validity.{IsFree, is_among, OfItem, OfItems}
+use Rattle.giop_sig.specs.Scopes.{is_third, Scope, with_node, add_arrays}
+use Rattle.giop_sig.specs.Validity.{IsFree, is_among, OfLengths, OfItem, OfItems}
 use Rattle.giop_sig.specs.ScopeViews.{IsScope}
 use Rattle.giop_sig.specs.Outcomes.{refused}
 use Rattle.giop_sig.specs.TypeReading.{TypeRead}
-use Rattle.giop_sig.specs.ItemReading.{new_name_at, declared_at, ItemRead, read_item, item_at, Members, member_at, member_after, member_step, too_many_members, MembersRead, members_read, members_run, members_at, unless_closed, filled_at, Declared, too_deep, end_of, new_repository_at}
+use Rattle.giop_sig.specs.ItemReading.{new_name_at, declared_at, ItemRead, LengthsRead, read_item, item_at, Members, member_at, member_after, member_step, too_many_members, MembersRead, members_read, members_run, members_at, unless_closed, filled_at, Declared, too_deep, end_of, new_repository_at}
 use Rattle.giop_sig.specs.Repeats.{in_steps}
 use Rattle.giop_sig.proofs.ReadingLaws.{Took}
 use Rattle.giop_sig.proofs.RepeatLaws.{step_first}
-use Rattle.giop_sig.proofs.TypeTaken.{Grows, grows_none, grows_on, grows_known, Sound, sound_node, node_grows, TakenType, type_takes}
-use Rattle.giop_sig.proofs.SizeTaken.{enclosed_takes, bound_free}
+use Rattle.giop_sig.proofs.TypeTaken.{Grows, grows_none, grows_on, grows_known, Sound, node_grows, TakenType, type_takes}
+use Rattle.giop_sig.proofs.LengthLaws.{lengths_takes, arrays_grow, arrays_sound}
 
 -- ---- names
 
@@ -99,14 +99,6 @@ declared_takes s count text x e =
 
 -- ---- items
 
-array_grows : (o : Option ℕ) (p : AddedType) → Grows p.0 (add_array o p).0
-array_grows None p = grows_none p.0
-array_grows (Some n) p = node_grows p.0 (nodes.array n p.1)
-
-array_sound : (o : Option ℕ) (p : AddedType) → Sound p → Sound (add_array o p)
-array_sound None p is = is
-array_sound (Some n) p is = sound_node p.0 (nodes.array n p.1) is.scope tt
-
 pub record TakenItem (s : Scope) (most : ℕ) (seen : List (List ℕ)) (text : List ℕ)
     (x : ItemRead) : Type 0 where
   pub item : Item
@@ -118,19 +110,20 @@ pub record TakenItem (s : Scope) (most : ℕ) (seen : List (List ℕ)) (text : L
   pub few : length seen < most
 
 item_made : (most : ℕ) (seen : List (List ℕ)) (s : Scope) (text : List ℕ) (t : TypeRead)
-    (n : List ℕ × List ℕ) (l : Option ℕ × List ℕ) → TakenType s text t
-    → NameTaken (is_third s.names) most seen t.2 n → Took (spell_length l.0) (Unit {0}) n.1 l.1
-    → TakenItem s most seen text (read_item (add_array l.0 (t.0, t.1)) n.0 l.1)
+    (n : List ℕ × List ℕ) (l : LengthsRead) → TakenType s text t
+    → NameTaken (is_third s.names) most seen t.2 n
+    → Took (spell_lengths l.0) (OfLengths kinds.Syntax s.names l.0) n.1 l.1
+    → TakenItem s most seen text (read_item (add_arrays l.0 (t.0, t.1)) n.0 l.1)
 item_made most seen s text t n l a b c = record {
-  item = record { type = a.expr; name = n.0; length = l.0 };
+  item = record { type = a.expr; name = n.0; lengths = l.0 };
   named = refl;
   took = record {
-    free = (a.took.free, b.free, bound_free l.0);
-    front = λ more m. a.took.front (word n.0 ∷ spell_length l.0 more)
-        (b.front (spell_length l.0 more) (c.front more m));
+    free = (a.took.free, b.free, c.free);
+    front = λ more m. a.took.front (word n.0 ∷ spell_lengths l.0 more)
+        (b.front (spell_lengths l.0 more) (c.front more m));
   };
-  grows = grows_on s t.0 (add_array l.0 (t.0, t.1)).0 a.grows (array_grows l.0 (t.0, t.1));
-  sound = λ is. array_sound l.0 (t.0, t.1) (a.sound is);
+  grows = grows_on s t.0 (add_arrays l.0 (t.0, t.1)).0 a.grows (arrays_grow l.0 (t.0, t.1));
+  sound = λ is. arrays_sound l.0 (t.0, t.1) (a.sound is);
   short = b.short;
   few = b.few;
 }
@@ -143,10 +136,10 @@ item_takes most seen s text x e =
     let n = bind_ok _ _ x t.2 in
     let l = bind_ok _ _ x n.2 in
     subst (TakenItem s most seen text)
-    (ok_is (read_item (add_array (l.0).0 ((t.0).0, (t.0).1)) (n.0).0 (l.0).1) x l.2)
+    (ok_is (read_item (add_arrays (l.0).0 ((t.0).0, (t.0).1)) (n.0).0 (l.0).1) x l.2)
     (item_made most seen s text t.0 n.0 l.0 (type_takes s text t.0 t.1)
     (new_name_takes (is_third s.names) most seen (t.0).2 n.0 n.1)
-    (enclosed_takes marks.OpenBracket marks.CloseBracket (n.0).1 l.0 l.1))
+    (lengths_takes s.names (n.0).1 l.0 l.1))
 
 -- ---- members
 

@@ -31,6 +31,7 @@ mod TypeTaken
 mod SizeReads
 mod TypeLaws
 mod TypeSteps
+mod LengthLaws
 mod ItemTaken
 mod ItemLaws
 mod IdentityLaws

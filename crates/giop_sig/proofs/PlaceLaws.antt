@@ -6,7 +6,7 @@ use Rattle.giop_sig.specs.Table.{Node, Table, node_at, with_type, with_identity,
 use Rattle.giop_sig.specs.Table as nodes
 use Rattle.giop_sig.specs.Trees.{depth_in, depth_of}
 use Rattle.giop_sig.specs.Grammar.{TypeExpr, Base, Text, Reference, AnyType, CodeType, WideChar, WideText, Named, SequenceOf, EncapsulationOf, Item, UnionCase, Param, Declaration, Enumeration, Structure, DeclaredUnion, DeclaredException, Call, KeyOf}
-use Rattle.giop_sig.specs.Scopes.{Scope, AddedType, with_node, with_id_fronts, with_named, place, add_array, add_item, add_items, add_cases, default_from, add_params, add_return, add_struct_type, declare, scope_after}
+use Rattle.giop_sig.specs.Scopes.{Scope, AddedType, with_node, with_id_fronts, with_named, place, add_arrays, add_item, add_items, add_cases, default_from, add_params, add_return, add_struct_type, declare, scope_after}
 use Rattle.giop_sig.proofs.Depths.{deepest_more}
 
 -- the greatest depth in a scope, and how many types it has
@@ -57,19 +57,19 @@ place_names s (EncapsulationOf e) = place_names s e
 
 -- ---- items
 
-pub length_more : (o : Option ℕ) (p : AddedType) → Grown p.0 (add_array o p).0
-length_more None p = within_same
-length_more (Some n) p = search (arith, node_more)
+pub arrays_more : (ns : List ℕ) (p : AddedType) → Grown p.0 (add_arrays ns p).0
+arrays_more [] p = within_same
+arrays_more (n ∷ ns) p = search (arith, within_on, node_more, arrays_more ns p)
 
-length_names : (o : Option ℕ) (p : AddedType) → (add_array o p).0.names ≡ p.0.names
-length_names None p = refl
-length_names (Some n) p = refl
+arrays_names : (ns : List ℕ) (p : AddedType) → (add_arrays ns p).0.names ≡ p.0.names
+arrays_names [] p = refl
+arrays_names (n ∷ ns) p = arrays_names ns p
 
 pub item_more : (s : Scope) (i : Item) → Grown s (add_item s i).0
-item_more s i = within_on (place_more s i.type) (length_more i.length (place s i.type))
+item_more s i = within_on (place_more s i.type) (arrays_more i.lengths (place s i.type))
 
 pub item_names : (s : Scope) (i : Item) → (add_item s i).0.names ≡ s.names
-item_names s i = search (arith, length_names, place_names)
+item_names s i = search (arith, arrays_names, place_names)
 
 pub items_more : (s : Scope) (is : List Item) → Grown s (add_items s is).0
 unfolding add_items

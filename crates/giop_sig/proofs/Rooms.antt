@@ -3,14 +3,13 @@
 use Rattle.std.proofs.Common.{◌≡◌, ℕ, zero, suc, ◌<◌, List, [], ◌∷◌, length, refl, sym, subst, ap, ◌∙◌, arith}
 use mathlib.Core.Path.{fun_ext}
 use Rattle.std.specs.Prelude.{slice_get}
-use Rattle.giop_sig.specs.HeaderTypes.{IsPlain}
 use Rattle.giop_sig.specs.Types.{Choice, Cases, Tag, Ty, Single, Struct, Sequence, Array, Encapsulation, Hearing, HasInner, IsUnion, switch_of}
 use Rattle.giop_sig.specs.Table.{Node, Part, Case, Table, node_in, node_at, shape_of, part_at, type_of, name_of, switch_at, case_part, IsScalarNode, IsFormed}
 use Rattle.giop_sig.specs.Table as nodes
 use Rattle.giop_sig.specs.Trees.{any_hearing, grow, grown_part, grown_union, in_room, union_of, octet_type, scalar_of, tree_at}
 use Rattle.giop_sig.proofs.Nodes.{in_shape, in_switch}
 use Rattle.giop_sig.proofs.Formed.{SameNodes, part_formed, switch_formed}
-use Rattle.giop_sig.proofs.Depths.{FormedBelow, plain_in}
+use Rattle.giop_sig.proofs.Depths.{FormedBelow, IsSteady, steady_in}
 
 -- ---- a node over trees that agree on its parts
 
@@ -41,25 +40,25 @@ union_same f g choice node switch parts =
     ap (λ T. union_of choice node T (λ i. grown_part f (part_at node i))) switch
     ∙ ap (union_of choice node (g (switch_at node))) (fun_ext parts)
 
-pub grow_same : (h k : Hearing) (f g : ℕ → Ty) (node : Node) → IsPlain node → SamePart f g node
+pub grow_same : (h k : Hearing) (f g : ℕ → Ty) (node : Node) → IsSteady node → SamePart f g node
     → (IsUnion (shape_of node) → f (switch_at node) ≡ g (switch_at node))
     → grow h f node ≡ grow k g node
-grow_same h k f g (nodes.members parts) plain same switch =
+grow_same h k f g (nodes.members parts) steady same switch =
     ap (Struct (length parts) (λ i. name_of (slice_get parts i)))
     (fun_ext (λ i. part_same f g parts i same))
-grow_same h k f g (nodes.union s cases otherwise) plain same switch =
+grow_same h k f g (nodes.union s cases otherwise) steady same switch =
     union_same f g (Cases (length cases)) (nodes.union s cases otherwise) (switch tt)
     (λ i. case_same f g cases i same)
-grow_same h k f g (nodes.sequence bound element) plain same switch =
+grow_same h k f g (nodes.sequence bound element) steady same switch =
     ap (Sequence bound) (same 0 tt)
-grow_same h k f g (nodes.array count element) plain same switch = ap (Array count) (same 0 tt)
-grow_same h k f g (nodes.encapsulation held) plain same switch = ap Encapsulation (same 0 tt)
-grow_same h k f g (nodes.tagged special tag inner other) plain same switch =
+grow_same h k f g (nodes.array count element) steady same switch = ap (Array count) (same 0 tt)
+grow_same h k f g (nodes.encapsulation held) steady same switch = ap Encapsulation (same 0 tt)
+grow_same h k f g (nodes.tagged special tag inner other) steady same switch =
     union_same f g Tag (nodes.tagged special tag inner other) (switch tt)
     (λ i. part_same f g (tag ∷ inner ∷ other ∷ []) i same)
-grow_same h k f g (nodes.any code) plain same switch = absurd plain
-grow_same h k f g (nodes.typecode wide kind cases) plain same switch = absurd plain
-grow_same h k f g _ plain same switch = refl
+grow_same h k f g (nodes.any code) steady same switch = absurd steady
+grow_same h k f g (nodes.typecode wide kind cases) steady same switch = absurd steady
+grow_same h k f g _ steady same switch = refl
 
 -- ---- the discriminator
 
@@ -118,26 +117,26 @@ switch_grown h f room node is e =
 
 -- ---- a table that grows
 
-abbrev pub PlainBelow : List Node → ℕ → Type 0
-PlainBelow types n = (i : ℕ) → i < n → IsPlain (node_in types i)
+abbrev pub SteadyBelow : List Node → ℕ → Type 0
+SteadyBelow types n = (i : ℕ) → i < n → IsSteady (node_in types i)
 
 -- a tree without anys depends on the nodes up to its own alone
-pub tree_moved : (t u : Table) (n room i : ℕ) → FormedBelow t.types n → PlainBelow t.types n
+pub tree_moved : (t u : Table) (n room i : ℕ) → FormedBelow t.types n → SteadyBelow t.types n
     → SameNodes t.types u.types n → i < n → tree_at t room i ≡ tree_at u room i
 unfolding tree_at
-tree_moved t u n zero i are plain same lt =
+tree_moved t u n zero i are steady same lt =
     let one = node_at t i in
-    let a : in_room 0 one ≡ one = plain_in 0 one (plain i lt) in
+    let a : in_room 0 one ≡ one = steady_in 0 one (steady i lt) in
     let b : in_room 0 (node_at u i) ≡ one = ap (in_room 0) (sym (same i lt)) ∙ a in
     rw (a, b) (grow_same (any_hearing t 0) (any_hearing u 0) (λ k. octet_type) (λ k. octet_type) one
-    (plain i lt) (λ k has. refl) (λ is. refl))
-tree_moved t u n (suc room) i are plain same lt =
+    (steady i lt) (λ k has. refl) (λ is. refl))
+tree_moved t u n (suc room) i are steady same lt =
     let one = node_at t i in
-    let a : in_room room one ≡ one = plain_in room one (plain i lt) in
+    let a : in_room room one ≡ one = steady_in room one (steady i lt) in
     let b : in_room room (node_at u i) ≡ one = ap (in_room room) (sym (same i lt)) ∙ a in
     rw (a, b) (grow_same (any_hearing t room) (any_hearing u room) (tree_at t room) (tree_at u room)
-    one (plain i lt)
+    one (steady i lt)
     (λ k has. let below = (part_formed t.types i one k (are i lt) has).below in
-    tree_moved t u n room (type_of (part_at one k)) are plain same (omega arith))
+    tree_moved t u n room (type_of (part_at one k)) are steady same (omega arith))
     (λ is. let below = (switch_formed t.types i one (are i lt) is).below in
-    tree_moved t u n room (switch_at one) are plain same (omega arith)))
+    tree_moved t u n room (switch_at one) are steady same (omega arith)))

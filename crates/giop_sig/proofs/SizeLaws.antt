@@ -7,8 +7,8 @@ use Rattle.giop_tokens.specs.Tokens.{Token, word, mark}
 use Rattle.giop_sig.specs.Table.{Node, Table, node_at, with_type, with_identity}
 use Rattle.giop_sig.specs.Table as nodes
 use Rattle.giop_sig.specs.Trees.{depth_in}
-use Rattle.giop_sig.specs.Grammar.{TypeExpr, Text, WideText, SequenceOf, EncapsulationOf, spell_most, spell_type, Item, spell_length, spell_item, spell_items, spell_names, spell_labels, UnionCase, spell_cases, Param, spell_more_params, spell_params, spell_return, spell_interfaces, Declaration, Enumeration, Structure, DeclaredUnion, DeclaredException, Call, KeyOf, spell, spell_all}
-use Rattle.giop_sig.specs.Scopes.{Scope, AddedType, with_node, with_identified, with_id_fronts, add_struct_type, sequence_node, place, add_array, add_item, add_items, add_cases, default_from, add_params, add_return, declare, scope_after}
+use Rattle.giop_sig.specs.Grammar.{TypeExpr, Text, WideText, SequenceOf, EncapsulationOf, spell_most, spell_type, Item, spell_lengths, spell_item, spell_items, spell_names, spell_labels, UnionCase, spell_cases, Param, spell_more_params, spell_params, spell_return, spell_interfaces, Declaration, Enumeration, Structure, DeclaredUnion, DeclaredException, Call, KeyOf, spell, spell_all}
+use Rattle.giop_sig.specs.Scopes.{Scope, AddedType, with_node, with_identified, with_id_fronts, add_struct_type, sequence_node, place, add_arrays, add_item, add_items, add_cases, default_from, add_params, add_return, declare, scope_after}
 use Rattle.giop_sig.proofs.PlaceLaws.{size, listed_types}
 use Rattle.giop_sig.proofs.SpellLaws.{most, names, label, labels, interfaces, identity}
 
@@ -46,17 +46,19 @@ typed s (EncapsulationOf e) more = let p = place s e in
     omega (arith, typed s e (mark marks.CloseAngle ∷ more), one_more p.0 (nodes.encapsulation p.1))
 typed s _ more = omega arith
 
-lengthened : (p : AddedType) (o : Option ℕ) (more : List Token)
-    → size (add_array o p).0 + length more ≤ size p.0 + length (spell_length o more)
-lengthened p None more = omega arith
-lengthened p (Some n) more = search (arith, one_more)
+arrays : (p : AddedType) (ns : List ℕ) (more : List Token)
+    → size (add_arrays ns p).0 + length more ≤ size p.0 + length (spell_lengths ns more)
+arrays p [] more = omega arith
+arrays p (n ∷ ns) more =
+    let q = add_arrays ns p in
+    omega (arith, arrays p ns more, one_more q.0 (nodes.array n q.1))
 
 item : (s : Scope) (i : Item) (more : List Token)
     → size (add_item s i).0 + length more ≤ size s + length (spell_item i more)
 item s i more = omega (
   arith,
-  typed s i.type (word i.name ∷ spell_length i.length more),
-  lengthened (place s i.type) i.length more,
+  typed s i.type (word i.name ∷ spell_lengths i.lengths more),
+  arrays (place s i.type) i.lengths more,
 )
 
 items : (s : Scope) (is : List Item) (more : List Token)

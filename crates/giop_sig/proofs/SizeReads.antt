@@ -43,6 +43,17 @@ unfolding size_at
 size_reads types text n more h = rw (number_again text n more h)
     (size_by types text h.0 n more (eqb n 0) (ltb 4294967295 n) refl refl h.2)
 
+pub some_reads : (types : List Node) (before close : Mark) (text : List ℕ) (n : ℕ)
+    (more : List Token) → AreTokens text (spell_between before close (Some n) more)
+    → Out {X = Option ℕ × List ℕ} (λ rest. (Some n, rest)) (λ k. OfSize k n) types more
+    (enclosed_at before close text)
+unfolding enclosed_at
+some_reads types before close text n more h =
+    rw (mark_if_again before text (number n ∷ mark close ∷ more) h)
+    (out_bind (size_at h.0) (λ n. mark_at close n.1 >>= λ r. Ok (Some n.0, r))
+    (size_reads types h.0 n (mark close ∷ more) h.2)
+    (λ rest m keeps. rw (mark_again close rest more m) (good m.0 m.2 keeps)) (λ k w. w) within_same)
+
 pub enclosed_reads : (types : List Node) (before close : Mark) (text : List ℕ) (o : Option ℕ)
     (more : List Token) → Apart before more → AreTokens text (spell_between before close o more)
     → Out {X = Option ℕ × List ℕ} (λ rest. (o, rest)) (λ k. OfBound k o) types more
@@ -51,10 +62,7 @@ unfolding enclosed_at
 enclosed_reads types before close text None more apart h =
     rw (if_apart before text more apart h) (good text h (λ k. tt))
 enclosed_reads types before close text (Some n) more apart h =
-    rw (mark_if_again before text (number n ∷ mark close ∷ more) h)
-    (out_bind (size_at h.0) (λ n. mark_at close n.1 >>= λ r. Ok (Some n.0, r))
-    (size_reads types h.0 n (mark close ∷ more) h.2)
-    (λ rest m keeps. rw (mark_again close rest more m) (good m.0 m.2 keeps)) (λ k w. w) within_same)
+    some_reads types before close text n more h
 
 pub most_reads : (types : List Node) (text : List ℕ) (o : Option ℕ) (more : List Token)
     → Apart marks.Comma more → AreTokens text (spell_most o more)

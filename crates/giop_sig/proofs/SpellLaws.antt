@@ -4,7 +4,7 @@ use Rattle.std.proofs.Common.{ℕ, ◌<◌, ◌≤◌, List, [], ◌∷◌, leng
 use Rattle.giop_tokens.specs.declared.marks.Mark.{Mark}
 use Rattle.giop_tokens.specs.declared.marks.Mark.TheVariants as marks
 use Rattle.giop_tokens.specs.Tokens.{Token, mark}
-use Rattle.giop_sig.specs.Grammar.{TypeExpr, Text, WideText, SequenceOf, EncapsulationOf, spell_between, spell_most, spell_type, Item, spell_item, spell_items, spell_more_names, spell_names, Value, Plain, spell_value, Label, Default, Of, spell_label, spell_labels, UnionCase, spell_cases, Param, spell_more_params, spell_params, spell_return, spell_more_interfaces, spell_interfaces, spell_identity, Declaration, Enumeration, Structure, DeclaredUnion, DeclaredException, Call, KeyOf, spell, spell_all}
+use Rattle.giop_sig.specs.Grammar.{TypeExpr, Text, WideText, SequenceOf, EncapsulationOf, spell_between, spell_most, spell_type, Item, spell_lengths, spell_item, spell_items, spell_more_names, spell_names, Value, Plain, spell_value, Label, Default, Of, spell_label, spell_labels, UnionCase, spell_cases, Param, spell_more_params, spell_params, spell_return, spell_more_interfaces, spell_interfaces, spell_identity, Declaration, Enumeration, Structure, DeclaredUnion, DeclaredException, Call, KeyOf, spell, spell_all}
 
 between : (a b : Mark) (o : Option ℕ) (more : List Token)
     → length more ≤ length (spell_between a b o more)
@@ -26,8 +26,12 @@ typed (SequenceOf e o) more = omega (
 typed (EncapsulationOf e) more = omega (arith, typed e (mark marks.CloseAngle ∷ more))
 typed _ more = omega arith
 
+lengths : (ns : List ℕ) (more : List Token) → length more ≤ length (spell_lengths ns more)
+lengths [] more = omega arith
+lengths (n ∷ ns) more = omega (arith, lengths ns more)
+
 item : (i : Item) (more : List Token) → length more ≤ length (spell_item i more)
-item i more = search (arith, typed, between)
+item i more = search (arith, typed, lengths)
 
 items : (is : List Item) (more : List Token) → length more ≤ length (spell_items is more)
 items [] more = omega arith

@@ -12,7 +12,7 @@ use Rattle.giop_cdr.specs.declared.prim.Primitive.TheVariants as prims
 use Rattle.giop_tokens.specs.declared.fault.Refusal.{Refusal}
 use Rattle.giop_tokens.specs.declared.fault.SigFaultKind.TheVariants as kinds
 use Rattle.giop_tokens.specs.declared.marks.Mark.TheVariants as marks
-use Rattle.giop_sig.specs.declared.numbers.TheConstants.{IOR, TYPE_CODE, ANY, WIDE_CHAR, WIDE_STRING, BUILTIN_LEN, THIRD_LEN}
+use Rattle.giop_sig.specs.declared.numbers.TheConstants.{IOR, TYPE_CODE, ANY, STRING, WIDE_CHAR, WIDE_STRING, CONTEXT_ID, THIRD_LEN}
 use Rattle.giop_tokens.specs.Tokens.{Token, word, mark, AreTokens}
 use Rattle.giop_tokens.specs.Readers.{misplaced, word_at, mark_at}
 use Rattle.giop_tokens.specs.Reading.{◌>>=◌}
@@ -20,17 +20,17 @@ use Rattle.giop_tokens.specs.Names.{is_reserved}
 use Rattle.giop_tokens.proofs.ReaderLaws.{bind_ok, ok_is, Takes, word_takes, mark_takes}
 use Rattle.giop_sig.specs.Table.{Node, node_in, TakesOctet}
 use Rattle.giop_sig.specs.Table as nodes
-use Rattle.giop_sig.specs.Builtin.{builtin_types}
-use Rattle.giop_sig.specs.AnyTypes.{third_types, first_types}
+use Rattle.giop_sig.specs.AnyTypes.{first_types}
 use Rattle.giop_sig.specs.RequestList.{flat}
 use Rattle.giop_sig.specs.Grammar.{TypeExpr, Base, Text, Reference, AnyType, CodeType, WideChar, WideText, Named, SequenceOf, EncapsulationOf, base_word, spell_most, spell_type}
 use Rattle.giop_sig.specs.declared.read_types.Opener.{Opener}
 use Rattle.giop_sig.specs.declared.read_types.Opener.TheVariants as openers
-use Rattle.giop_sig.specs.Scopes.{Names, has_encapsulations, is_third, Scope, AddedType, named, base_number, with_node, sequence_node, add_text_type, add_sequence_type, add_encapsulation_type}
+use Rattle.giop_sig.specs.Scopes.{Names, has_encapsulations, is_third, Scope, AddedType, named, base_number, with_node, sequence_node, add_text_type, add_sequence_type, add_encapsulation_type, reference_number}
 use Rattle.giop_sig.specs.Validity.{OfType}
 use Rattle.giop_sig.specs.ScopeViews.{IsKnown, IsDeclaredName, IsScope}
 use Rattle.giop_sig.specs.Outcomes.{refused}
 use Rattle.giop_sig.specs.TypeReading.{TypeRead, most_at, base_of, read_as, text_at, wide_text_at, closed_by, found_type, named_type, is_later, leaf_after, leaf_at, Opened, opened_by, opener_after, opener_at, type_after, nested_at, type_at}
+use Rattle.giop_sig.proofs.Builtins.{first_known, first_leaf, first_takes, first_third}
 use Rattle.giop_sig.proofs.SizeTaken.{enclosed_takes, most_takes, bound_free}
 use Rattle.giop_sig.proofs.ScopeLaws.{known_stays, scope_grows}
 use Rattle.giop_sig.proofs.ReadingLaws.{Took}
@@ -89,51 +89,34 @@ known_after : (types more : List Node) (version k : ℕ) → types ≡ first_typ
 known_after types more version k e is =
     subst (λ ns. IsKnown ns k) (sym e) (known_stays (first_types version) more k is)
 
-first_by : (k : ℕ) (v : Bool) → k < BUILTIN_LEN → TakesOctet (node_in builtin_types k)
-    → IsKnown (cond v (builtin_types ++ third_types) builtin_types) k
-unfolding builtin_types
-first_by k true lt takes =
-    known_stays builtin_types third_types k (record { below = lt; takes = takes })
-first_by k false lt takes = record { below = lt; takes = takes }
-
-built : (types more : List Node) (version k : ℕ) → types ≡ first_types version ++ more
-    → k < BUILTIN_LEN → TakesOctet (node_in builtin_types k) → IsKnown types k
-built types more version k e lt takes =
-    known_after types more version k e (first_by k (eqb version 3) lt takes)
-
--- the types that a file of version 3 begins with beside them
-third_by : (k : ℕ) (v : Bool) → v ≡ true → k < THIRD_LEN
-    → TakesOctet (node_in (builtin_types ++ third_types) k)
-    → IsKnown (cond v (builtin_types ++ third_types) builtin_types) k
-unfolding builtin_types third_types
-third_by k true e lt takes = record { below = lt; takes = takes }
-third_by k false e lt takes = absurd cc
-
-third_known : (s : Scope) (k : ℕ) → IsScope s → is_third s.names ≡ true → k < THIRD_LEN
-    → TakesOctet (node_in (builtin_types ++ third_types) k) → Sound (s, k)
-third_known s k is third lt takes = record {
+-- the types that the file began with
+same_known : (s : Scope) (k : ℕ) → IsScope s → k < length (first_types s.names.version)
+    → Sound (s, k)
+same_known s k is lt = record {
   scope = is;
   known = known_after s.table.types (is.begins).0 s.names.version k (is.begins).1
-      (third_by k (eqb s.names.version 3) third lt takes);
+      (record { below = lt; takes = first_takes s.names.version k lt });
 }
 
-same_known : (s : Scope) (k : ℕ) → IsScope s → k < BUILTIN_LEN
-    → TakesOctet (node_in builtin_types k) → Sound (s, k)
-same_known s k is lt takes = search (arith, built)
+leaf_known : (s : Scope) (k : ℕ) → IsScope s → k < CONTEXT_ID → Sound (s, k)
+leaf_known s k is lt = same_known s k is (first_leaf s.names.version k lt)
+
+third_known : (s : Scope) (k : ℕ) → IsScope s → is_third s.names ≡ true → k < THIRD_LEN
+    → Sound (s, k)
+third_known s k is third lt = same_known s k is (first_third s.names.version k third lt)
 
 base_sound : (s : Scope) (p : Primitive) → IsScope s → Sound (s, base_number p)
-unfolding builtin_types
-base_sound s prims.Octet is = same_known s 0 is (lit< tt) tt
-base_sound s prims.Char is = same_known s 1 is (lit< tt) tt
-base_sound s prims.Boolean is = same_known s 2 is (lit< tt) tt
-base_sound s prims.Short is = same_known s 3 is (lit< tt) tt
-base_sound s prims.UShort is = same_known s 4 is (lit< tt) tt
-base_sound s prims.Long is = same_known s 5 is (lit< tt) tt
-base_sound s prims.ULong is = same_known s 6 is (lit< tt) tt
-base_sound s prims.LongLong is = same_known s 7 is (lit< tt) tt
-base_sound s prims.ULongLong is = same_known s 8 is (lit< tt) tt
-base_sound s prims.Float is = same_known s 9 is (lit< tt) tt
-base_sound s prims.Double is = same_known s 10 is (lit< tt) tt
+base_sound s prims.Octet is = leaf_known s 0 is (lit< tt)
+base_sound s prims.Char is = leaf_known s 1 is (lit< tt)
+base_sound s prims.Boolean is = leaf_known s 2 is (lit< tt)
+base_sound s prims.Short is = leaf_known s 3 is (lit< tt)
+base_sound s prims.UShort is = leaf_known s 4 is (lit< tt)
+base_sound s prims.Long is = leaf_known s 5 is (lit< tt)
+base_sound s prims.ULong is = leaf_known s 6 is (lit< tt)
+base_sound s prims.LongLong is = leaf_known s 7 is (lit< tt)
+base_sound s prims.ULongLong is = leaf_known s 8 is (lit< tt)
+base_sound s prims.Float is = leaf_known s 9 is (lit< tt)
+base_sound s prims.Double is = leaf_known s 10 is (lit< tt)
 
 -- the word of a primitive, and its number
 abbrev BaseWord : List ℕ → ℕ → Type 0
@@ -171,8 +154,7 @@ base_took s text w rest k t b = record {
 }
 
 text_type_sound : (s : Scope) (b : Option ℕ) → IsScope s → Sound (add_text_type s b)
-unfolding builtin_types
-text_type_sound s None is = search (arith, same_known, lit<)
+text_type_sound s None is = leaf_known s STRING is (lit< tt)
 text_type_sound s (Some n) is = search (arith, sound_node)
 
 text_type_grows : (s : Scope) (b : Option ℕ) → Grows s (add_text_type s b).0
@@ -249,8 +231,8 @@ later_took : (s : Scope) (text w v rest : List ℕ) (k : ℕ) (expr : TypeExpr)
     → Takes text (word w) rest → is_later s w v ≡ true
     → ((more : List Token) → spell_type expr more ≡ word v ∷ more)
     → (is_third s.names ≡ true → OfType kinds.Syntax s.names expr) → k < THIRD_LEN
-    → TakesOctet (node_in (builtin_types ++ third_types) k) → TakenType s text (s, k, rest)
-later_took s text w v rest k expr t later spells free lt takes =
+    → TakenType s text (s, k, rest)
+later_took s text w v rest k expr t later spells free lt =
     let is = later_is w v (is_third s.names) later in
     record {
       expr = expr;
@@ -260,12 +242,12 @@ later_took s text w v rest k expr t later spells free lt takes =
             (subst (λ u. Takes text (word u) rest) is.1 t more m);
       };
       grows = grows_none s;
-      sound = λ h. third_known s k h is.0 lt takes;
+      sound = λ h. third_known s k h is.0 lt;
     }
 
 wide_text_took : (s : Scope) (text w rest : List ℕ) (x : TypeRead) → Takes text (word w) rest
     → is_later s w (codes "wstring") ≡ true → wide_text_at s rest ≡ Ok x → TakenType s text x
-unfolding wide_text_at OfType builtin_types third_types
+unfolding wide_text_at OfType
 wide_text_took s text w rest x t later e =
     let is = later_is w (codes "wstring") (is_third s.names) later in
     let b = bind_ok {A = Option ℕ × List ℕ} _ _ x e in
@@ -278,18 +260,18 @@ wide_text_took s text w rest x t later e =
             λ more m. subst (λ v. Takes text (word v) rest) is.1 t _ (bound.front more m);
       };
       grows = grows_none s;
-      sound = λ h. third_known s WIDE_STRING h is.0 (lit< tt) tt;
+      sound = λ h. third_known s WIDE_STRING h is.0 (lit< tt);
     })
 
 wide_by : (s : Scope) (text w rest : List ℕ) (x : TypeRead) → Takes text (word w) rest
     → (a b : Bool) → is_later s w (codes "wchar") ≡ a → is_later s w (codes "wstring") ≡ b
     → cond a (Ok (s, WIDE_CHAR, rest)) (cond b (wide_text_at s rest) (named_type s text w rest))
     ≡ Ok x → TakenType s text x
-unfolding OfType builtin_types third_types
+unfolding OfType
 wide_by s text w rest x t true b p q e =
     subst (TakenType s text) (ok_is (s, WIDE_CHAR, rest) x e)
     (later_took s text w (codes "wchar") rest WIDE_CHAR WideChar t p (λ more. refl) (λ is. is)
-    (lit< tt) tt)
+    (lit< tt))
 wide_by s text w rest x t false true p q e = wide_text_took s text w rest x t q e
 wide_by s text w rest x t false false p q e = search (arith, named_took)
 
@@ -303,15 +285,15 @@ later_by : (s : Scope) (text w rest : List ℕ) (x : TypeRead) → Takes text (w
     → (a b : Bool) → is_later s w (codes "any") ≡ a → is_later s w (codes "TypeCode") ≡ b
     → cond a (Ok (s, ANY, rest)) (cond b (Ok (s, TYPE_CODE, rest)) (wide_or_named s text w rest))
     ≡ Ok x → TakenType s text x
-unfolding OfType builtin_types third_types
+unfolding OfType
 later_by s text w rest x t true b p q e =
     subst (TakenType s text) (ok_is (s, ANY, rest) x e)
     (later_took s text w (codes "any") rest ANY AnyType t p (λ more. refl) (λ is. is)
-    (lit< tt) tt)
+    (lit< tt))
 later_by s text w rest x t false true p q e =
     subst (TakenType s text) (ok_is (s, TYPE_CODE, rest) x e)
     (later_took s text w (codes "TypeCode") rest TYPE_CODE CodeType t q (λ more. refl) (λ is. is)
-    (lit< tt) tt)
+    (lit< tt))
 later_by s text w rest x t false false p q e =
     wide_by s text w rest x t (is_later s w (codes "wchar")) (is_later s w (codes "wstring")) refl
     refl e
@@ -325,12 +307,13 @@ later_or_named s text w rest =
 
 leaf_by : (s : Scope) (text w rest : List ℕ) (x : TypeRead) → Takes text (word w) rest
     → (a b : Bool) → bytes_eq w (codes "string") ≡ a → bytes_eq w (codes "Object") ≡ b
-    → cond a (text_at s rest) (cond b (Ok (s, IOR, rest)) (later_or_named s text w rest)) ≡ Ok x
+    → cond a (text_at s rest)
+    (cond b (Ok (s, reference_number s.names, rest)) (later_or_named s text w rest)) ≡ Ok x
     → TakenType s text x
-unfolding OfType builtin_types
+unfolding OfType
 leaf_by s text w rest x t true b p q e = search (arith, text_took, bytes_eq-Decides)
 leaf_by s text w rest x t false true p q e =
-    subst (TakenType s text) (ok_is (s, IOR, rest) x e) (record {
+    subst (TakenType s text) (ok_is (s, reference_number s.names, rest) x e) (record {
       expr = Reference;
       took = record {
         free = tt;
@@ -338,7 +321,8 @@ leaf_by s text w rest x t false true p q e =
             ((bytes_eq-Decides w (codes "Object")).0 q) t;
       };
       grows = grows_none s;
-      sound = λ is. same_known s IOR is (lit< tt) tt;
+      sound = λ is. same_known s (reference_number s.names) is
+          (first_known s.names.version IOR (lit< tt));
     })
 leaf_by s text w rest x t false false p q e =
     later_by s text w rest x t (is_later s w (codes "any")) (is_later s w (codes "TypeCode")) refl

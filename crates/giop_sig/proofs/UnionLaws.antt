@@ -1,5 +1,5 @@
 -- Reading the spelling of a union's cases gives them, or a rule that they break.
-use Rattle.std.proofs.Common.{◌≡◌, ℕ, zero, suc, ◌+◌, ◌<◌, ◌≤◌, Bool, true, false, cond, List, [], ◌∷◌, ◌++◌, length, Option, Some, None, Result, Ok, refl, sym, subst, ◌∙◌, arith}
+use Rattle.std.proofs.Common.{◌≡◌, ℕ, zero, suc, ◌+◌, ◌<◌, ◌≤◌, Bool, true, false, cond, List, [], ◌∷◌, ◌++◌, length, Some, None, Result, Ok, refl, sym, subst, ◌∙◌, arith}
 use Rattle.std.specs.List.{AllByRecursion}
 use Rattle.std.proofs.lemmas.List.{length-append, get_or_append_left}
 use Rattle.giop_tokens.specs.declared.fault.Refusal.{Refusal}
@@ -11,8 +11,8 @@ use Rattle.giop_tokens.specs.Readers.{mark_at, mark_if}
 use Rattle.giop_tokens.proofs.ReaderLaws.{mark_again, mark_if_again}
 use Rattle.giop_sig.specs.declared.types.Selected.{Selected}
 use Rattle.giop_sig.specs.Table.{Case, Node, node_at}
-use Rattle.giop_sig.specs.Grammar.{TypeExpr, Text, SequenceOf, EncapsulationOf, Item, Label, Default, Of, UnionCase, spell_length, spell_item, spell_labels, spell_cases}
-use Rattle.giop_sig.specs.Scopes.{Names, is_third, Scope, AddedType, has_default, labels_of, union_case, place, add_array, add_item}
+use Rattle.giop_sig.specs.Grammar.{TypeExpr, Text, SequenceOf, EncapsulationOf, Item, Label, Default, Of, UnionCase, spell_lengths, spell_item, spell_labels, spell_cases}
+use Rattle.giop_sig.specs.Scopes.{Names, is_third, Scope, has_default, labels_of, union_case, place, add_item}
 use Rattle.giop_sig.specs.Validity.{Kind, OfItem, OfLabels, OfCases}
 use Rattle.giop_sig.specs.ItemReading.{item_at}
 use Rattle.giop_sig.specs.Repeats.{in_steps}
@@ -20,6 +20,7 @@ use Rattle.giop_sig.specs.UnionReading.{labels_at, Cases, chosen, with_case, Cas
 use Rattle.giop_sig.proofs.PlaceLaws.{size, within_same, within_on, Grown, item_more, item_names}
 use Rattle.giop_sig.proofs.ReadingLaws.{Out, good, out_bind, out_more, if_apart}
 use Rattle.giop_sig.proofs.TypeTaken.{Grows, grows_none, grows_on, node_grows}
+use Rattle.giop_sig.proofs.LengthLaws.{arrays_grow}
 use Rattle.giop_sig.proofs.ItemLaws.{item_reads}
 use Rattle.giop_sig.proofs.LabelLaws.{IsKept}
 use Rattle.giop_sig.proofs.LabelReads.{marks_of, labelled, type_no_label, labels_reads}
@@ -63,7 +64,7 @@ case_reads switch node s labels names cases otherwise c text more same all few f
     (labels_reads (is_third s.names) node labels c.label c.others text s.table.types
     (spell_item c.item tail)
     (λ rest m. type_no_label c.item.type s.names rest
-    (word c.item.name ∷ spell_length c.item.length tail) item.0 m) all few free h)
+    (word c.item.name ∷ spell_lengths c.item.lengths tail) item.0 m) all few free h)
     (λ a ta ka.
     out_bind (item_at 256 names s a) (λ i. mark_at marks.Semicolon i.2
     >>= λ rest. Ok (
@@ -85,12 +86,10 @@ place_grows s (SequenceOf e bound) = search (arith, grows_on, node_grows, place_
 place_grows s (EncapsulationOf e) = search (arith, grows_on, node_grows, place_grows s e)
 place_grows s _ = grows_none s
 
-length_grows : (s : Scope) (o : Option ℕ) (p : AddedType) → Grows s p.0 → Grows s (add_array o p).0
-length_grows s None p g = g
-length_grows s (Some n) p g = search (arith, grows_on, node_grows)
-
 pub item_grows : (s : Scope) (i : Item) → Grows s (add_item s i).0
-item_grows s i = search (arith, length_grows, place_grows)
+item_grows s i =
+    grows_on s (place s i.type).0 (add_item s i).0 (place_grows s i.type)
+    (arrays_grow i.lengths (place s i.type))
 
 pub node_stays : (s t : Scope) (i : ℕ) → Grows s t → i < size s
     → node_at t.table i ≡ node_at s.table i

@@ -1,12 +1,12 @@
--- The types that a file of version 3 begins with beside the built-in ones: any, TypeCode, what these
--- are made of, and wide text (CDR Transfer Syntax, Pseudo-Object Types; meaning). A TypeCode on the way from
+-- The types that a file of version 3 begins with: the built-in ones, any, TypeCode, what these are
+-- made of, and wide text (CDR Transfer Syntax, Pseudo-Object Types; meaning). A TypeCode on the way from
 -- an any to its value is heard, and so are its kind and the bound of a sequence; others are not.
 use Rattle.std.specs.Prelude.{ℕ, ◌+◌, ◌==◌, cond, ◌∷◌, ◌++◌, List, [], map, None, Some, codes}
 use Rattle.giop_cdr.specs.declared.number.Number.TheVariants.{Unsigned}
 use Rattle.giop_sig.specs.declared.numbers.TheConstants.{CHAR, BOOLEAN, SHORT, USHORT, LONG, ULONG, LONGLONG, ULONGLONG, FLOAT, DOUBLE, STRING, IOR, SEQUENCES, HEARD_KIND, KIND, HEARD_BOUND, FIXED_PARAMETERS, HEARD_TYPE_CODE, TYPE_CODE, ANY, NAMED, NAMED_DATA, TYPE_MEMBER, TYPE_MEMBERS, STRUCT, STRUCT_DATA, UNION, UNION_DATA, ENUM, ENUM_DATA, HEARD_SEQUENCE, HEARD_SEQUENCE_DATA, SEQUENCE, SEQUENCE_DATA, ARRAY, ARRAY_DATA, HEARD_ALIAS, HEARD_ALIAS_DATA, ALIAS, ALIAS_DATA, VALUE_MEMBER, VALUE_MEMBERS, VALUE, VALUE_DATA, VALUE_BOX, VALUE_BOX_DATA, WIDE_CHAR, WIDE_STRING}
-use Rattle.giop_sig.specs.Table.{Part, Case, Node}
+use Rattle.giop_sig.specs.Table.{Part, Case, Node, Table}
 use Rattle.giop_sig.specs.Table as nodes
-use Rattle.giop_sig.specs.Builtin.{builtin_types, member}
+use Rattle.giop_sig.specs.Builtin.{builtin_table, builtin_types, compound_types, leaf_types, member, named_types}
 
 -- what follows some kinds of a TypeCode: the kinds, its name, and its type
 abbrev pub follows_kinds : List ℕ → List ℕ → ℕ → Case
@@ -38,9 +38,9 @@ abbrev pub named_with : List Part → Node
 named_with more =
     nodes.members (member (codes "id") STRING ∷ member (codes "name") STRING ∷ more)
 
--- in the order of their numbers
-unfoldable pub third_types : List Node
-third_types =
+-- those after the built-in ones, in the order of their numbers
+unfoldable pub any_types : List Node
+any_types =
     (nodes.marked 0)
     ∷ (nodes.marked 2)
     ∷ (nodes.marked 1)
@@ -105,6 +105,14 @@ third_types =
     ∷ (nodes.sequence None WIDE_STRING)
     ∷ []
 
+unfoldable pub third_types : List Node
+third_types = leaf_types ++ named_types ++ compound_types ++ any_types
+
 -- the types with which a file of a version begins
 abbrev pub first_types : ℕ → List Node
-first_types version = cond (version == 3) (builtin_types ++ third_types) builtin_types
+first_types version = cond (version == 3) third_types builtin_types
+
+-- the table of a file of a version without declarations
+abbrev pub first_table : ℕ → Table
+first_table version =
+    record builtin_table { version = version; types = first_types version }

@@ -1,15 +1,49 @@
 -- The built-in types, with which every catalogue begins: the primitives, and what the headers and
--- bodies of GIOP are made of (GIOP Message Formats; Interoperable Object References; meaning). The
--- type of a number is the one at that place of the list.
-use Rattle.std.specs.Prelude.{ℕ, pos, false, List, [], ◌∷◌, None, codes}
+-- bodies of GIOP are made of (GIOP Message Formats; Interoperable Object References; meaning). They
+-- are written with the numbers that types have in version 3. Other versions have no named numbers,
+-- so that later types have other numbers there.
+use Rattle.std.specs.Prelude.{ℕ, ◌-◌, ◌==◌, nat_lt, cond, pos, false, List, [], ◌∷◌, ◌++◌, map, None, codes}
 use Rattle.giop_cdr.specs.declared.prim.Primitive.TheVariants as prims
 use Rattle.giop_cdr.specs.declared.number.Number.TheVariants.{Signed}
-use Rattle.giop_sig.specs.declared.numbers.TheConstants.{OCTET, BOOLEAN, SHORT, USHORT, ULONG, STRING, OCTETS, CODE_SETS, CODE_SETS_DATA, SERVICE_CONTEXT, SERVICE_CONTEXTS, IIOP, IIOP_DATA, TAGGED_PROFILE, TAGGED_PROFILES, IOR, IOR_ADDRESS, TARGET, COMPLETED, RESERVED, REPLY_STATUS, REPLY_STATUS_1_2, LOCATE_STATUS, LOCATE_STATUS_1_2}
+use Rattle.giop_sig.specs.declared.numbers.TheConstants.{OCTET, BOOLEAN, SHORT, USHORT, ULONG, STRING, OCTETS, CONTEXT_ID, PROFILE_TAG, CODE_SET, MINOR, CODE_SETS, CODE_SETS_DATA, SERVICE_CONTEXT, SERVICE_CONTEXTS, IIOP, IIOP_DATA, TAGGED_PROFILE, TAGGED_PROFILES, IOR, IOR_ADDRESS, TARGET, COMPLETED, RESERVED, REPLY_STATUS, REPLY_STATUS_1_2, LOCATE_STATUS, LOCATE_STATUS_1_2}
 use Rattle.giop_sig.specs.declared.types.Selected.TheVariants.{Refused}
 use Rattle.giop_sig.specs.Interfaces.{no_interfaces}
 use Rattle.giop_sig.specs.Heard.{first_fronts}
 use Rattle.giop_sig.specs.Table.{Part, Case, Node, Table}
 use Rattle.giop_sig.specs.Table as nodes
+
+-- ---- numbers in a version
+
+-- The number that a type has in versions 1 and 2, by its number in version 3: a named number is a
+-- ULONG there, and the types after the four of them come 4 sooner.
+abbrev pub older : ℕ → ℕ
+older n = cond (nat_lt n CONTEXT_ID) n (cond (nat_lt n CODE_SETS) ULONG (n - 4))
+
+-- The number of a type in a version, by its number in version 3. Any version but 3 is as 1.
+abbrev pub number_in : ℕ → ℕ → ℕ
+number_in version n = cond (version == 3) n (older n)
+
+abbrev pub renumbered_part : (ℕ → ℕ) → Part → Part
+renumbered_part f p = record { name = p.name; type = f p.type }
+
+abbrev pub renumbered_case : (ℕ → ℕ) → Case → Case
+renumbered_case f c = record { labels = c.labels; part = renumbered_part f c.part }
+
+-- A node with other numbers for the types of its parts. An any and a TypeCode are in one version
+-- alone, and stay.
+abbrev pub renumbered : (ℕ → ℕ) → Node → Node
+renumbered f (nodes.members parts) = nodes.members (map (renumbered_part f) parts)
+renumbered f (nodes.union switch cases otherwise) =
+    nodes.union (f switch) (map (renumbered_case f) cases) otherwise
+renumbered f (nodes.sequence bound element) = nodes.sequence bound (f element)
+renumbered f (nodes.array count element) = nodes.array count (f element)
+renumbered f (nodes.encapsulation held) = nodes.encapsulation (f held)
+renumbered f (nodes.tagged special tag inner other) =
+    nodes.tagged special (renumbered_part f tag) (renumbered_part f inner)
+    (renumbered_part f other)
+renumbered f node = node
+
+-- ---- parts
 
 abbrev pub member : List ℕ → ℕ → Part
 member name type = record { name = name; type = type }
@@ -23,7 +57,7 @@ labelled label name type = record { labels = Signed (pos label) ∷ []; part = m
 -- a service context: with the id 1 it holds code sets
 abbrev pub service_context : Node
 service_context =
-    nodes.tagged 1 (member (codes "context_id") ULONG)
+    nodes.tagged 1 (member (codes "context_id") CONTEXT_ID)
     (member (codes "context_data") CODE_SETS_DATA) (member (codes "context_data") OCTETS)
 
 -- the body of an internet profile, without the components after the object key
@@ -36,8 +70,8 @@ profile_body =
 -- a tagged profile: with the tag 0 it holds an internet profile
 abbrev pub tagged_profile : Node
 tagged_profile =
-    nodes.tagged 0 (member (codes "tag") ULONG) (member (codes "profile_data") IIOP_DATA)
-    (member (codes "profile_data") OCTETS)
+    nodes.tagged 0 (member (codes "tag") PROFILE_TAG)
+    (member (codes "profile_data") IIOP_DATA) (member (codes "profile_data") OCTETS)
 
 -- an object reference
 abbrev pub reference : Node
@@ -66,7 +100,7 @@ completion =
 -- a system exception
 abbrev pub system_exception : Node
 system_exception =
-    nodes.members (member (codes "exception_id") STRING ∷ member (codes "minor") ULONG
+    nodes.members (member (codes "exception_id") STRING ∷ member (codes "minor") MINOR
     ∷ member (codes "completed") COMPLETED ∷ [])
 
 -- the statuses of a reply in 1.0 and 1.1, and in 1.2
@@ -148,8 +182,9 @@ locate_reply_1_2 =
 
 -- ---- the table
 
-unfoldable pub builtin_types : List Node
-builtin_types =
+-- the types that have the same numbers in each version
+abbrev pub leaf_types : List Node
+leaf_types =
     -- octet, char, boolean, short, ushort, long, ulong, longlong, ulonglong, float, double
     (nodes.prim prims.Octet)
     ∷ (nodes.prim prims.Char)
@@ -165,8 +200,18 @@ builtin_types =
     -- string, sequence of octets
     ∷ (nodes.text None)
     ∷ (nodes.octets None)
+    ∷ []
+
+-- the numbers that have names, in version 3: the id of a service context, the tag of a profile, a
+-- code set, and the minor code of a system exception
+abbrev pub named_types : List Node
+named_types = nodes.marked 3 ∷ nodes.marked 4 ∷ nodes.marked 5 ∷ nodes.marked 6 ∷ []
+
+-- the types of contexts, profiles, references, bodies and headers
+abbrev pub compound_types : List Node
+compound_types =
     -- the code sets of a connection, and their encapsulation
-    ∷ (nodes.members (member (codes "char_data") ULONG ∷ member (codes "wchar_data") ULONG ∷ []))
+    (nodes.members (member (codes "char_data") CODE_SET ∷ member (codes "wchar_data") CODE_SET ∷ []))
     ∷ (nodes.encapsulation CODE_SETS)
     -- contexts, profiles and references
     ∷ service_context
@@ -200,6 +245,10 @@ builtin_types =
     ∷ locate_reply
     ∷ locate_reply_1_2
     ∷ []
+
+-- the built-in types of versions 1 and 2
+unfoldable pub builtin_types : List Node
+builtin_types = map (renumbered older) (leaf_types ++ compound_types)
 
 -- the catalogue of no declarations
 abbrev pub builtin_table : Table

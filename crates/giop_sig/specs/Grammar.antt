@@ -75,18 +75,20 @@ spell_type (EncapsulationOf e) more =
 
 -- ---- items: members, cases and parameters
 
--- a name with its type, an array where there is a length
+-- a name with its type, in arrays of these lengths, the outermost first
 pub record Item : Type 0 where
   pub type : TypeExpr
   pub name : List ℕ
-  pub length : Option ℕ
+  pub lengths : List ℕ
 
--- the length of an array: [ N ]
-abbrev pub spell_length : Option ℕ → List Token → List Token
-spell_length count more = spell_between marks.OpenBracket marks.CloseBracket count more
+-- the lengths of arrays, each between its marks: [ N ]
+abbrev pub spell_lengths : List ℕ → List Token → List Token
+spell_lengths [] more = more
+spell_lengths (n ∷ ns) more =
+    spell_between marks.OpenBracket marks.CloseBracket (Some n) (spell_lengths ns more)
 
 abbrev pub spell_item : Item → List Token → List Token
-spell_item i more = spell_type i.type (word i.name ∷ spell_length i.length more)
+spell_item i more = spell_type i.type (word i.name ∷ spell_lengths i.lengths more)
 
 -- members, each with its semicolon, and the closing mark
 abbrev pub spell_items : List Item → List Token → List Token

@@ -11,9 +11,10 @@ use Rattle.giop_sig.specs.Types.{Plain, Ty, Single, Struct}
 use Rattle.giop_sig.specs.Table.{Node, Operation, Exception, Identity, Table, node_in, no_operation, no_exception, no_identity}
 use Rattle.giop_sig.specs.Table as nodes
 use Rattle.giop_sig.specs.Trees.{AreTypes, AreWide, tree}
-use Rattle.giop_sig.specs.Builtin.{builtin_types, builtin_table}
+use Rattle.giop_sig.specs.Builtin.{number_in}
+use Rattle.giop_sig.specs.AnyTypes.{first_types, first_table}
 
--- the numbers of the header types of each message type, in 1.0, 1.1 and 1.2
+-- the numbers in version 3 of the header types of each message type, in 1.0, 1.1 and 1.2
 abbrev pub header_rows : List (List (Option ℕ))
 header_rows =
     -- Request, Reply, CancelRequest, LocateRequest, LocateReply
@@ -37,22 +38,29 @@ abbrev pub cell_in : Option (List (Option ℕ)) → ℕ → Option ℕ
 cell_in None minor = None
 cell_in (Some row) minor = cell_of (slice_get row minor)
 
--- the number of the header type of a minor version and a message type
-abbrev pub header_number : ℕ → ℕ → Option ℕ
-header_number minor kind = cell_in (slice_get header_rows kind) minor
+-- the number, in a version of signature files, of the header type of a minor version of GIOP and a
+-- message type
+abbrev pub header_number : ℕ → ℕ → ℕ → Option ℕ
+header_number version minor kind =
+    option_map (number_in version) (cell_in (slice_get header_rows kind) minor)
 
 -- the header type of a minor version and a message type
-abbrev pub header_type : ℕ → ℕ → Option Ty
-header_type minor kind = option_map (tree builtin_table) (header_number minor kind)
+abbrev pub header_type : ℕ → ℕ → ℕ → Option Ty
+header_type version minor kind =
+    option_map (tree (first_table version)) (header_number version minor kind)
 
-abbrev pub fixed_number : Fixed → ℕ
-fixed_number fixeds.ExceptionId = STRING
-fixed_number fixeds.SystemException = SYSTEM_EXCEPTION
-fixed_number fixeds.Forward = IOR
-fixed_number fixeds.Addressing = SHORT
+abbrev pub third_fixed : Fixed → ℕ
+third_fixed fixeds.ExceptionId = STRING
+third_fixed fixeds.SystemException = SYSTEM_EXCEPTION
+third_fixed fixeds.Forward = IOR
+third_fixed fixeds.Addressing = SHORT
 
-abbrev pub fixed_type : Fixed → Ty
-fixed_type fixed = tree builtin_table (fixed_number fixed)
+-- the number, in a version of signature files, of a body that none declares
+abbrev pub fixed_number : ℕ → Fixed → ℕ
+fixed_number version fixed = number_in version (third_fixed fixed)
+
+abbrev pub fixed_type : ℕ → Fixed → Ty
+fixed_type version fixed = tree (first_table version) (fixed_number version fixed)
 
 -- a header that begins with the request id
 abbrev pub BeginsWithId : Ty → Type 0
@@ -109,10 +117,11 @@ pub record KnowsAnys (version : ℕ) (types : List Node) (fronts : List (List �
   pub short : All (λ front. length front ≤ 129) fronts
   pub few : length fronts ≤ 65536
 
--- a table that begins with the built-in types, within the limits, of types such as are asked for
+-- a table that begins with the types of its version, within the limits, of types such as are asked
+-- for
 pub record TableOf (Types : List Node → Type 0) (t : Table) : Type 0 where
   pub types : Types t.types
-  pub begins : (more : List Node) × (t.types ≡ builtin_types ++ more)
+  pub begins : (more : List Node) × (t.types ≡ first_types t.version ++ more)
   pub operations : All (IsOperation t.types) t.operations
   pub exceptions : All (IsException t.types) t.exceptions
   pub operations_distinct : AreDistinct (λ o. o.key) no_operation t.operations

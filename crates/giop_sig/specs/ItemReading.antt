@@ -1,5 +1,5 @@
 -- Reading members from left to right: items, structs and exceptions (steps).
-use Rattle.std.specs.Prelude.{ℕ, Bool, true, false, if◌then◌else◌, nat_le, List, [], ◌∷◌, ◌++◌, length, Option, Some, None, Result, Ok, Err, option_and_then}
+use Rattle.std.specs.Prelude.{ℕ, zero, suc, Bool, true, false, if◌then◌else◌, nat_le, List, [], ◌∷◌, ◌++◌, length, Option, Some, None, Result, Ok, Err, option_and_then}
 use Rattle.std.specs.Map.{lookup}
 use Rattle.std.specs.Option.{is_some}
 use Rattle.std.specs.Str.{bytes_eq}
@@ -13,7 +13,7 @@ use Rattle.giop_tokens.specs.Names.{identifier_at}
 use Rattle.giop_sig.specs.Table.{Node, Part, exception_in, identified_in}
 use Rattle.giop_sig.specs.Table as nodes
 use Rattle.giop_sig.specs.Trees.{depth_of}
-use Rattle.giop_sig.specs.Scopes.{is_third, Scope, AddedType, add_array, part, with_node, with_named, with_raised}
+use Rattle.giop_sig.specs.Scopes.{is_third, Scope, AddedType, add_arrays, part, with_node, with_named, with_raised}
 use Rattle.giop_sig.specs.Validity.{is_among}
 use Rattle.giop_sig.specs.Outcomes.{refused}
 use Rattle.giop_sig.specs.TypeReading.{enclosed_at, type_at}
@@ -41,7 +41,34 @@ declared_at s count text = do
 abbrev pub ItemRead : Type 0
 ItemRead = Scope × Part × List ℕ
 
--- an item of a type that was read, with this name and perhaps this length
+-- the lengths of arrays, the outermost first, and what follows them
+abbrev pub LengthsRead : Type 0
+LengthsRead = List ℕ × List ℕ
+
+abbrev pub onto_lengths : ℕ → LengthsRead → LengthsRead
+onto_lengths n ls = (n ∷ ls.0, ls.1)
+
+-- a length that may have come, and the others
+abbrev pub lengths_after : (List ℕ → Result LengthsRead Refusal) → Option ℕ × List ℕ
+    → Result LengthsRead Refusal
+lengths_after others (None, rest) = Ok ([], rest)
+lengths_after others (Some n, rest) = do
+  ls ← others rest
+  Ok (onto_lengths n ls)
+
+-- the lengths that come next, at most so many
+unfoldable pub lengths_at : ℕ → List ℕ → Result LengthsRead Refusal
+lengths_at zero text = Ok ([], text)
+lengths_at (suc most) text = do
+  l ← enclosed_at marks.OpenBracket marks.CloseBracket text
+  lengths_after (lengths_at most) l
+
+-- How many lengths an item may have: in a file of version 3 all that come, and a text has fewer
+-- than octets; in an older one a single length.
+abbrev pub most_lengths : Bool → List ℕ → ℕ
+most_lengths third text = if third then length text else 1
+
+-- an item of a type that was read, with this name
 abbrev pub read_item : AddedType → List ℕ → List ℕ → ItemRead
 read_item p w rest = (p.0, part w p.1, rest)
 
@@ -49,8 +76,8 @@ unfoldable pub item_at : ℕ → List (List ℕ) → Scope → List ℕ → Resu
 item_at most seen s text = do
   t ← type_at s text
   n ← new_name_at (is_third s.names) most seen t.2
-  l ← enclosed_at marks.OpenBracket marks.CloseBracket n.1
-  Ok (read_item (add_array l.0 (t.0, t.1)) n.0 l.1)
+  l ← lengths_at (most_lengths (is_third s.names) n.1) n.1
+  Ok (read_item (add_arrays l.0 (t.0, t.1)) n.0 l.1)
 
 -- ---- members
 

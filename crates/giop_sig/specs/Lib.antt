@@ -1,4 +1,5 @@
 pub mod Kinds
+pub mod Names
 pub mod Types
 pub mod Interfaces
 pub mod Table

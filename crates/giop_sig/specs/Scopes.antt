@@ -17,8 +17,8 @@ use Rattle.giop_sig.specs.Trees.{depth_in}
 use Rattle.giop_sig.specs.Table.{Part, Case, Node, Table, node_at, with_type, with_identity, with_declared, with_called, with_listed, with_exception}
 use Rattle.giop_sig.specs.Table as nodes
 use Rattle.giop_sig.specs.Interfaces.{with_key}
-use Rattle.giop_sig.specs.Builtin.{builtin_table}
-use Rattle.giop_sig.specs.AnyTypes.{first_types}
+use Rattle.giop_sig.specs.Builtin.{number_in}
+use Rattle.giop_sig.specs.AnyTypes.{first_table}
 use Rattle.giop_sig.specs.RequestList.{flat}
 use Rattle.giop_sig.specs.Grammar.{TypeExpr, Base, Text, Reference, AnyType, CodeType, WideChar, WideText, Named, SequenceOf, EncapsulationOf, Item, Value, Plain, Below, Truth, Enumerator, Label, Default, Of, UnionCase, Param, Declaration, Enumeration, Structure, DeclaredUnion, DeclaredException, Call, KeyOf, SignatureFile}
 
@@ -45,7 +45,7 @@ pub record Scope : Type 0 where
 abbrev pub first_scope : ℕ → Scope
 first_scope version =
     record {
-      table = record builtin_table { version = version; types = first_types version };
+      table = first_table version;
       names = record { version = version; known = [] };
     }
 
@@ -81,6 +81,10 @@ base_number prims.ULongLong = 8
 base_number prims.Float = 9
 base_number prims.Double = 10
 
+-- only in version 3 the tags of a reference's profiles have names
+abbrev pub reference_number : Names → ℕ
+reference_number names = number_in names.version IOR
+
 -- a sequence of octets (the type with the number 0) is a kind of its own
 abbrev pub sequence_node : Option ℕ → ℕ → Node
 sequence_node bound element =
@@ -100,7 +104,7 @@ add_encapsulation_type p = with_node p.0 (nodes.encapsulation p.1)
 unfoldable pub place : Scope → TypeExpr → AddedType
 place s (Base p) = (s, base_number p)
 place s (Text bound) = add_text_type s bound
-place s Reference = (s, IOR)
+place s Reference = (s, reference_number s.names)
 place s AnyType = (s, ANY)
 place s CodeType = (s, TYPE_CODE)
 place s WideChar = (s, WIDE_CHAR)
@@ -111,12 +115,16 @@ place s (EncapsulationOf e) = add_encapsulation_type (place s e)
 
 -- ---- items
 
-abbrev pub add_array : Option ℕ → AddedType → AddedType
-add_array None p = p
-add_array (Some n) p = with_node p.0 (nodes.array n p.1)
+abbrev pub add_array : ℕ → AddedType → AddedType
+add_array n p = with_node p.0 (nodes.array n p.1)
+
+-- an array of as many elements as the first length, of arrays of the others
+abbrev pub add_arrays : List ℕ → AddedType → AddedType
+add_arrays [] p = p
+add_arrays (n ∷ ns) p = add_array n (add_arrays ns p)
 
 abbrev pub add_item : Scope → Item → AddedType
-add_item s i = add_array i.length (place s i.type)
+add_item s i = add_arrays i.lengths (place s i.type)
 
 abbrev pub part : List ℕ → ℕ → Part
 part w number = record { name = w; type = number }

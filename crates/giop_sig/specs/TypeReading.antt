@@ -8,10 +8,10 @@ use Rattle.giop_tokens.specs.declared.marks.Mark.TheVariants as marks
 use Rattle.giop_tokens.specs.Reading.{◌>>=◌}
 use Rattle.giop_tokens.specs.Readers.{misplaced, word_at, number_at, mark_at, mark_if}
 use Rattle.giop_tokens.specs.Names.{is_reserved}
-use Rattle.giop_sig.specs.declared.numbers.TheConstants.{IOR, TYPE_CODE, ANY, WIDE_CHAR, WIDE_STRING}
+use Rattle.giop_sig.specs.declared.numbers.TheConstants.{TYPE_CODE, ANY, WIDE_CHAR, WIDE_STRING}
 use Rattle.giop_sig.specs.declared.read_types.Opener.{Opener}
 use Rattle.giop_sig.specs.declared.read_types.Opener.TheVariants as openers
-use Rattle.giop_sig.specs.Scopes.{has_encapsulations, is_third, Scope, AddedType, named, add_text_type, add_sequence_type, add_encapsulation_type}
+use Rattle.giop_sig.specs.Scopes.{has_encapsulations, is_third, Scope, AddedType, named, add_text_type, add_sequence_type, add_encapsulation_type, reference_number}
 use Rattle.giop_sig.specs.Outcomes.{refused}
 
 -- ---- sizes
@@ -122,7 +122,7 @@ abbrev pub leaf_after : Scope → List ℕ → List ℕ → List ℕ → Option 
 leaf_after s text w rest (Some base) = Ok (s, base, rest)
 leaf_after s text w rest None =
     if bytes_eq w (codes "string") then text_at s rest else
-    (if bytes_eq w (codes "Object") then Ok (s, IOR, rest) else
+    (if bytes_eq w (codes "Object") then Ok (s, reference_number s.names, rest) else
     (if is_later s w (codes "any") then Ok (s, ANY, rest) else
     (if is_later s w (codes "TypeCode") then Ok (s, TYPE_CODE, rest) else
     (if is_later s w (codes "wchar") then Ok (s, WIDE_CHAR, rest) else

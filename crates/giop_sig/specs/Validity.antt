@@ -67,7 +67,7 @@ abbrev pub OfVersion : Kind → Names → Type 0
 OfVersion kinds.Syntax names = has_encapsulations names ≡ true
 OfVersion k names = Unit {0}
 
--- only a file of version 3 has interfaces, anys, TypeCodes and wide text
+-- only a file of version 3 has interfaces, anys, TypeCodes, wide text and arrays of arrays
 abbrev pub OfThird : Kind → Names → Type 0
 OfThird kinds.Syntax names = is_third names ≡ true
 OfThird k names = Unit {0}
@@ -84,9 +84,24 @@ OfType k names (Named w) = OfTypeName k names w
 OfType k names (SequenceOf e bound) = OfType k names e × OfBound k bound
 OfType k names (EncapsulationOf e) = OfVersion k names × OfType k names e
 
+abbrev pub OfSizes : Kind → List ℕ → Type 0
+OfSizes k [] = Unit {0}
+OfSizes k (n ∷ ns) = OfSize k n × OfSizes k ns
+
+-- the lengths after the first
+abbrev pub OfInner : Kind → Names → List ℕ → Type 0
+OfInner k names [] = Unit {0}
+OfInner k names (n ∷ ns) = OfThird k names
+
+-- the lengths of arrays in arrays
+abbrev pub OfLengths : Kind → Names → List ℕ → Type 0
+OfLengths k names [] = Unit {0}
+OfLengths k names (n ∷ ns) = OfInner k names ns × OfSizes k (n ∷ ns)
+
 abbrev pub OfItem : Kind → Names → ℕ → List (List ℕ) → Item → Type 0
 OfItem k names most seen i =
-    OfType k names i.type × OfNewName k (is_third names) most seen i.name × OfBound k i.length
+    OfType k names i.type × OfNewName k (is_third names) most seen i.name
+    × OfLengths k names i.lengths
 
 -- items after others of these names
 unfoldable pub OfItems : Kind → Names → ℕ → List (List ℕ) → List Item → Type 0

@@ -2,7 +2,7 @@
 //! made of (CDR, TypeCode and any), and wide text.
 
 ghost use Rattle.std.specs.Prelude.{◌≡◌, ◌-◌, ◌<◌, ◌≤◌};
-ghost use Rattle.giop_sig.specs.AnyTypes.{third_types};
+ghost use Rattle.giop_sig.specs.AnyTypes.{any_types};
 ghost use Rattle.giop_sig.specs.Literals.{literal_node};
 ghost use Rattle.giop_sig.specs.Table.{node_in};
 
@@ -24,7 +24,7 @@ const PARAMETERS: &[u8] = b"parameters";
 pub(crate) fn third_literal(number: u32) -> Literal
     requires low { BUILTIN_LEN ≤ number }
     requires high { number < THIRD_LEN }
-    ensures { literal_node result ≡ node_in third_types (number - BUILTIN_LEN) }
+    ensures { literal_node result ≡ node_in any_types (number - BUILTIN_LEN) }
 {
     if number < NAMED {
         coded(number)
@@ -38,11 +38,11 @@ pub(crate) fn third_literal(number: u32) -> Literal
 }
 
 /// Numbers with marks, sequences, TypeCodes and anys.
-#[tactic(auto, unfolding(crate::specs::AnyTypes::third_types))]
+#[tactic(auto, unfolding(crate::specs::AnyTypes::any_types))]
 fn coded(number: u32) -> Literal
     requires low { BUILTIN_LEN ≤ number }
     requires high { number < NAMED }
-    ensures { literal_node result ≡ node_in third_types (number - BUILTIN_LEN) }
+    ensures { literal_node result ≡ node_in any_types (number - BUILTIN_LEN) }
 {
     match number {
         HEARD_KIND => Literal::Marked(HEARD_KIND_MARK),
@@ -94,11 +94,11 @@ fn coded(number: u32) -> Literal
 }
 
 /// The parameters of kinds with an id, and of the members in them.
-#[tactic(auto, unfolding(crate::specs::AnyTypes::third_types))]
+#[tactic(auto, unfolding(crate::specs::AnyTypes::any_types))]
 fn named(number: u32) -> Literal
     requires low { NAMED ≤ number }
     requires high { number < HEARD_SEQUENCE }
-    ensures { literal_node result ≡ node_in third_types (number - BUILTIN_LEN) }
+    ensures { literal_node result ≡ node_in any_types (number - BUILTIN_LEN) }
 {
     match number {
         NAMED => Literal::Members(&[Named(b"id", STRING), Named(b"name", STRING)]),
@@ -129,11 +129,11 @@ fn named(number: u32) -> Literal
 }
 
 /// The parameters of kinds that hold another type, and of values.
-#[tactic(auto, unfolding(crate::specs::AnyTypes::third_types))]
+#[tactic(auto, unfolding(crate::specs::AnyTypes::any_types))]
 fn holding(number: u32) -> Literal
     requires low { HEARD_SEQUENCE ≤ number }
     requires high { number < WIDE_CHAR }
-    ensures { literal_node result ≡ node_in third_types (number - BUILTIN_LEN) }
+    ensures { literal_node result ≡ node_in any_types (number - BUILTIN_LEN) }
 {
     match number {
         HEARD_SEQUENCE => Literal::Members(&[
@@ -182,11 +182,11 @@ fn holding(number: u32) -> Literal
 }
 
 /// Wide text, and sequences of it.
-#[tactic(auto, unfolding(crate::specs::AnyTypes::third_types))]
+#[tactic(auto, unfolding(crate::specs::AnyTypes::any_types))]
 fn wide(number: u32) -> Literal
     requires low { WIDE_CHAR ≤ number }
     requires high { number < THIRD_LEN }
-    ensures { literal_node result ≡ node_in third_types (number - BUILTIN_LEN) }
+    ensures { literal_node result ≡ node_in any_types (number - BUILTIN_LEN) }
 {
     match number {
         WIDE_CHAR => Literal::WideChar,

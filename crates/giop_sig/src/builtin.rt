@@ -1,8 +1,8 @@
-//! The types that every catalogue begins with.
+//! The types that every catalogue begins with, written with the numbers of version 3.
 ghost use Rattle.std.specs.Prelude.{◌≡◌, ◌<◌, ◌≤◌, ◌++◌, length, map, IfOk, IfErr};
 ghost use Rattle.std.specs.Option.{option_map};
 ghost use Rattle.giop_sig.specs.Table.{node_in};
-ghost use Rattle.giop_sig.specs.Builtin.{builtin_types};
+ghost use Rattle.giop_sig.specs.Builtin.{builtin_types, number_in, older, renumbered, renumbered_part, renumbered_case};
 ghost use Rattle.giop_sig.specs.HeaderTypes.{header_number, fixed_number};
 ghost use Rattle.giop_sig.specs.Views.{node_view};
 ghost use Rattle.giop_sig.specs.UnionCases.{part_view, case_view};
@@ -14,17 +14,21 @@ use crate::cases::UnionCases;
 use crate::draft::THIRD_VERSION;
 use crate::entries::{CaseEntry, Entry, PartEntry, TagEntry, TypeCodeEntry, Types};
 use crate::numbers::{
-    BOOLEAN, BUILTIN_LEN, CHAR, CODE_SETS, CODE_SETS_DATA, COMPLETED, DOUBLE, FLOAT, ID_ALONE,
-    IIOP, IIOP_DATA, IOR, IOR_ADDRESS, LOCATE_REPLY, LOCATE_REPLY_1_2, LOCATE_REQUEST,
-    LOCATE_REQUEST_1_2, LOCATE_STATUS, LOCATE_STATUS_1_2, LONG, LONGLONG, NAMED, OCTET, OCTETS,
-    REPLY, REPLY_1_2, REPLY_STATUS, REPLY_STATUS_1_2, REQUEST_1_0, REQUEST_1_1, REQUEST_1_2,
-    RESERVED, SERVICE_CONTEXT, SERVICE_CONTEXTS, SHORT, STRING, SYSTEM_EXCEPTION, TAGGED_PROFILE,
-    TAGGED_PROFILES, TARGET, THIRD_LEN, ULONG, ULONGLONG, USHORT,
+    BOOLEAN, BUILTIN_LEN, CHAR, CODE_SET, CODE_SET_MARK, CODE_SETS, CODE_SETS_DATA, COMPLETED,
+    CONTEXT_ID, CONTEXT_ID_MARK, DOUBLE, FLOAT, ID_ALONE, IIOP, IIOP_DATA, IOR, IOR_ADDRESS,
+    LOCATE_REPLY, LOCATE_REPLY_1_2, LOCATE_REQUEST, LOCATE_REQUEST_1_2, LOCATE_STATUS,
+    LOCATE_STATUS_1_2, LONG, LONGLONG, MINOR, MINOR_MARK, NAMED, OCTET, OCTETS, PROFILE_TAG,
+    PROFILE_TAG_MARK, REPLY, REPLY_1_2, REPLY_STATUS, REPLY_STATUS_1_2, REQUEST_1_0, REQUEST_1_1,
+    REQUEST_1_2, RESERVED, SERVICE_CONTEXT, SERVICE_CONTEXTS, SHORT, STRING, SYSTEM_EXCEPTION,
+    TAGGED_PROFILE, TAGGED_PROFILES, TARGET, THIRD_LEN, ULONG, ULONGLONG, USHORT,
 };
 use crate::part_name::PartName;
 use crate::types::{Fixed, Selected, TypeId};
 use giop_cdr::{Number, Prim};
 use std::alloc::{AllocError, Global};
+
+/// How many numbers have names, which are types of their own in version 3.
+const NAMED_NUMBERS: u32 = CODE_SETS - CONTEXT_ID;
 
 /// A type of the built-in table, as a literal.
 #[derive(Clone, Copy)]
@@ -89,34 +93,77 @@ static HEADER_TYPES: [[Option<u32>; 3]; 8] = [
     [None, None, Some(ID_ALONE)],
 ];
 
-/// The header type of a minor version and a message type.
-pub(crate) fn header_id(minor: u8, kind: u8) -> Option<TypeId>
-    ensures { option_map (λ t. t.0) result ≡ header_number minor kind }
+/// The number of a type in a version of signature files, by its number in version 3. Any version but 3 is as 1.
+pub(crate) fn number_in(version: u8, number: u32) -> u32
+    ensures { result ≡ number_in version number }
+{
+    if version == THIRD_VERSION || number < CONTEXT_ID {
+        number
+    } else if number < CODE_SETS {
+        ULONG
+    } else {
+        number - NAMED_NUMBERS
+    }
+}
+
+/// The header type, in a version of signature files, of a minor version of GIOP and a message type.
+pub(crate) fn header_id(version: u8, minor: u8, kind: u8) -> Option<TypeId>
+    ensures { option_map (λ t. t.0) result ≡ header_number version minor kind }
 {
     let row = HEADER_TYPES.get(kind as usize)?;
     match row.get(minor as usize) {
-        Some(Some(number)) => Some(TypeId(*number)),
+        Some(Some(number)) => Some(TypeId(number_in(version, *number))),
         Some(None) => None,
         None => None,
     }
 }
 
-/// The type of a body that no signature file declares.
-pub(crate) fn fixed_id(fixed: Fixed) -> TypeId
-    ensures { result.0 ≡ fixed_number fixed }
+/// The type, in a version of signature files, of a body that none declares.
+pub(crate) fn fixed_id(version: u8, fixed: Fixed) -> TypeId
+    ensures { result.0 ≡ fixed_number version fixed }
 {
-    match fixed {
-        Fixed::ExceptionId => TypeId(STRING),
-        Fixed::SystemException => TypeId(SYSTEM_EXCEPTION),
-        Fixed::Forward => TypeId(IOR),
-        Fixed::Addressing => TypeId(SHORT),
+    let number = match fixed {
+        Fixed::ExceptionId => STRING,
+        Fixed::SystemException => SYSTEM_EXCEPTION,
+        Fixed::Forward => IOR,
+        Fixed::Addressing => SHORT,
+    };
+    TypeId(number_in(version, number))
+}
+
+/// The type of a number in a version, with the numbers of version 3.
+#[tactic(auto, using(crate::proofs::Builtins::in_third, crate::proofs::Builtins::in_older, crate::proofs::Builtins::known_older))]
+fn literal_in(version: u8, number: u32) -> Literal
+    requires { number < length (first_types version) }
+    ensures { renumbered (number_in version) (literal_node result)
+        ≡ node_in (first_types version) number }
+{
+    if version == THIRD_VERSION {
+        literal_of(number)
+    } else {
+        literal_of(later_number(number))
     }
 }
 
-/// The built-in type of a number.
+/// The number in version 3 of a type of versions 1 and 2.
+#[tactic(auto, using(crate::proofs::Builtins::leaf_older, crate::proofs::Builtins::later_older))]
+fn later_number(number: u32) -> u32
+    requires { number < length builtin_types }
+    ensures known { result < THIRD_LEN }
+    ensures is { renumbered older (node_in third_types result) ≡ node_in builtin_types number }
+{
+    if number < CONTEXT_ID {
+        number
+    } else {
+        number + NAMED_NUMBERS
+    }
+}
+
+/// The type of a number in version 3.
+#[tactic(auto, using(crate::proofs::Builtins::third_node))]
 fn literal_of(number: u32) -> Literal
-    requires { number < BUILTIN_LEN }
-    ensures { literal_node result ≡ node_in builtin_types number }
+    requires { number < THIRD_LEN }
+    ensures { literal_node result ≡ node_in third_types number }
 {
     if number < CODE_SETS {
         leaf(number)
@@ -124,16 +171,18 @@ fn literal_of(number: u32) -> Literal
         reference(number)
     } else if number < REQUEST_1_0 {
         status(number)
-    } else {
+    } else if number < BUILTIN_LEN {
         header(number)
+    } else {
+        third_literal(number)
     }
 }
 
 /// The types without parts, but for enums.
-#[tactic(auto, unfolding(crate::specs::Builtin::builtin_types))]
+#[tactic(auto, unfolding(crate::specs::AnyTypes::third_types))]
 fn leaf(number: u32) -> Literal
     requires { number < CODE_SETS }
-    ensures { literal_node result ≡ node_in builtin_types number }
+    ensures { literal_node result ≡ node_in third_types number }
 {
     match number {
         OCTET => Literal::Prim(Prim::Octet),
@@ -149,23 +198,30 @@ fn leaf(number: u32) -> Literal
         DOUBLE => Literal::Prim(Prim::Double),
         STRING => Literal::Text,
         OCTETS => Literal::Octets,
+        CONTEXT_ID => Literal::Marked(CONTEXT_ID_MARK),
+        PROFILE_TAG => Literal::Marked(PROFILE_TAG_MARK),
+        CODE_SET => Literal::Marked(CODE_SET_MARK),
+        MINOR => Literal::Marked(MINOR_MARK),
         _ => unreachable!(),
     }
 }
 
 /// Contexts, profiles and references (a row of a name and a type's number for each member).
-#[tactic(auto, unfolding(crate::specs::Builtin::builtin_types))]
+#[tactic(auto, unfolding(crate::specs::AnyTypes::third_types))]
 fn reference(number: u32) -> Literal
     requires low { CODE_SETS ≤ number }
     requires high { number < COMPLETED }
-    ensures { literal_node result ≡ node_in builtin_types number }
+    ensures { literal_node result ≡ node_in third_types number }
 {
     match number {
-        CODE_SETS => Literal::Members(&[Named(b"char_data", ULONG), Named(b"wchar_data", ULONG)]),
+        CODE_SETS => Literal::Members(&[
+            Named(b"char_data", CODE_SET),
+            Named(b"wchar_data", CODE_SET),
+        ]),
         CODE_SETS_DATA => Literal::Encapsulation(CODE_SETS),
         SERVICE_CONTEXT => Literal::Tagged(
             1,
-            Named(b"context_id", ULONG),
+            Named(b"context_id", CONTEXT_ID),
             Named(b"context_data", CODE_SETS_DATA),
             Named(b"context_data", OCTETS),
         ),
@@ -180,7 +236,7 @@ fn reference(number: u32) -> Literal
         IIOP_DATA => Literal::Encapsulation(IIOP),
         TAGGED_PROFILE => Literal::Tagged(
             0,
-            Named(b"tag", ULONG),
+            Named(b"tag", PROFILE_TAG),
             Named(b"profile_data", IIOP_DATA),
             Named(b"profile_data", OCTETS),
         ),
@@ -206,17 +262,17 @@ fn reference(number: u32) -> Literal
 }
 
 /// How a request ended, and the octets that it reserves.
-#[tactic(auto, unfolding(crate::specs::Builtin::builtin_types))]
+#[tactic(auto, unfolding(crate::specs::AnyTypes::third_types))]
 fn status(number: u32) -> Literal
     requires low { COMPLETED ≤ number }
     requires high { number < REQUEST_1_0 }
-    ensures { literal_node result ≡ node_in builtin_types number }
+    ensures { literal_node result ≡ node_in third_types number }
 {
     match number {
         COMPLETED => Literal::Names(&[b"COMPLETED_YES", b"COMPLETED_NO", b"COMPLETED_MAYBE"]),
         SYSTEM_EXCEPTION => Literal::Members(&[
             Named(b"exception_id", STRING),
-            Named(b"minor", ULONG),
+            Named(b"minor", MINOR),
             Named(b"completed", COMPLETED),
         ]),
         RESERVED => Literal::Array(3, OCTET),
@@ -248,11 +304,11 @@ fn status(number: u32) -> Literal
 }
 
 /// The header types.
-#[tactic(auto, unfolding(crate::specs::Builtin::builtin_types))]
+#[tactic(auto, unfolding(crate::specs::AnyTypes::third_types))]
 fn header(number: u32) -> Literal
     requires low { REQUEST_1_0 ≤ number }
     requires high { number < BUILTIN_LEN }
-    ensures { literal_node result ≡ node_in builtin_types number }
+    ensures { literal_node result ≡ node_in third_types number }
 {
     match number {
         REQUEST_1_0 => Literal::Members(&[
@@ -323,43 +379,47 @@ pub(crate) fn names_of(alloc: Global, names: &[&[u8]]) -> Result<Vec<Vec<u8>>, A
 }
 
 /// The members of a struct.
-fn parts_of(alloc: Global, parts: &[Named]) -> Result<Vec<PartEntry>, AllocError>
-    ensures { IfOk result (λ v. map part_view v.items ≡ map literal_part parts.now) }
+fn parts_of(alloc: Global, version: u8, parts: &[Named]) -> Result<Vec<PartEntry>, AllocError>
+    ensures { IfOk result (λ v. map part_view v.items
+        ≡ map (renumbered_part (number_in version)) (map literal_part parts.now)) }
 {
     let mut all = Vec::new(alloc);
     for part in parts {
-        all.push(part_of(alloc, part.0, part.1)?)?;
+        all.push(part_of(alloc, version, part.0, part.1)?)?;
     }
     Ok(all)
 }
 
 /// A case, with its one label.
-fn case_of(alloc: Global, case: &Labelled) -> Result<CaseEntry, AllocError>
-    ensures { IfOk result (λ c. case_view c ≡ literal_case case.now) }
+fn case_of(alloc: Global, version: u8, case: &Labelled) -> Result<CaseEntry, AllocError>
+    ensures { IfOk result (λ c. case_view c
+        ≡ renumbered_case (number_in version) (literal_case case.now)) }
 {
-    let part = part_of(alloc, case.1, case.2)?;
+    let part = part_of(alloc, version, case.1, case.2)?;
     let labels = vec![in alloc; Number::Signed(case.0)]?;
     Ok(CaseEntry { labels, part })
 }
 
 /// The cases of a union.
-fn cases_of(alloc: Global, cases: &[Labelled]) -> Result<Vec<CaseEntry>, AllocError>
-    ensures { IfOk result (λ v. map case_view v.items ≡ map literal_case cases.now) }
+fn cases_of(alloc: Global, version: u8, cases: &[Labelled]) -> Result<Vec<CaseEntry>, AllocError>
+    ensures { IfOk result (λ v. map case_view v.items
+        ≡ map (renumbered_case (number_in version)) (map literal_case cases.now)) }
 {
     let mut all = Vec::new(alloc);
     for case in cases {
-        all.push(case_of(alloc, case)?)?;
+        all.push(case_of(alloc, version, case)?)?;
     }
     Ok(all)
 }
 
-/// A member or a case.
-fn part_of(alloc: Global, name: &[u8], number: u32) -> Result<PartEntry, AllocError>
-    ensures { IfOk result (λ p. part_view p ≡ record { name = name.now; type = number }) }
+/// A member or a case, of a type by its number in version 3.
+fn part_of(alloc: Global, version: u8, name: &[u8], number: u32) -> Result<PartEntry, AllocError>
+    ensures { IfOk result (λ p. part_view p
+        ≡ record { name = name.now; type = number_in version number }) }
 {
     Ok(PartEntry {
         name: PartName::new(alloc, name)?,
-        type_id: TypeId(number),
+        type_id: TypeId(number_in(version, number)),
     })
 }
 
@@ -378,7 +438,7 @@ fn kinds_of(alloc: Global, kinds: &[u32]) -> Result<Vec<Number>, AllocError>
 fn parameters_of(alloc: Global, parameters: &Parameters) -> Result<CaseEntry, AllocError>
     ensures { IfOk result (λ c. case_view c ≡ literal_parameters parameters.now) }
 {
-    let part = part_of(alloc, parameters.1, parameters.2)?;
+    let part = part_of(alloc, THIRD_VERSION, parameters.1, parameters.2)?;
     let labels = kinds_of(alloc, parameters.0)?;
     Ok(CaseEntry { labels, part })
 }
@@ -394,9 +454,10 @@ fn all_parameters_of(alloc: Global, all: &[Parameters]) -> Result<Vec<CaseEntry>
     Ok(cases)
 }
 
-/// The entry of a built-in type.
-fn entry_of(alloc: Global, literal: Literal) -> Result<Entry, AllocError>
-    ensures { IfOk result (λ e. node_view e ≡ literal_node literal) }
+/// The entry of a built-in type in a version.
+fn entry_of(alloc: Global, version: u8, literal: Literal) -> Result<Entry, AllocError>
+    ensures { IfOk result (λ e. node_view e
+        ≡ renumbered (number_in version) (literal_node literal)) }
 {
     Ok(match literal {
         Literal::Prim(p) => Entry::Prim(p),
@@ -405,19 +466,21 @@ fn entry_of(alloc: Global, literal: Literal) -> Result<Entry, AllocError>
         Literal::WideText => Entry::WideText,
         Literal::WideChar => Entry::WideChar,
         Literal::Names(names) => Entry::Enumeration(names_of(alloc, names)?),
-        Literal::Members(parts) => Entry::Members(parts_of(alloc, parts)?),
+        Literal::Members(parts) => Entry::Members(parts_of(alloc, version, parts)?),
         Literal::Target(switch, cases) => {
-            let cases = UnionCases::new(alloc, cases_of(alloc, cases)?)?;
-            Entry::Union(TypeId(switch), cases, Selected::Refused)
+            let cases = UnionCases::new(alloc, cases_of(alloc, version, cases)?)?;
+            Entry::Union(TypeId(number_in(version, switch)), cases, Selected::Refused)
         }
-        Literal::Sequence(element) => Entry::Sequence(None, TypeId(element)),
-        Literal::Array(count, element) => Entry::Array(count, TypeId(element)),
-        Literal::Encapsulation(held) => Entry::Encapsulation(TypeId(held)),
+        Literal::Sequence(element) => Entry::Sequence(None, TypeId(number_in(version, element))),
+        Literal::Array(count, element) => {
+            Entry::Array(count, TypeId(number_in(version, element)))
+        }
+        Literal::Encapsulation(held) => Entry::Encapsulation(TypeId(number_in(version, held))),
         Literal::Tagged(special, tag, inner, other) => Entry::Tagged(TagEntry {
             special,
-            tag: part_of(alloc, tag.0, tag.1)?,
-            inner: part_of(alloc, inner.0, inner.1)?,
-            other: part_of(alloc, other.0, other.1)?,
+            tag: part_of(alloc, version, tag.0, tag.1)?,
+            inner: part_of(alloc, version, inner.0, inner.1)?,
+            other: part_of(alloc, version, other.0, other.1)?,
         }),
         Literal::Marked(mark) => Entry::Marked(mark),
         Literal::Any(code) => Entry::Any(TypeId(code)),
@@ -429,39 +492,26 @@ fn entry_of(alloc: Global, literal: Literal) -> Result<Entry, AllocError>
     })
 }
 
-/// The table of the built-in types.
-#[tactic(auto, unfolding(crate::specs::Builtin::builtin_types))]
-pub(crate) fn builtin_list(alloc: Global) -> Result<Types, AllocError>
-    ensures { IfOk result (λ types. types ≡ builtin_types) }
+/// How many types a file of a version begins with.
+#[tactic(auto, unfolding(crate::specs::AnyTypes::third_types, crate::specs::AnyTypes::any_types, crate::specs::Builtin::builtin_types))]
+fn first_len(version: u8) -> u32
+    ensures { result ≡ length (first_types version) }
 {
-    let mut types = Types::new(alloc);
-    for number in 0..BUILTIN_LEN {
-        let entry = entry_of(alloc, literal_of(number))?;
-        types.add(entry)?;
+    if version == THIRD_VERSION {
+        THIRD_LEN
+    } else {
+        BUILTIN_LEN - NAMED_NUMBERS
     }
-    Ok(types)
-}
-
-/// The table with which a file of version 3 begins.
-#[tactic(auto, unfolding(crate::specs::Builtin::builtin_types, crate::specs::AnyTypes::third_types))]
-pub(crate) fn third_list(alloc: Global) -> Result<Types, AllocError>
-    ensures { IfOk result (λ types. types ≡ builtin_types ++ third_types) }
-{
-    let mut types = builtin_list(alloc)?;
-    for number in BUILTIN_LEN..THIRD_LEN {
-        let entry = entry_of(alloc, third_literal(number))?;
-        types.add(entry)?;
-    }
-    Ok(types)
 }
 
 /// The table with which a file of a version begins.
 pub(crate) fn first_list(alloc: Global, version: u8) -> Result<Types, AllocError>
     ensures { IfOk result (λ types. types ≡ first_types version) }
 {
-    if version == THIRD_VERSION {
-        third_list(alloc)
-    } else {
-        builtin_list(alloc)
+    let mut types = Types::new(alloc);
+    for number in 0..first_len(version) {
+        let entry = entry_of(alloc, version, literal_in(version, number))?;
+        types.add(entry)?;
     }
+    Ok(types)
 }

@@ -8,7 +8,7 @@ ghost use Rattle.giop_sig.specs.Table.{node_at, shape_of, part_number, part_at, 
 ghost use Rattle.giop_sig.specs.Trees.{tree, tree_at, grow, catalogue_depth, depth_in, part_number_in, wide_in};
 ghost use Rattle.giop_sig.specs.HeaderTypes.{header_number, header_type, fixed_number, fixed_type, IdStandsFirst, BeginsWithId, IsTable};
 
-use crate::builtin::builtin_list;
+use crate::builtin::first_list;
 use crate::draft::THIRD_VERSION;
 use crate::entries::{Entry, Types};
 use crate::fronts::{Front, first_fronts};
@@ -87,7 +87,7 @@ impl Catalogue {
         ensures ok { IfOk result (λ catalogue. catalogue ≡ builtin_table) }
         ensures err { IfErr result (λ fault. fault ≡ no_memory) }
     {
-        let types = builtin_list(alloc)?;
+        let types = first_list(alloc, FIRST_VERSION)?;
         let fronts = first_fronts(alloc)?;
         Ok(Catalogue {
             version: FIRST_VERSION,
@@ -255,9 +255,10 @@ impl Catalogue {
     /// The header type of a message: of its minor version, and of the number of its message type. None for a message
     /// without a header type, and where there is no such version or type.
     pub fn header(&self, minor: u8, kind: u8) -> Option<TypeId>
-        ensures number { option_map (λ t. t.0) result ≡ header_number minor kind }
+        ensures number { option_map (λ t. t.0) result ≡ header_number self.now.version minor kind }
         ensures known { IfSome result (λ t. t.0 < length self.now.types) }
-        ensures tree { option_map (λ t. tree self.now t.0) result ≡ header_type minor kind }
+        ensures tree { option_map (λ t. tree self.now t.0) result
+            ≡ header_type self.now.version minor kind }
         ensures fit { IfSome result (λ t. IsFit 24 (tree self.now t.0)) }
         // A reader that knows no type finds the request id at the front.
         ensures id { IdStandsFirst minor kind
@@ -268,9 +269,9 @@ impl Catalogue {
 
     /// The type of a body that no signature file declares.
     pub fn fixed(&self, fixed: Fixed) -> TypeId
-        ensures number { result.0 ≡ fixed_number fixed }
+        ensures number { result.0 ≡ fixed_number self.now.version fixed }
         ensures known { result.0 < length self.now.types }
-        ensures tree { tree self.now result.0 ≡ fixed_type fixed }
+        ensures tree { tree self.now result.0 ≡ fixed_type self.now.version fixed }
         ensures fit { IsFit 24 (tree self.now result.0) }
     {
         self.seen(false).fixed(fixed)

@@ -9,16 +9,17 @@ ghost use Rattle.giop_sig.specs.Interfaces.{with_interface, of_text};
 ghost use Rattle.giop_sig.specs.Table.{IsFormed, node_at, prim, operation_key, keyed_number, exception_in, identified_in, with_identity, with_called, with_entry, with_exception};
 ghost use Rattle.giop_sig.specs.HeaderTypes.{IsPlain};
 ghost use Rattle.giop_sig.specs.Trees.{depth_in, depth_of};
-ghost use Rattle.giop_sig.specs.Scopes.{first_scope, has_encapsulations, is_third, named, with_node, with_name, with_named, with_identified, with_id_fronts, with_sequence, with_raised, with_key_of};
+ghost use Rattle.giop_sig.specs.Scopes.{first_scope, has_encapsulations, is_third, reference_number, named, with_node, with_name, with_named, with_identified, with_id_fronts, with_sequence, with_raised, with_key_of};
 ghost use Rattle.giop_sig.specs.ScopeViews.{IsDraft, IsKnown, IsKnownType, IsNewIdentity};
 ghost use Rattle.giop_sig.specs.Outcomes.{Gives};
 ghost use Rattle.giop_sig.specs.Views.{node_view, IsSized};
 
-use crate::builtin::first_list;
+use crate::builtin::{first_list, number_in};
 use crate::catalogue::{CallKey, Catalogue, Name, Signature, call_key};
 use crate::entries::{Entry, Types};
 use crate::fronts::{Front, add_fronts, first_fronts};
 use crate::interfaces::InterfaceTable;
+use crate::numbers::IOR;
 use crate::parse_stop::ParseStop;
 use crate::types::TypeId;
 use arrayvec::ArrayVec;
@@ -117,6 +118,13 @@ impl Draft {
         ensures { result ≡ is_third self.now.names }
     {
         self.version == THIRD_VERSION
+    }
+
+    /// The type of an object reference; only in version 3 the tags of its profiles have names.
+    pub(crate) fn reference(&self) -> TypeId
+        ensures { result.0 ≡ reference_number self.now.names }
+    {
+        TypeId(number_in(self.version, IOR))
     }
 
     /// The type of an enum, struct or union, by its name.

@@ -1,4 +1,4 @@
-//! The numbers of the built-in types; a type has a greater number than its parts.
+//! The numbers of the built-in types in version 3 of signature files; a type has a greater number than its parts.
 
 /// An octet.
 pub(crate) const OCTET: u32 = 0;
@@ -27,156 +27,165 @@ pub(crate) const STRING: u32 = 11;
 /// A sequence of octets without a bound.
 pub(crate) const OCTETS: u32 = 12;
 
+/// The id of a service context, which may have a name; in versions 1 and 2 it is a ULONG, as the next three are.
+pub(crate) const CONTEXT_ID: u32 = 13;
+/// The tag of a profile.
+pub(crate) const PROFILE_TAG: u32 = 14;
+/// A code set.
+pub(crate) const CODE_SET: u32 = 15;
+/// The minor code of a system exception.
+pub(crate) const MINOR: u32 = 16;
+
 /// The code sets of a connection.
-pub(crate) const CODE_SETS: u32 = 13;
+pub(crate) const CODE_SETS: u32 = 17;
 /// The encapsulation of them.
-pub(crate) const CODE_SETS_DATA: u32 = 14;
+pub(crate) const CODE_SETS_DATA: u32 = 18;
 /// A service context.
-pub(crate) const SERVICE_CONTEXT: u32 = 15;
+pub(crate) const SERVICE_CONTEXT: u32 = 19;
 /// The sequence of them.
-pub(crate) const SERVICE_CONTEXTS: u32 = 16;
+pub(crate) const SERVICE_CONTEXTS: u32 = 20;
 /// The body of an internet profile.
-pub(crate) const IIOP: u32 = 17;
+pub(crate) const IIOP: u32 = 21;
 /// The encapsulation of it.
-pub(crate) const IIOP_DATA: u32 = 18;
+pub(crate) const IIOP_DATA: u32 = 22;
 /// A tagged profile.
-pub(crate) const TAGGED_PROFILE: u32 = 19;
+pub(crate) const TAGGED_PROFILE: u32 = 23;
 /// The sequence of them.
-pub(crate) const TAGGED_PROFILES: u32 = 20;
+pub(crate) const TAGGED_PROFILES: u32 = 24;
 /// An object reference.
-pub(crate) const IOR: u32 = 21;
+pub(crate) const IOR: u32 = 25;
 /// An object reference with the profile that was chosen.
-pub(crate) const IOR_ADDRESS: u32 = 22;
+pub(crate) const IOR_ADDRESS: u32 = 26;
 /// The target of a request.
-pub(crate) const TARGET: u32 = 23;
+pub(crate) const TARGET: u32 = 27;
 /// How far a request came.
-pub(crate) const COMPLETED: u32 = 24;
+pub(crate) const COMPLETED: u32 = 28;
 /// A system exception.
-pub(crate) const SYSTEM_EXCEPTION: u32 = 25;
+pub(crate) const SYSTEM_EXCEPTION: u32 = 29;
 /// The reserved octets of a request.
-pub(crate) const RESERVED: u32 = 26;
+pub(crate) const RESERVED: u32 = 30;
 /// The status of a reply in 1.0 and 1.1.
-pub(crate) const REPLY_STATUS: u32 = 27;
+pub(crate) const REPLY_STATUS: u32 = 31;
 /// The status of a reply in 1.2.
-pub(crate) const REPLY_STATUS_1_2: u32 = 28;
+pub(crate) const REPLY_STATUS_1_2: u32 = 32;
 /// The status of a locate reply in 1.0 and 1.1.
-pub(crate) const LOCATE_STATUS: u32 = 29;
+pub(crate) const LOCATE_STATUS: u32 = 33;
 /// The status of a locate reply in 1.2.
-pub(crate) const LOCATE_STATUS_1_2: u32 = 30;
+pub(crate) const LOCATE_STATUS_1_2: u32 = 34;
 
 /// The header of a request in 1.0.
-pub(crate) const REQUEST_1_0: u32 = 31;
+pub(crate) const REQUEST_1_0: u32 = 35;
 /// The header of a request in 1.1.
-pub(crate) const REQUEST_1_1: u32 = 32;
+pub(crate) const REQUEST_1_1: u32 = 36;
 /// The header of a request in 1.2.
-pub(crate) const REQUEST_1_2: u32 = 33;
+pub(crate) const REQUEST_1_2: u32 = 37;
 /// The header of a reply in 1.0 and 1.1.
-pub(crate) const REPLY: u32 = 34;
+pub(crate) const REPLY: u32 = 38;
 /// The header of a reply in 1.2.
-pub(crate) const REPLY_1_2: u32 = 35;
+pub(crate) const REPLY_1_2: u32 = 39;
 /// The header that is a request id: of a cancel request, and of a fragment.
-pub(crate) const ID_ALONE: u32 = 36;
+pub(crate) const ID_ALONE: u32 = 40;
 /// The header of a locate request in 1.0 and 1.1.
-pub(crate) const LOCATE_REQUEST: u32 = 37;
+pub(crate) const LOCATE_REQUEST: u32 = 41;
 /// The header of a locate request in 1.2.
-pub(crate) const LOCATE_REQUEST_1_2: u32 = 38;
+pub(crate) const LOCATE_REQUEST_1_2: u32 = 42;
 /// The header of a locate reply in 1.0 and 1.1.
-pub(crate) const LOCATE_REPLY: u32 = 39;
+pub(crate) const LOCATE_REPLY: u32 = 43;
 /// The header of a locate reply in 1.2.
-pub(crate) const LOCATE_REPLY_1_2: u32 = 40;
+pub(crate) const LOCATE_REPLY_1_2: u32 = 44;
 
-/// How many built-in types there are.
-pub(crate) const BUILTIN_LEN: u32 = 41;
+/// How many built-in types there are beside any and TypeCode.
+pub(crate) const BUILTIN_LEN: u32 = 45;
 
 // The types that a file of version 3 adds to them.
 
 /// The kind of a TypeCode by which its value is known.
-pub(crate) const HEARD_KIND: u32 = 41;
+pub(crate) const HEARD_KIND: u32 = 45;
 /// The kind of any other TypeCode.
-pub(crate) const KIND: u32 = 42;
+pub(crate) const KIND: u32 = 46;
 /// The bound of a sequence by which its value is known.
-pub(crate) const HEARD_BOUND: u32 = 43;
+pub(crate) const HEARD_BOUND: u32 = 47;
 /// The sequence of references.
-pub(crate) const REFERENCES: u32 = 44;
-/// So much more than the number of a type from char to string has the sequence of it: 45 to 55.
-pub(crate) const SEQUENCES: u32 = 44;
+pub(crate) const REFERENCES: u32 = 48;
+/// So much more than the number of a type from char to string has the sequence of it: 49 to 59.
+pub(crate) const SEQUENCES: u32 = 48;
 /// The parameters of a fixed.
-pub(crate) const FIXED_PARAMETERS: u32 = 56;
+pub(crate) const FIXED_PARAMETERS: u32 = 60;
 /// The TypeCode by which a value is known.
-pub(crate) const HEARD_TYPE_CODE: u32 = 57;
+pub(crate) const HEARD_TYPE_CODE: u32 = 61;
 /// Any other TypeCode.
-pub(crate) const TYPE_CODE: u32 = 58;
+pub(crate) const TYPE_CODE: u32 = 62;
 /// The sequence of them.
-pub(crate) const TYPE_CODES: u32 = 59;
+pub(crate) const TYPE_CODES: u32 = 63;
 /// An any.
-pub(crate) const ANY: u32 = 60;
+pub(crate) const ANY: u32 = 64;
 /// The sequence of them.
-pub(crate) const ANYS: u32 = 61;
+pub(crate) const ANYS: u32 = 65;
 
 /// The parameters that an id and a name are.
-pub(crate) const NAMED: u32 = 62;
+pub(crate) const NAMED: u32 = 66;
 /// The encapsulation of them.
-pub(crate) const NAMED_DATA: u32 = 63;
+pub(crate) const NAMED_DATA: u32 = 67;
 /// The name and the type of a member.
-pub(crate) const TYPE_MEMBER: u32 = 64;
+pub(crate) const TYPE_MEMBER: u32 = 68;
 /// The sequence of them.
-pub(crate) const TYPE_MEMBERS: u32 = 65;
+pub(crate) const TYPE_MEMBERS: u32 = 69;
 /// The parameters of a struct or an exception.
-pub(crate) const STRUCT: u32 = 66;
+pub(crate) const STRUCT: u32 = 70;
 /// The encapsulation of them.
-pub(crate) const STRUCT_DATA: u32 = 67;
+pub(crate) const STRUCT_DATA: u32 = 71;
 /// The parameters of a union, but for its members.
-pub(crate) const UNION: u32 = 68;
+pub(crate) const UNION: u32 = 72;
 /// The encapsulation of them.
-pub(crate) const UNION_DATA: u32 = 69;
+pub(crate) const UNION_DATA: u32 = 73;
 /// The parameters of an enum.
-pub(crate) const ENUM: u32 = 70;
+pub(crate) const ENUM: u32 = 74;
 /// The encapsulation of them.
-pub(crate) const ENUM_DATA: u32 = 71;
+pub(crate) const ENUM_DATA: u32 = 75;
 /// The parameters of a sequence by which its value is known.
-pub(crate) const HEARD_SEQUENCE: u32 = 72;
+pub(crate) const HEARD_SEQUENCE: u32 = 76;
 /// The encapsulation of them.
-pub(crate) const HEARD_SEQUENCE_DATA: u32 = 73;
+pub(crate) const HEARD_SEQUENCE_DATA: u32 = 77;
 /// The parameters of an array or of any other sequence.
-pub(crate) const SEQUENCE: u32 = 74;
+pub(crate) const SEQUENCE: u32 = 78;
 /// The encapsulation of them.
-pub(crate) const SEQUENCE_DATA: u32 = 75;
+pub(crate) const SEQUENCE_DATA: u32 = 79;
 /// The parameters of an array.
-pub(crate) const ARRAY: u32 = 76;
+pub(crate) const ARRAY: u32 = 80;
 /// The encapsulation of them.
-pub(crate) const ARRAY_DATA: u32 = 77;
+pub(crate) const ARRAY_DATA: u32 = 81;
 /// The parameters of an alias by which its value is known.
-pub(crate) const HEARD_ALIAS: u32 = 78;
+pub(crate) const HEARD_ALIAS: u32 = 82;
 /// The encapsulation of them.
-pub(crate) const HEARD_ALIAS_DATA: u32 = 79;
+pub(crate) const HEARD_ALIAS_DATA: u32 = 83;
 /// The parameters of any other alias.
-pub(crate) const ALIAS: u32 = 80;
+pub(crate) const ALIAS: u32 = 84;
 /// The encapsulation of them.
-pub(crate) const ALIAS_DATA: u32 = 81;
+pub(crate) const ALIAS_DATA: u32 = 85;
 /// The name, the type and the visibility of a value's member.
-pub(crate) const VALUE_MEMBER: u32 = 82;
+pub(crate) const VALUE_MEMBER: u32 = 86;
 /// The sequence of them.
-pub(crate) const VALUE_MEMBERS: u32 = 83;
+pub(crate) const VALUE_MEMBERS: u32 = 87;
 /// The parameters of a value or an event.
-pub(crate) const VALUE: u32 = 84;
+pub(crate) const VALUE: u32 = 88;
 /// The encapsulation of them.
-pub(crate) const VALUE_DATA: u32 = 85;
+pub(crate) const VALUE_DATA: u32 = 89;
 /// The parameters of a value box.
-pub(crate) const VALUE_BOX: u32 = 86;
+pub(crate) const VALUE_BOX: u32 = 90;
 /// The encapsulation of them.
-pub(crate) const VALUE_BOX_DATA: u32 = 87;
+pub(crate) const VALUE_BOX_DATA: u32 = 91;
 
 /// A wide character.
-pub(crate) const WIDE_CHAR: u32 = 88;
+pub(crate) const WIDE_CHAR: u32 = 92;
 /// The sequence of them.
-pub(crate) const WIDE_CHARS: u32 = 89;
+pub(crate) const WIDE_CHARS: u32 = 93;
 /// A wide string.
-pub(crate) const WIDE_STRING: u32 = 90;
+pub(crate) const WIDE_STRING: u32 = 94;
 /// The sequence of them.
-pub(crate) const WIDE_STRINGS: u32 = 91;
+pub(crate) const WIDE_STRINGS: u32 = 95;
 
 /// How many types a file of version 3 begins with.
-pub(crate) const THIRD_LEN: u32 = 92;
+pub(crate) const THIRD_LEN: u32 = 96;
 
 /// The mark of a kind by which a value is known.
 pub(crate) const HEARD_KIND_MARK: u32 = 0;
@@ -184,3 +193,11 @@ pub(crate) const HEARD_KIND_MARK: u32 = 0;
 pub(crate) const HEARD_BOUND_MARK: u32 = 1;
 /// The mark of any other kind.
 pub(crate) const KIND_MARK: u32 = 2;
+/// The mark of a service context's id.
+pub(crate) const CONTEXT_ID_MARK: u32 = 3;
+/// The mark of a profile's tag.
+pub(crate) const PROFILE_TAG_MARK: u32 = 4;
+/// The mark of a code set.
+pub(crate) const CODE_SET_MARK: u32 = 5;
+/// The mark of a minor code.
+pub(crate) const MINOR_MARK: u32 = 6;

@@ -1,17 +1,18 @@
 //! Reading members: items, structs and exceptions.
-ghost use Rattle.std.specs.Prelude.{◌≡◌, ◌<◌, ◌≤◌, ◌++◌, ◌∷◌, [], length, map, IfSome, None};
+ghost use Rattle.std.specs.Prelude.{◌≡◌, ◌<◌, ◌≤◌, ◌++◌, ◌∷◌, [], length, map, IfOk, Ok, None};
+ghost use Rattle.std.specs.List.{All};
 ghost use Rattle.std.specs.Map.{lookup};
 ghost use Rattle.std.specs.Option.{option_map};
 ghost use Rattle.std.specs.Str.{bytes_eq};
 ghost use Rattle.giop_sig.specs.Outcomes.{Gives};
-ghost use Rattle.giop_sig.specs.Scopes.{is_third, part, add_array};
+ghost use Rattle.giop_sig.specs.Scopes.{is_third, part, add_arrays};
 ghost use Rattle.giop_sig.specs.ScopeViews.{IsKnown, IsNewIdentity};
 ghost use Rattle.giop_sig.specs.Validity.{is_among};
 ghost use Rattle.giop_sig.specs.UnionCases.{part_view};
 ghost use Rattle.giop_sig.specs.Views.{node_view};
 ghost use Rattle.giop_sig.specs.HeaderTypes.{IsPlain};
 ghost use Rattle.giop_sig.specs.Table.{IsFormed, TakesOctet};
-ghost use Rattle.giop_sig.specs.ItemReading.{new_name_at, declared_at, item_at, member_step, members_at, filled_at, identity_at, end_of, type_end_at, structure_at, new_repository_at, exception_at};
+ghost use Rattle.giop_sig.specs.ItemReading.{new_name_at, declared_at, lengths_at, most_lengths, item_at, member_step, members_at, filled_at, identity_at, end_of, type_end_at, structure_at, new_repository_at, exception_at};
 
 use crate::draft::Draft;
 use crate::entries::{Entry, PartEntry};
@@ -79,19 +80,54 @@ pub(crate) fn declared_at<'a>(
     Ok((name, rest))
 }
 
-/// Adds an array of elements of a type, where there is a length.
-fn array_of(draft: &mut Draft, element: TypeId, count: Option<u32>) -> Result<TypeId, ParseStop>
-    requires known { IsKnown draft.old.table.types element.0 }
-    requires some { IfSome count (λ n. 0 < n) }
-    ensures { Gives (λ t. (draft.new, t.0)) result (Ok (add_array count (draft.old, element.0))) }
+/// How many lengths an item may have whose name ends before this text: in a file of version 3 all that come.
+fn most_lengths(third: bool, text: &[u8]) -> usize
+    ensures { result ≡ most_lengths third text.now }
 {
-    match count {
-        None => Ok(element),
-        Some(n) => draft.add(Entry::Array(n, element)),
-    }
+    if third { text.len() } else { 1 }
 }
 
-/// An item: a type, a name and perhaps the length of an array, after others of these names.
+/// The lengths of arrays that come next, at most so many, the outermost first, and what follows them.
+fn lengths_at<'a>(
+    alloc: Global,
+    most: usize,
+    text: &'a [u8],
+) -> Result<(Vec<u32>, &'a [u8]), ParseStop>
+    ensures gives { Gives (λ x. (x.0.items, x.1.now)) result (lengths_at most text.now) }
+    ensures some { IfOk result (λ x. All (λ n. 0 < n) x.0.items) }
+{
+    let mut lengths = Vec::new(alloc);
+    let mut rest = text;
+    for _ in 0..most {
+        let (length, after) = enclosed_at(Mark::OpenBracket, Mark::CloseBracket, rest)?;
+        let Some(n) = length else {
+            return Ok((lengths, after));
+        };
+        lengths.push(n)?;
+        rest = after;
+    }
+    Ok((lengths, rest))
+}
+
+/// Adds arrays in arrays of these lengths, the innermost first.
+fn arrays_of(
+    draft: &mut Draft,
+    lengths: &mut Vec<u32>,
+    element: TypeId,
+) -> Result<TypeId, ParseStop>
+    requires known { IsKnown draft.old.table.types element.0 }
+    requires some { All (λ n. 0 < n) lengths.old.items }
+    ensures { Gives (λ t. (draft.new, t.0)) result
+        (Ok (add_arrays lengths.old.items (draft.old, element.0))) }
+{
+    let mut t = element;
+    while let Some(n) = lengths.pop() {
+        t = draft.add(Entry::Array(n, t))?;
+    }
+    Ok(t)
+}
+
+/// An item: a type, a name and perhaps the lengths of arrays, after others of these names.
 #[tactic(auto, unfolding(crate::specs::ItemReading::item_at))]
 pub(crate) fn item_at<'a>(
     alloc: Global,
@@ -107,8 +143,8 @@ pub(crate) fn item_at<'a>(
     let third = draft.is_third();
     let (element, rest) = type_at(alloc, draft, text)?;
     let (name, rest) = new_name_at(third, most, seen, rest)?;
-    let (count, rest) = enclosed_at(Mark::OpenBracket, Mark::CloseBracket, rest)?;
-    let t = array_of(draft, element, count)?;
+    let (mut lengths, rest) = lengths_at(alloc, most_lengths(third, rest), rest)?;
+    let t = arrays_of(draft, &mut lengths, element)?;
     Ok((name, t, rest))
 }
 

@@ -26,8 +26,6 @@ const SIZE_MAX: u64 = 4_294_967_295;
 const STRING: TypeId = TypeId(numbers::STRING);
 /// The type of a wide string, whatever its bound.
 const WIDE_STRING: TypeId = TypeId(numbers::WIDE_STRING);
-/// The type of an object reference.
-const REFERENCE: TypeId = TypeId(numbers::IOR);
 
 /// A refusal of the first token of a text.
 pub(crate) fn refused(kind: SigFaultKind, text: &[u8]) -> Refusal
@@ -221,7 +219,7 @@ fn leaf_at<'a>(draft: &mut Draft, text: &'a [u8]) -> Result<(TypeId, &'a [u8]), 
         return text_at(draft, rest);
     }
     if name == b"Object".as_slice() {
-        return Ok((REFERENCE, rest));
+        return Ok((draft.reference(), rest));
     }
     if draft.is_third() && name == b"any".as_slice() {
         return Ok((TypeId(numbers::ANY), rest));

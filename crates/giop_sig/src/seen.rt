@@ -85,6 +85,14 @@ impl<'a> SeenCatalogue<'a> {
         let _catalogue = self.catalogue;
     }
 
+    /// The version of the signature file.
+    #[inline(always)]
+    fn version(&self) -> u8
+        ensures { result ≡ self.now.version }
+    {
+        self.catalogue.version()
+    }
+
     /// The entry of a type.
     #[inline(always)]
     fn entry(&self, t: TypeId) -> &'a Entry
@@ -242,28 +250,29 @@ impl<'a> SeenCatalogue<'a> {
     /// As `Catalogue::header`.
     #[inline(always)]
     pub fn header(&self, minor: u8, kind: u8) -> Option<TypeId>
-        ensures number { option_map (λ t. t.0) result ≡ header_number minor kind }
+        ensures number { option_map (λ t. t.0) result ≡ header_number self.now.version minor kind }
         ensures known { IfSome result (λ t. t.0 < length self.now.types) }
-        ensures tree { option_map (λ t. tree self.now t.0) result ≡ header_type minor kind }
+        ensures tree { option_map (λ t. tree self.now t.0) result
+            ≡ header_type self.now.version minor kind }
         ensures fit { IfSome result (λ t. IsFit 24 (tree self.now t.0)) }
         // A reader that knows no type finds the request id at the front.
         ensures id { IdStandsFirst minor kind
             → IfSome result (λ t. BeginsWithId (tree self.now t.0)) }
     {
         self.laws();
-        header_id(minor, kind)
+        header_id(self.version(), minor, kind)
     }
 
     /// As `Catalogue::fixed`.
     #[inline(always)]
     pub fn fixed(&self, fixed: Fixed) -> TypeId
-        ensures number { result.0 ≡ fixed_number fixed }
+        ensures number { result.0 ≡ fixed_number self.now.version fixed }
         ensures known { result.0 < length self.now.types }
-        ensures tree { tree self.now result.0 ≡ fixed_type fixed }
+        ensures tree { tree self.now result.0 ≡ fixed_type self.now.version fixed }
         ensures fit { IsFit 24 (tree self.now result.0) }
     {
         self.laws();
-        fixed_id(fixed)
+        fixed_id(self.version(), fixed)
     }
 
     /// As `Catalogue::interface`.

@@ -1,5 +1,6 @@
 //! The built-in types against the tables of the format.
 
+use crate::file_tests::declares;
 use crate::list_tests::has_none;
 use crate::types::expect_rows;
 use giop_sig::{Catalogue, Counts, OpId, TypeId};
@@ -72,9 +73,75 @@ name 1 fixed system-exception/2|COMPLETED_NO
 name 3 fixed system-exception/2|none
 name 0 fixed system-exception|none";
 
+// Members with the names of numbers that have names, and a reference.
+static THIRD_FILE: &[u8] = b"signatures 3;\n\
+    struct S { ulong context_id; ulong tag; ulong char_data; ulong minor; };\n\
+    operation void put(in S s, in Object o);";
+
+/// The same of this file: its headers and bodies have named numbers, and the members of its own types have
+/// none, whatever they are called.
+static THIRD: &str = "\
+version|3
+header 0 0|service_contexts sequence, request_id ulong, response_expected boolean, object_key octets, operation string, requesting_principal octets
+header 1 0|service_contexts sequence, request_id ulong, response_expected boolean, reserved array of 3, object_key octets, operation string, requesting_principal octets
+header 2 0|request_id ulong, response_flags octet, reserved array of 3, target union, operation string, service_contexts sequence
+header 2 1|request_id ulong, reply_status enum NO_EXCEPTION USER_EXCEPTION SYSTEM_EXCEPTION LOCATION_FORWARD LOCATION_FORWARD_PERM NEEDS_ADDRESSING_MODE, service_contexts sequence
+header 1 2|request_id ulong
+header 2 3|request_id ulong, target union
+header 2 4|request_id ulong, locate_status enum UNKNOWN_OBJECT OBJECT_HERE OBJECT_FORWARD OBJECT_FORWARD_PERM LOC_SYSTEM_EXCEPTION LOC_NEEDS_ADDRESSING_MODE
+header 2 5|none
+header 2 7|request_id ulong
+header 3 0|none
+header 0 0/0/0|context_id context-id, context_data encapsulation, context_data octets
+header 2 0/5/0|context_id context-id, context_data encapsulation, context_data octets
+header 2 0/5/0/switch|context-id
+header 2 0/5/0/1/0|char_data code-set, wchar_data code-set
+header 2 0/3|object_key octets, profile tagged, ior struct
+header 2 0/3/1|tag profile-tag, profile_data encapsulation, profile_data octets
+header 2 0/3/1/switch|profile-tag
+header 2 0/3/1/1/0|major octet, minor octet, host string, port ushort, object_key octets
+header 2 0/3/2|selected_profile_index ulong, ior struct
+fixed exception-id|string
+fixed system-exception|exception_id string, minor minor-code, completed enum COMPLETED_YES COMPLETED_NO COMPLETED_MAYBE
+fixed forward|type_id string, profiles sequence
+fixed forward/1/0|tag profile-tag, profile_data encapsulation, profile_data octets
+fixed addressing|short
+unsigned 0 header 2 0/5/0|case 2
+unsigned 1 header 2 0/5/0|case 1
+unsigned 0 header 2 0/3/1|case 1
+unsigned 1 header 2 0/3/1|case 2
+name 1 header 2 0/5/0/switch|none
+request put|s struct, o struct
+request put/0|context_id ulong, tag ulong, char_data ulong, minor ulong
+request put/1/1/0|tag profile-tag, profile_data encapsulation, profile_data octets";
+
+// A reference in version 2.
+static SECOND_FILE: &[u8] = b"signatures 2; operation void put(in Object o);";
+
+/// Its type, and those of a header and a body.
+static SECOND: &str = "\
+version|2
+request put|o struct
+request put/0/1/0|tag ulong, profile_data encapsulation, profile_data octets
+header 2 0/5/0|context_id ulong, context_data encapsulation, context_data octets
+fixed system-exception|exception_id string, minor ulong, completed enum COMPLETED_YES COMPLETED_NO COMPLETED_MAYBE";
+
 #[test]
 fn the_builtin_types_are_those_of_the_format(rt: HostRuntime) -> Result<(), Fail> {
     expect_builtin(&rt, &Catalogue::builtin(rt.alloc())?)
+}
+
+#[test]
+fn the_builtin_types_are_those_of_the_files_version(rt: HostRuntime) -> Result<(), Fail> {
+    declares(&rt, THIRD_FILE, THIRD)?;
+    declares(&rt, SECOND_FILE, SECOND)
+}
+
+#[test]
+fn a_file_of_version_3_begins_with_96_types(rt: HostRuntime) -> Result<(), Fail> {
+    let catalogue = Catalogue::parse_types(rt.alloc(), b"signatures 3;")?;
+    assert!(rt; catalogue.has(TypeId(95)) && !catalogue.has(TypeId(96)));
+    Ok(())
 }
 
 /// A request list has no third word, either.

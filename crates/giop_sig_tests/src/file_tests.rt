@@ -99,15 +99,32 @@ minor 2 request put/1|room
 minor 1 request put/2|none
 minor 1 request put/4|room";
 
+// Arrays of arrays, as a member and as parameters.
+static GRID: &[u8] = b"signatures 3; struct G { double m[2][3]; octet v; };\n\
+    operation void put(in G g, inout string s[3][2], in short a[2]);";
+
+/// What they are of, row by row.
+static ROWS: &str = "\
+request put|g struct, s array of 3, a array of 2
+reply put|s array of 3
+request put/0|m array of 2, v octet
+request put/0/0/0|array of 3
+request put/0/0/0/0|double
+request put/1/0|array of 2
+request put/1/0/0|string
+request put/2/0|short";
+
 #[test]
 fn a_file_declares_its_types_and_operations(rt: HostRuntime) -> Result<(), Fail> {
     declares(&rt, MARK, MARKED)?;
     declares(&rt, ASK, ASKED)?;
     declares(&rt, HELD, HOLDS)?;
-    declares(&rt, WIDE, WIDER)
+    declares(&rt, WIDE, WIDER)?;
+    declares(&rt, GRID, ROWS)
 }
 
-fn declares(rt: &(impl Abort + AllocGlobal), text: &[u8], rows: &str) -> Result<(), Fail> {
+/// Expects of the catalogue of a file what the rows say.
+pub fn declares(rt: &(impl Abort + AllocGlobal), text: &[u8], rows: &str) -> Result<(), Fail> {
     let catalogue = Catalogue::parse_types(rt.alloc(), text)?;
     expect_rows(rt, &catalogue, rows)
 }

@@ -20,6 +20,8 @@ mod list_rows;
 #[cfg(test)]
 mod list_tests;
 #[cfg(test)]
+mod name_tests;
+#[cfg(test)]
 mod rows;
 #[cfg(test)]
 mod third_rows;

@@ -38,11 +38,31 @@ pub static ACCEPTED: &[u8] = b"\
     2 1 1 24|signatures 3;\nunion U switch (long) { case 1: any a; default: TypeCode t[2]; }; exception X \"X\" { encapsulation<any> e; }; struct A { sequence<any,3> a; }; operation any get(out TypeCode t);=\
     2 2 0 24|signatures 3;\nstruct A { wchar a; wstring b[2]; }; operation wchar get(in wstring<2> a, out sequence<wchar> b); union U switch (long) { case 1: wstring<4294967295> a; default: encapsulation<wchar> b; }; operation void put(in sequence<wstring,3> a);=\
     2 1 0 9|signatures 2;\nstruct wchar { long a; }; enum wstring { a }; operation wchar put(in wstring a);=\
+    1 0 0 24|signatures 3;\nstruct A { octet v[2][3]; };=\
+    1 1 1 24|signatures 3;\nstruct A { long a[1][4294967295][1]; }; exception X \"X\" { A x[2][2]; }; operation A get(in A a[3][3], out any b[2][2], inout wstring<3> c[2][1]);=\
+    2 1 0 24|signatures 3;\nenum E { a }; union U switch (E) { case a: E e[2][2]; default: sequence<octet, 3> s[2][2]; }; operation void put(in encapsulation<U> u[1][1]);=\
+    1 1 0 24|signatures 3;\nstruct A { octet a[1][1][1][1][1][1][1][1][1][1][1][1][1][1][1][1][1][1][1][1][1]; }; operation void put(in A a);=\
+    1 1 0 24|signatures 3;\nstruct A { octet a[1][1][1][1][1][1][1][1][1][1][1][1][1][1][1][1][1][1][1][1][1][1]; }; operation void put(in octet a[2][2][2][2][2][2][2][2][2][2][2][2][2][2][2][2][2][2][2][2][2][2]);=\
     1 0 0 9|signatures 1;\nstruct A { long a; };";
 
 /// Files that are refused.
 pub static REFUSED: &[u8] = b"\
     3 syntax|signatures 3;\nstruct\nany { long x; };=\
+    3 empty|signatures 3;\nstruct A { octet v[2][\n0]; };=\
+    3 empty|signatures 3;\nstruct A { octet v[\n0][2]; };=\
+    3 limit|signatures 3;\nstruct A { octet v[2][\n4294967296]; };=\
+    3 syntax|signatures 3;\nstruct A { octet v[2]\n3]; };=\
+    3 syntax|signatures 3;\nstruct A { octet v[2][\n]; };=\
+    3 syntax|signatures 3;\nstruct A { octet v[2][3\n; };=\
+    3 syntax|signatures 3;\nstruct A { octet v[2][\n-1]; };=\
+    3 syntax|signatures 3;\nstruct A { octet v[2][\nN]; };=\
+    3 syntax|signatures 3;\nstruct A { sequence<octet\n[2]> v[2]; };=\
+    3 depth|signatures 3;\nstruct\nA { octet a[1][1][1][1][1][1][1][1][1][1][1][1][1][1][1][1][1][1][1][1][1][1][1]; };=\
+    3 depth|signatures 3;\nstruct A { octet a[1][1][1][1][1][1][1][1][1][1][1][1][1][1][1][1][1][1][1][1][1][1]; }; operation void\nput(in A a);=\
+    3 depth|signatures 3;\noperation void\nput(in octet a[1][1][1][1][1][1][1][1][1][1][1][1][1][1][1][1][1][1][1][1][1][1][1]);=\
+    2 syntax|signatures 3;\nstruct A { octet v[2][3], \nw; };=\
+    3 syntax|signatures 2;\nstruct A { octet v[2]\n[3]; };=\
+    3 syntax|signatures 1;\noperation void put(in octet v[2]\n[3]);=\
     3 syntax|signatures 3;\nunion\nTypeCode switch (long) { case 1: long x; };=\
     3 syntax|signatures 3;\nexception\nwchar \"r\" { };=\
     3 syntax|signatures 3;\nenum\nwstring { a };=\

@@ -35,6 +35,17 @@ fn word_of(prim: Prim) -> &'static [u8] {
     }
 }
 
+/// How a number with a mark reads.
+fn mark_word(mark: u32) -> &'static [u8] {
+    match mark {
+        3 => b"context-id",
+        4 => b"profile-tag",
+        5 => b"code-set",
+        6 => b"minor-code",
+        _ => b"marked",
+    }
+}
+
 /// Adds the names of an enum.
 fn add_names(catalogue: &Catalogue, t: TypeId, count: u32, row: &mut Sheet) -> Result<(), OutFault>
     requires { t.0 < length catalogue.now.types }
@@ -65,7 +76,7 @@ fn add_kind(catalogue: &Catalogue, t: TypeId, row: &mut Sheet) -> Result<(), Out
         Shape::Array(_) => b"array",
         Shape::Encapsulation => b"encapsulation",
         Shape::Tagged => b"tagged",
-        Shape::Marked(_) => b"marked",
+        Shape::Marked(mark) => mark_word(mark),
         Shape::Led => b"led",
         Shape::WideText => b"string",
         Shape::WideChar => b"char",

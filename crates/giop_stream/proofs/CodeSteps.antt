@@ -1,5 +1,5 @@
--- The fields of an engine against the stream: what an octet, a run of octets and the finish do to
--- them.
+-- The fields of an engine compared with the stream: what an octet, a run of octets and the finish
+-- do to them.
 pub mod OneOctet
 pub mod NextOctet
 pub mod EngineStep

@@ -69,7 +69,7 @@ pub offence_comes : (xs : List ℕ) (x : ℕ) → first_wrong_octet xs ≡ None 
 unfolding first_wrong_octet
 offence_comes xs x e = search (arith, fronts_push, first_none)
 
--- A filter that keeps all, or none; two filters in either order.
+-- A filter that keeps all elements or none, and two filters in either order.
 pub filter_keeps : {A : Type 0} (test : A → Bool) (xs : List A) → Each (λ x. test x ≡ true) xs →
     filter test xs ≡ xs
 filter_keeps test [] h = refl

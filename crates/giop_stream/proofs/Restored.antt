@@ -1,4 +1,4 @@
--- Checkpoints: what `save` writes of an engine, and what `load` makes of it.
+-- Checkpoints: what `save` writes of an engine, and which engine `load` makes of it.
 pub mod Saved
 pub mod SavedSizes
 pub mod Loaded

@@ -1,5 +1,5 @@
--- The slots of the code against what is tracked of the messages: what its calls do to them at each
--- event.
+-- The slots of the code compared with what is tracked of the messages: what the calls of the code
+-- do to the slots at each event.
 pub mod OneSlotChanges
 pub mod EventsInSlots
 pub mod Performing

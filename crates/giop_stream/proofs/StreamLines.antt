@@ -1,4 +1,4 @@
--- The lines of a stream: which there are, in which order, and which of them are written.
+-- The lines of a stream: which lines there are, in which order, and which of them are written.
 pub mod EventsTogether
 pub mod LinesOfOctet
 pub mod LastLines

@@ -29,9 +29,10 @@ pub record IsCurrent (now : Current) (m : Message) : Type 0 where
   pub header : m.header ≡ now.header
   pub place : place m ≡ now.place
 
--- A message with this header begins with its request id.
+-- A message with this header begins with its request id, by the built-in types of version 1, and so
+-- by those of each table.
 abbrev pub SaysId : List ℕ → Type 0
-SaysId header = (T : Ty) × (header_type (minor header) (kind header) ≡ Some T) × BeginsWithId T
+SaysId header = (T : Ty) × (header_type 1 (minor header) (kind header) ≡ Some T) × BeginsWithId T
 
 -- The request id of a message is complete. If the message begins with it, the message is neither
 -- open nor over.

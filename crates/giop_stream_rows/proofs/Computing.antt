@@ -42,7 +42,7 @@ use Rattle.giop_stream_rows.specs.Worked.{digit, octets, stream, written, read_b
 use Rattle.giop_stream_rows.specs.Streams.{CloseConnection, LittleRequest, Interleaved, OpenTwice, OneOpen, Cancelled, Replied, Raised, CodeSets, CodeSetsCutShort, Profile}
 use Rattle.giop_stream_rows.specs.Checkpoints.{five_octets, one_in_payload, bad_magic, InAHeader, InAnOldHeader, InAPayload, BehindAFault}
 
--- the definitions that are unfolded to read one message
+-- a name for the list of the definitions that are unfolded to read one message
 unfoldable pub one_message : ℕ
 unfolding digits num twos_complement padding block number path_text hex hex_number escaped tree_at
     builtin_types minor kind order value_line_text call_text rest_text signatures_of
@@ -53,7 +53,7 @@ unfolding digits num twos_complement padding block number path_text hex hex_numb
     closes_by longest_front
 one_message = 0
 
--- those to cut a stream and to write its lines
+-- a name for the list of the definitions that are unfolded to cut a stream and to write its lines
 unfoldable pub a_stream : ℕ
 unfolding type_word print.start_line continues_line cancelled_line fault_line stream_fault_line
     unfinished_line total_line fronts wrong first_wrong first_wrong_octet has_more size with_first
@@ -66,7 +66,7 @@ unfolding type_word print.start_line continues_line cancelled_line fault_line st
     first_messages unfinished final closing
 a_stream = 0
 
--- those in which the rows are stated
+-- a name for the list of the definitions in which the rows are stated
 unfoldable pub told_with : ℕ
 unfolding digit octets stream written read_by called table_of builtin puts bigs late asks kept
 told_with = 0
@@ -117,14 +117,14 @@ profile = record { text = refl; closing = refl }
 
 -- ---- Checkpoints.
 
--- those that give the octets of a checkpoint
+-- a name for the list of the definitions that give the octets of a checkpoint
 unfoldable pub a_checkpoint : ℕ
 unfolding four eight magic counts_octets state_octets fixed_octets counts_of fixed_of
     checkpoint_octets octets_of slots_of tracked_after owner_of_next state_of payload_count_in
     five_octets one_in_payload bad_magic
 a_checkpoint = 0
 
--- numbers that are each below 256
+-- each of the numbers is below 256
 pub are_octets : (xs : List ℕ) → list_all (λ x. nat_lt x 256) xs ≡ true → AreOctets xs
 are_octets [] h k d below = absurd (omega (arith, below))
 are_octets (x ∷ xs) h zero d below = ltb-true x 256
@@ -133,7 +133,7 @@ are_octets (x ∷ xs) h (suc k) d below =
     are_octets xs (and_parts (nat_lt x 256) (list_all (λ y. nat_lt y 256) xs) h).1 k d
     (omega (arith, below))
 
--- slots without a message, where so many may be open
+-- slots without a message, if this many messages may be open
 no_messages : ℕ → Slots
 no_messages most = record {
   slots = record { most = most; entries = [] };

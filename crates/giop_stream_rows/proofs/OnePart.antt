@@ -1,4 +1,4 @@
--- A value of which one part has begun fits its type.
+-- If one part of a value has begun, the value fits its type.
 use Rattle.std.proofs.Common.{ℕ, zero, suc, ◌<◌, [], ◌∷◌, None, arith, refl}
 use Rattle.giop_sig.specs.Fits.{IsFit}
 use Rattle.giop_sig.specs.Types.{Ty, Struct, Sequence, Array, part_of}
@@ -6,7 +6,7 @@ use Rattle.giop_decode.specs.ReadResult.{Leaf}
 use Rattle.giop_decode.specs.Fits.{FitsIn, HasParts}
 use Rattle.giop_decode.specs.Transitions.{part_in, IsWithin}
 
--- A type of one part, which has begun and fits; `leaf` is what was read of it.
+-- A type of one part; the part has begun and fits. `leaf` is what was read of it.
 pub one_part : (d : ℕ) (T : Ty) (leaf : Leaf) → HasParts T 1 → IsFit d (part_of T 0) →
     FitsIn (part_of T 0) [] leaf →
     IsFit (suc d) T × FitsIn T (part_in T 0 1 ∷ []) leaf × IsWithin None 0 1 T

@@ -44,9 +44,9 @@ use Rattle.giop_stream_rows.specs.Checkpoints.{two_requests, between_messages, i
 use Rattle.giop_stream_rows.proofs.OnePart.{one_part}
 use Rattle.giop_stream_rows.proofs.Computing.{one_message, a_stream, told_with, a_checkpoint, are_octets}
 
--- ---- The first Request, within the number of its body.
+-- ---- The first Request, which ends within the number of its body.
 
--- the struct of its parameters is the first type declared
+-- the struct of the operation's parameters is the first type that is declared
 parameters : ℕ
 parameters = length builtin_types
 
@@ -77,7 +77,7 @@ in_body = record {
   };
 }
 
--- the header of a 1.2 Request of so many octets, with fragments to follow
+-- the header of a 1.2 Request of `n` octets, which fragments follow
 header : ℕ → List ℕ
 header n = 71 ∷ 73 ∷ 79 ∷ 80 ∷ 1 ∷ 2 ∷ 2 ∷ 0 ∷ 0 ∷ 0 ∷ 0 ∷ n ∷ []
 
@@ -105,7 +105,7 @@ first_entry = record {
   frames = decoders.frames_octets (parameters_frame ∷ decoders.own_frame number ∷ []);
 }
 
--- ---- The second, after its body, which has no octets.
+-- ---- The second Request, which ends after its body. The body has no octets.
 
 nothing : Rest
 nothing = record { offset = 0; held = record { items = [] }; room = omega arith }
@@ -167,7 +167,7 @@ between = record {
   };
 }
 
--- the definitions that are unfolded for the fields of the engine,
+-- a name for the list of the definitions that are unfolded for the fields of the engine
 the_decoder : ℕ
 unfolding parameters number parameters_frame in_body header nothing builtin_types
 the_decoder = 0
@@ -176,7 +176,7 @@ the_messages : ℕ
 unfolding first second first_entry second_entry between id_in first_id first_request_id two_requests
 the_messages = 0
 
--- and those for the octets of the checkpoint
+-- a name for the list of the definitions that are unfolded for the octets of the checkpoint
 its_octets : ℕ
 unfolding decoders.fixed_octets messages.own_octets messages.rest_octets four eight
 its_octets = 0
@@ -189,7 +189,7 @@ kept_messages : ℕ
 unfolding the_decoder the_messages its_octets its_records
 kept_messages = 0
 
--- ---- What is stored of them.
+-- ---- What is stored of the two Requests.
 
 first_stored : Stored first first_entry.message first_entry.frames
 unfolding kept_messages
@@ -268,9 +268,10 @@ second_range = record {
   frames = refl;
 }
 
--- ---- The octets that they have read.
+-- ---- The octets that the two Requests have read.
 
--- the first Request's octets after its header and up to its number, and the second's
+-- the octets of the first Request after its header and before its number, and the octets of the
+-- second Request after its header
 first_front : List ℕ
 first_front = take 36 (drop 12 two_requests)
 
@@ -335,9 +336,9 @@ second_follows = record {
   );
 }
 
--- ---- They fit their table.
+-- ---- What is stored of the Requests fits their table.
 
--- The parameters have one part, the number, of which four octets have come.
+-- The parameters have one part, the number. Four octets of it have come.
 
 has_one : HasParts (tree bigs parameters) 1
 unfolding one_message told_with kept_messages
@@ -352,7 +353,7 @@ number_begun : FitsIn (part_of (tree bigs parameters) 0) []
 unfolding one_message told_with kept_messages some_octets
 number_begun = record { same = refl; kind = tt; room = omega arith }
 
--- so the parameters fit, with what was read of them
+-- the parameters fit, with what was read of them
 FitsOne : Ty → Leaf → Type 0
 FitsOne T leaf = IsFit 24 T × FitsIn T (part_in T 0 1 ∷ []) leaf × IsWithin None 0 1 T
 
@@ -412,7 +413,7 @@ first_fits = record {
 
 -- ---- The checkpoint.
 
--- the definitions that are unfolded for the stream's octets
+-- a name for the list of the definitions that are unfolded for the stream's octets
 its_parts : ℕ
 unfolding first_front some_octets second_octets
 its_parts = 0

@@ -1,4 +1,4 @@
--- The tables of the worked streams, by the signature files that declare them.
+-- The tables of the worked streams, from the signature files that declare them.
 use Rattle.std.proofs.Common.{ℕ, List, [], ◌∷◌, None, Some, arith, refl, lit≤, lit<}
 use Rattle.std.specs.Prelude.{Option, option_map, codes}
 use Rattle.giop_cdr.specs.declared.prim.Primitive.TheVariants as prims
@@ -15,19 +15,19 @@ use Rattle.giop_stream_rows.proofs.TokensRead.{tokens_in, are_tokens}
 use Rattle.giop_stream_rows.specs.Worked.{IsTableOf, called, table_of, builtin, puts, bigs, late, asks, put_text, bigs_text, asks_text}
 
 abbrev item : TypeExpr → List ℕ → Item
-item type name = record { type = type; name = name; length = None }
+item type name = record { type = type; name = name; lengths = [] }
 
 abbrev onto : Option Param → List Param → List Param
 onto None ps = ps
 onto (Some p) ps = p ∷ ps
 
--- a parameter, by the word of its direction, in front of others
+-- a parameter before others; its direction is given by a word
 abbrev param : List ℕ → TypeExpr → List ℕ → List Param → List Param
 param direction type name ps =
     onto (option_map (λ d. record { direction = d; item = item type name })
     (direction_of direction)) ps
 
--- an operation of no parameters and no results
+-- an operation without parameters and results
 abbrev nop : Declaration
 nop = Call None (codes "nop") [] []
 
@@ -40,7 +40,8 @@ put_file = file_of (Call None (codes "put") (param (codes "in") (Base prims.Doub
 
 -- ---- Each text has fewer than 40 tokens.
 
--- the definitions that are unfolded to read a text, and to declare what it says
+-- a name for the list of the definitions that are unfolded to read a text, and to declare what it
+-- says
 unfoldable told_with : ℕ
 unfolding tokens_in gap is_number first next is_reserved mark_of depth_at tree_at depth_of
     builtin_types place add_items add_params declare OfType OfItems OfDeclaration Each called

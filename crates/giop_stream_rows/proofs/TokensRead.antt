@@ -1,4 +1,4 @@
--- The tokens of a text by computation, where it has fewer than so many.
+-- The tokens of a text, by computation, if there are fewer than a given number.
 use Rattle.std.proofs.Common.{◌≡◌, ℕ, zero, suc, List, [], ◌∷◌, Option, Some, None, Result, Ok, Err, refl, subst}
 use Rattle.giop_tokens.specs.declared.fault.Refusal.{Refusal}
 use Rattle.giop_tokens.specs.Tokens.{Token, next, AreTokens}

@@ -3,7 +3,7 @@ use Rattle.std.specs.Prelude.{[], ◌∷◌, codes}
 use Rattle.giop_stream.specs.Rules.{rules}
 use Rattle.giop_stream_rows.specs.Worked.{stream, Row, read_by, builtin, puts, bigs, asks, kept}
 
--- a CloseConnection of 1.0
+-- a CloseConnection of GIOP 1.0
 abbrev pub CloseConnection : Type 0
 CloseConnection = Row (read_by builtin [])
     (stream (codes "47494f50 0100 00 05 00000000" ∷ []))
@@ -35,7 +35,7 @@ LittleRequest = Row (read_by puts [])
     ∷ [])
     (codes "total messages 1 faults 0 octets 56" ∷ [])
 
--- Two Requests whose fragments are interleaved. The number of the first is cut into three.
+-- Two Requests whose fragments are interleaved. The number of the first is cut into three parts.
 abbrev pub Interleaved : Type 0
 Interleaved = Row (read_by bigs [])
     (stream (codes "47494f50 0102 02 00 00000028"
@@ -85,7 +85,7 @@ Interleaved = Row (read_by bigs [])
     ∷ [])
     (codes "total messages 5 faults 0 octets 152" ∷ [])
 
--- two messages of one request id, of which the second is faulted
+-- two messages with the same request id; the second is faulted
 abbrev pub OpenTwice : Type 0
 OpenTwice = Row (read_by builtin [])
     (stream (codes "47494f50 0102 02 00 00000004 00000001"
@@ -101,7 +101,7 @@ OpenTwice = Row (read_by builtin [])
     ∷ codes "total messages 2 faults 1 octets 32"
     ∷ [])
 
--- two messages where one may be open at once, of which the second is faulted
+-- two messages, if one message may be open at once; the second is faulted
 abbrev pub OneOpen : Type 0
 OneOpen = Row (rules builtin [] 1)
     (stream (codes "47494f50 0102 02 00 00000004 00000001"
@@ -136,7 +136,7 @@ Cancelled = Row (read_by builtin [])
     ∷ [])
     (codes "total messages 3 faults 1 octets 48" ∷ [])
 
--- a Reply to a request of a known operation
+-- a Reply to a request whose operation is known
 abbrev pub Replied : Type 0
 Replied = Row (read_by asks kept)
     (stream (codes "47494f50 0100 00 01 00000011 00000000 00000001 00000000 0000002a 09" ∷ []))
@@ -150,7 +150,7 @@ Replied = Row (read_by asks kept)
     ∷ [])
     (codes "total messages 1 faults 0 octets 29" ∷ [])
 
--- and one with a known exception
+-- a Reply with a known exception
 abbrev pub Raised : Type 0
 Raised = Row (read_by asks kept)
     (stream (codes "47494f50 0100 00 01 00000020"
@@ -168,8 +168,8 @@ Raised = Row (read_by asks kept)
 
 -- ---- Encapsulations.
 
--- A Reply of 1.0 with a service context of code sets: an encapsulation of 12 octets, with padding
--- after its byte order.
+-- A Reply of GIOP 1.0 with a service context of code sets: an encapsulation of 12 octets, with
+-- padding after its byte order.
 abbrev pub CodeSets : Type 0
 CodeSets = Row (read_by builtin [])
     (stream (codes "47494f50 0100 00 01 00000020"
@@ -188,7 +188,8 @@ CodeSets = Row (read_by builtin [])
     ∷ [])
     (codes "total messages 1 faults 0 octets 44" ∷ [])
 
--- The same with 8 octets, which end before the second of the two numbers.
+-- The same Reply with an encapsulation of 8 octets, which ends before the second of the two
+-- numbers.
 abbrev pub CodeSetsCutShort : Type 0
 CodeSetsCutShort = Row (read_by builtin [])
     (stream (codes "47494f50 0100 00 01 0000001c"
@@ -204,7 +205,8 @@ CodeSetsCutShort = Row (read_by builtin [])
     ∷ [])
     (codes "total messages 1 faults 1 octets 40" ∷ [])
 
--- A LocateRequest by an internet profile, after whose members its encapsulation has 7 octets more.
+-- A LocateRequest by an internet profile. The encapsulation of the profile has 7 more octets after
+-- its members.
 abbrev pub Profile : Type 0
 Profile = Row (read_by builtin [])
     (stream (codes "47494f50 0102 00 03 00000028"

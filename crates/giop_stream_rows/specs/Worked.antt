@@ -1,5 +1,5 @@
 -- How a worked stream is written down: its octets in hexadecimal digits, its lines, and the types
--- and requests that it is read by (meaning).
+-- and requests by which it is read (meaning).
 use Rattle.std.specs.Prelude.{◌≡◌, ℕ, ◌+◌, ◌-◌, ◌*◌, ◌==◌, nat_lt, if◌then◌else◌, List, [], ◌∷◌, ◌++◌, length, Some, None, codes, false}
 use Rattle.giop_sig.specs.Heard.{first_fronts}
 use Rattle.giop_sig.specs.Interfaces.{no_interfaces}
@@ -18,7 +18,7 @@ use Rattle.giop_stream.specs.Stream.{text, closing}
 unfoldable pub digit : ℕ → ℕ
 digit c = if nat_lt c 58 then c - 48 else c - 87
 
--- hexadecimal digits with spaces between octets
+-- the octets that hexadecimal digits give, with spaces between octets
 unfoldable pub octets : List ℕ → List ℕ
 octets [] = []
 octets (a ∷ []) = []
@@ -29,7 +29,7 @@ unfoldable pub stream : List (List ℕ) → List ℕ
 stream [] = []
 stream (part ∷ parts) = octets part ++ stream parts
 
--- lines, each with its line feed
+-- the octets of lines, each with its line feed
 unfoldable pub written : List (List ℕ) → List ℕ
 written [] = []
 written (line ∷ lines) = line ++ 10 ∷ written lines
@@ -39,13 +39,14 @@ pub record Row (R : Rules) (p : List ℕ) (lines end : List (List ℕ)) : Type 0
   pub text : text R p ≡ written lines
   pub closing : closing R p ≡ written end
 
--- ---- What the streams are read by.
+-- ---- The types and requests by which the streams are read.
 
 unfoldable pub read_by : Table → RequestTable → Rules
 read_by table kept = rules table kept most_open
 
--- an operation with the structs of its parameters and of its results, one after the other in the
--- table; the first is counted from the first type after the built-in ones
+-- an operation with the structs of its parameters and of its results, which follow each other in
+-- the table. `request` is the number of the first struct, counted from the first type after the
+-- built-in ones
 unfoldable pub called : List ℕ → ℕ → Operation
 called name request = record {
   key = operation_key 0 name;
@@ -53,7 +54,8 @@ called name request = record {
   reply = length builtin_types + request + 1;
 }
 
--- the built-in types and then these, with these operations and exceptions
+-- the table of the built-in types, of these types after them, and of these operations and
+-- exceptions
 unfoldable pub table_of : List Node → List Operation → List Exception → Table
 table_of types operations exceptions = record {
   version = 1;
@@ -69,12 +71,12 @@ table_of types operations exceptions = record {
   narrow = false;
 }
 
--- no declarations
+-- the table without declarations
 unfoldable pub builtin : Table
 builtin = table_of [] [] []
 
 -- The text of a signature file, and its table: the text spells a valid file, and this is the table
--- of that.
+-- of the file.
 pub record IsTableOf (text : List ℕ) (t : Table) : Type 0 where
   pub file : SignatureFile
   pub spells : Spells text file
@@ -84,7 +86,7 @@ pub record IsTableOf (text : List ℕ) (t : Table) : Type 0 where
 unfoldable pub put_text : List ℕ
 put_text = codes "signatures 1; operation void put(in double d);"
 
--- its table
+-- the table of this text
 unfoldable pub puts : Table
 puts = table_of (members (member (codes "d") 10 ∷ []) ∷ members [] ∷ [])
     (called (codes "put") 0 ∷ []) []
@@ -92,14 +94,14 @@ puts = table_of (members (member (codes "d") 10 ∷ []) ∷ members [] ∷ [])
 unfoldable pub bigs_text : List ℕ
 bigs_text = codes "signatures 1; operation void big(in ulonglong n); operation void nop();"
 
--- its table
+-- the table of this text
 unfoldable pub bigs : Table
 bigs = table_of
     (members (member (codes "n") 8 ∷ []) ∷ members [] ∷ members [] ∷ members [] ∷ [])
     (called (codes "big") 0 ∷ called (codes "nop") 2 ∷ [])
     []
 
--- the exception of the text that follows
+-- the exception that the next text declares
 unfoldable pub late : Exception
 late = record { repository = codes "IDL:Late:1.0"; members = length builtin_types }
 
@@ -108,7 +110,7 @@ asks_text =
     codes
     "signatures 1; exception Late \"IDL:Late:1.0\" { ushort by; }; operation long ask(in long a, out octet b); operation void nop();"
 
--- its table
+-- the table of this text
 unfoldable pub asks : Table
 asks = table_of
     (members (member (codes "by") 4 ∷ [])
@@ -123,16 +125,16 @@ asks = table_of
 unfoldable pub entry : ℕ → List ℕ → Entry
 entry id name = record { id = id; asked = record { name = name; interface = None } }
 
--- 1 ask, 1 ask, 2 nop, 2 ask
+-- the request list `1 ask, 1 ask, 2 nop, 2 ask`
 unfoldable pub entries : List Entry
 entries = entry 1 (codes "ask") ∷ entry 1 (codes "ask") ∷ entry 2 (codes "nop") ∷ entry 2
     (codes "ask") ∷ []
 
--- the request table of these: the one operation of the first id, and none of the second, which has
--- two
+-- the request table of this list: it has the one operation of the first id, and none of the second
+-- id, which has two
 unfoldable pub kept : RequestTable
 kept = (1, Some (op_id 0)) ∷ (2, None) ∷ []
 
--- it gives the operations that the list gives, for these declarations
+-- with these declarations, the request table gives the operations that the list gives
 abbrev pub AreOfTheirList : Type 0
 AreOfTheirList = IsOf (asked_number asks) entries kept

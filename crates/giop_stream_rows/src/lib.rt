@@ -1,4 +1,5 @@
-//! Streams worked by hand: what an engine writes of them and at their end, and checkpoints of them, hold by computation.
+//! Streams worked by hand: what an engine writes of them and at their end, and their checkpoints,
+//! hold by computation.
 #![tactic(auto)]
 
 ghost use Rattle.std.specs.Prelude.{codes};
@@ -6,18 +7,18 @@ ghost use Rattle.giop_stream_rows.specs.Worked.{AreOfTheirList, IsTableOf, put_t
 ghost use Rattle.giop_stream_rows.specs.Streams.{CloseConnection, LittleRequest, Interleaved, OpenTwice, OneOpen, Cancelled, Replied, Raised, CodeSets, CodeSetsCutShort, Profile};
 ghost use Rattle.giop_stream_rows.specs.Checkpoints.{InAHeader, InAnOldHeader, InAPayload, BehindAFault, BetweenMessages};
 
-/// The text and the closing of these streams, by the declarations and the requests of each. It has no body, and is called
-/// for its contract.
+/// The text and the closing of these streams, with the declarations and the requests of each. The
+/// function has no body; it is called for its contract.
 pub fn worked_streams()
-    // A message without a header type ends at its own header.
+    // A message that has no header type ends at its own header.
     ensures closes { CloseConnection }
     // A little-endian 1.2 Request, whose body is aligned to 8.
     ensures request { LittleRequest }
     // Two Requests whose fragments are interleaved.
     ensures interleaved { Interleaved }
-    // Two messages of one request id.
+    // Two messages with the same request id.
     ensures id { OpenTwice }
-    // Two messages where one may be open.
+    // Two messages, if one message may be open.
     ensures one_open { OneOpen }
     // A CancelRequest, and a Fragment of the message that it cancelled.
     ensures cancelled { Cancelled }
@@ -32,22 +33,26 @@ pub fn worked_streams()
     ensures request_table { AreOfTheirList }
 {}
 
-/// The tables by which the streams are read are those of signature files. It has no body, and is called for its contract.
+/// The tables by which the streams are read are those of signature files. The function has no body;
+/// it is called for its contract.
 pub fn worked_tables()
-    // Each text spells a valid file, whose table this is; `one_table` of `giop_sig` says that it has no other.
+    // Each text spells a valid file, and this is the file's table. `one_table` of `giop_sig` says
+    // that the file has no other.
     ensures empty { IsTableOf (codes "signatures 1;") builtin }
     ensures puts { IsTableOf put_text puts }
     ensures bigs { IsTableOf bigs_text bigs }
     ensures asks { IsTableOf asks_text asks }
 {}
 
-/// The checkpoints of worked streams, octet for octet. It has no body, and is called for its contract.
+/// The checkpoints of worked streams, octet for octet. The function has no body; it is called for
+/// its contract.
 pub fn worked_checkpoints()
-    // In a header, in either layout, in the payload of a faulted message, and after a stream fault.
+    // The checkpoints in a header, in either layout; in the payload of a faulted message; and after
+    // a stream fault.
     ensures header { InAHeader }
     ensures in_an_old_header { InAnOldHeader }
     ensures body { InAPayload }
     ensures behind { BehindAFault }
-    // With two open messages, one of them within a number.
+    // The checkpoint with two open messages, one of them within a number.
     ensures messages { BetweenMessages }
 {}

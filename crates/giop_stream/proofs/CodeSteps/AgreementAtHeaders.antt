@@ -1,5 +1,5 @@
--- A stream has the same lines and the same state by answers that agree at each header that ends in
--- it before its message is over.
+-- A stream has the same lines and the same state by two `Answers`, if they agree at each header
+-- that ends in it before the message of that header is over.
 use Rattle.std.proofs.Common.{inl, inr, ◌⊎◌, ◌≡◌, ℕ, zero, suc, ◌<◌, Bool, true, false, List, [], ◌∷◌, ◌++◌, length, Option, Some, None, refl, sym, ap, subst, ◌∙◌, append-nil, append_assoc, arith}
 use Rattle.std.specs.Prelude.{◌==◌, ◌&&◌, is_none, nat_lt, option_map, option_to_list, if◌then◌else◌}
 use Rattle.std.specs.List.{list_any, AllByRecursion as Each}
@@ -52,36 +52,36 @@ use Rattle.giop_stream.proofs.CodeSteps.EngineLaws.{finish_is, final_is}
 use Rattle.giop_stream.proofs.CodeSteps.StreamAgreement.{tells_agree, IsSame, shows_agree, each_parts, each_own, of_owner, one_header}
 use Rattle.giop_stream.proofs.CodeSteps.HeaderEndSteps.{at_free, from_append}
 
--- ---- no header has ended before an octet has come
+-- ---- before the first octet no header has ended
 
 abbrev Unended : List ℕ → Option Ty → Type 0
 Unended header found = noted_in (message_marks (of_header
     (signatures_of builtin_table (λ id. None)) header found 12 [])) ≡ None
 
-in_1_0 : (k : ℕ) (header : List ℕ) → Unended header (header_type 0 k)
+in_1_0 : (k : ℕ) (header : List ℕ) → Unended header (header_type 1 0 k)
 unfolding tree_at builtin_types number padding block of_header section_then rest rest_in
     message_marks
 in_1_0 (suc (suc (suc (suc (suc (suc (suc (suc k)))))))) header = refl
 in_1_0 _ header = refl
 
-in_1_1 : (k : ℕ) (header : List ℕ) → Unended header (header_type 1 k)
+in_1_1 : (k : ℕ) (header : List ℕ) → Unended header (header_type 1 1 k)
 unfolding tree_at builtin_types number padding block of_header section_then rest rest_in
     message_marks
 in_1_1 (suc (suc (suc (suc (suc (suc (suc (suc k)))))))) header = refl
 in_1_1 _ header = refl
 
-in_1_2 : (k : ℕ) (header : List ℕ) → Unended header (header_type 2 k)
+in_1_2 : (k : ℕ) (header : List ℕ) → Unended header (header_type 1 2 k)
 unfolding tree_at builtin_types number padding block of_header section_then rest rest_in
     message_marks
 in_1_2 (suc (suc (suc (suc (suc (suc (suc (suc k)))))))) header = refl
 in_1_2 _ header = refl
 
-in_others : (m k : ℕ) (header : List ℕ) → Unended header (header_type (suc (suc (suc m))) k)
+in_others : (m k : ℕ) (header : List ℕ) → Unended header (header_type 1 (suc (suc (suc m))) k)
 unfolding of_header rest rest_in message_marks
 in_others m (suc (suc (suc (suc (suc (suc (suc (suc k)))))))) header = refl
 in_others m _ header = refl
 
-none_at_first : (m k : ℕ) (header : List ℕ) → Unended header (header_type m k)
+none_at_first : (m k : ℕ) (header : List ℕ) → Unended header (header_type 1 m k)
 none_at_first zero k header = in_1_0 k header
 none_at_first (suc zero) k header = in_1_1 k header
 none_at_first (suc (suc zero)) k header = in_1_2 k header
@@ -91,9 +91,9 @@ not_noted : (header : List ℕ) → header_noted header [] ≡ None
 unfolding header_noted marks message signatures_of
 not_noted header = none_at_first (minor header) (kind header) header
 
--- ---- what is kept of a message before events, by what is kept of it after them
+-- ---- what was kept of a message before events, if it is known what is kept of it after them
 
--- these octets, and then what the events give it
+-- these octets were kept, and after them come those that the events add
 record Was (o : Option (List ℕ)) (xs' more : List ℕ) : Type 0 where
   xs : List ℕ
   known : o ≡ Some xs
@@ -128,7 +128,7 @@ effects_was R (e ∷ es) c i xs' k =
           ∙ ap (λ (z : List ℕ). one.xs ++ z) (sym (joined_append i (e ∷ []) es))));
     }
 
--- ---- what an octet gives to the message of a number, by the octet's owner
+-- ---- what an octet gives to the message that has a number, from the octet's owner
 
 given : ℕ → ℕ → Option MessageKey → List ℕ
 given i x None = []
@@ -146,7 +146,7 @@ owner_gives i still_open m x = go (goes_past m) (opener_of still_open m)
     go true (Some o) = refl
     go false o = refl
 
--- an octet of a message comes within the limit
+-- if an octet is one of a message, it is within the limit
 room_of : (o : Option StreamFault) (held : List ℕ) (number read count x : ℕ) (now : Now) →
     octet_in o held number read count x ≡ Of now → read < limit
 unfolding octet_in
@@ -166,7 +166,7 @@ module _ (C : Table) (a b : Answers) (most : ℕ) where
   abbrev B : Rules
   B = rules_by C b most
 
-  -- a message with these octets is read alike
+  -- for a message with these octets, the two answers agree, or its header has not ended
   abbrev Agree : MessageKey → List ℕ → Type 0
   Agree w xs = (a w.number ≡ b w.number) ⊎ (header_noted w.header xs ≡ None)
 
@@ -174,7 +174,7 @@ module _ (C : Table) (a b : Answers) (most : ℕ) where
   agree_before w xs more (inl k) = inl k
   agree_before w xs more (inr k) = inr (header_noted_before w.header xs more k)
 
-  -- and one of which octets are kept, with more that come
+  -- the same for each message whose octets are kept, after more octets come
   abbrev Fine : OctetsByNumber → (ℕ → List ℕ) → MessageKey → Type 0
   Fine known more w = (xs : List ℕ) → known w.number ≡ Some xs → Agree w (xs ++ more w.number)
 
@@ -234,7 +234,7 @@ module _ (C : Table) (a b : Answers) (most : ℕ) where
       ∙ ap (λ (c' : Tracked). effects (message_reader C b) c' es) next in
       λ j. record { tracked = (more j).tracked; lines = one j ++ (more j).lines }
 
-  -- ---- a stream that is read alike
+  -- ---- a stream that both answers read alike
 
   abbrev KeptAlike : List ℕ → MessageKey → Type 0
   KeptAlike p w = (xs : List ℕ) → octets_of A p w.number ≡ Some xs → Agree w xs
@@ -260,7 +260,7 @@ module _ (C : Table) (a b : Answers) (most : ℕ) where
   unfolding tracked_after
   known_same p c i e = ap (λ (t : Tracked). t.known i) e
 
-  -- an octet of no message
+  -- the next octet is one of no message
   idle : (p : List ℕ) (x : ℕ) (c : Cut) (ls : List Line) → Alike p →
       Adds A p (p ++ x ∷ []) c ls (tracked_after A p) →
       Adds B p (p ++ x ∷ []) c ls (tracked_after B p) → messages c ≡ messages (cut p) →
@@ -279,7 +279,7 @@ module _ (C : Table) (a b : Answers) (most : ℕ) where
             e.subject.number f.tracked_after) ∙ known)) (events most p) h.kept_alike);
       }
 
-  -- an octet of a message, with these events
+  -- the same for a message after an octet with these events
   abbrev NowAlike : List ℕ → List Event → MessageKey → Type 0
   NowAlike p es w = Fine (octets_of A p) (λ i. joined i es) w
 
@@ -323,7 +323,7 @@ module _ (C : Table) (a b : Answers) (most : ℕ) where
             (each_append (λ e. NowAlike p es e.subject) (events most p) es old new));
       }
 
-  -- ---- the message of the octet
+  -- ---- the message to which the octet belongs
 
   one_message : (p : List ℕ) (x : ℕ) (now : Now) (h : IsOf A p x now) (k : IsOf B p x now) →
       h.m ≡ k.m
@@ -421,7 +421,8 @@ module _ (C : Table) (a b : Answers) (most : ℕ) where
 
   -- ---- one octet
 
-  -- of a message: what holds of the events before holds of those of the octet
+  -- of an octet of a message: if the events before the octet have this, so have the events of the
+  -- octet
   of_events : (p : List ℕ) (m : Message) →
       (let es = events_of_octet most (open_after most p) m in
       Each (λ e. NowAlike p es e.subject) (events most p) → NowAlike p es (message_key m) →
@@ -436,7 +437,7 @@ module _ (C : Table) (a b : Answers) (most : ℕ) where
       (open_after most p)
       (opened_each (NowAlike p es) [] (events most p) tt old))
 
-  -- of the header of a message, with its last octet
+  -- of the last octet of a message's header
   begun_alike : (p : List ℕ) (m : Message) → Alike p → m.payload ≡ [] →
       octets_of A p m.number ≡ Some [] →
       (let es = events_of_octet most (open_after most p) m in
@@ -455,7 +456,7 @@ module _ (C : Table) (a b : Answers) (most : ℕ) where
             (subst (λ (z : List ℕ). header_noted m.header z ≡ None) empty (not_noted m.header))),
       )
 
-  -- of its payload
+  -- of an octet of the message's payload
   paid_old : (p : List ℕ) (x : ℕ) (was : Message) → Alike p → (cut p).stop ≡ None →
       (cut p).current ≡ Some was → length p < limit →
       Each (AnswersAlike a b) (header_ends_at A p x) →
@@ -565,19 +566,19 @@ module _ (C : Table) (a b : Answers) (most : ℕ) where
   pub alike : (p : List ℕ) → AgreeAtHeaders C most p a b → Alike p
   alike p h = alike_from p [] start h
 
-  -- the same text,
+  -- a stream has the same text by both answers
   pub text_alike : (p : List ℕ) → AgreeAtHeaders C most p a b → text A p ≡ text B p
   unfolding text
   text_alike p h = rw (alike p h).lines_same refl
 
-  -- the same state,
+  -- a stream has the same state by both answers
   pub state_alike : (p : List ℕ) → AgreeAtHeaders C most p a b → state_of A p ≡ state_of B p
   unfolding state_of tally
   state_alike p h =
       let all = alike p h in
       rw (all.lines_same, all.tracked_same) refl
 
-  -- the same engines,
+  -- an engine keeps the same of a message by both answers
   same_for : (p : List ℕ) (w : MessageKey) → KeptAlike p w →
       IsSame C a b w (octets_of A p w.number)
   same_for p w h = go (octets_of A p w.number) refl
@@ -602,7 +603,7 @@ module _ (C : Table) (a b : Answers) (most : ℕ) where
       (opened_each (KeptAlike p) [] (events most p) tt kept))
       (λ w owner. same_for p w (of_owner (KeptAlike p) most p w owner kept)) shows)
 
-  -- the same closing and totals,
+  -- a stream has the same closing and totals by both answers
   pub closing_alike : (p : List ℕ) → AgreeAtHeaders C most p a b → closing A p ≡ closing B p
   closing_alike p h =
       finish_is A (is_causal (λ number. signatures_of C (a number))) (in_turn C a)
@@ -617,7 +618,7 @@ module _ (C : Table) (a b : Answers) (most : ℕ) where
       ∙ (ap final_totals (state_alike p h)
       ∙ sym (final_is B (is_causal (λ number. signatures_of C (b number))) (in_turn C b) p))
 
-  -- and the same headers that end
+  -- the same headers end in the next octets by both answers
   current_alike : (p octets : List ℕ) (current : Option Message) → Alike p →
       current_header_ends A p current octets ≡ current_header_ends B p current octets
   current_alike p octets None h = refl
@@ -642,7 +643,8 @@ module _ (C : Table) (a b : Answers) (most : ℕ) where
       let more = ends_from_alike q (p ++ x ∷ []) (step p x h parts.0) parts.1 in
       λ j. one j ++ more j
 
-  -- after a stream by whose headers the answers agree, those of more octets
+  -- if the answers agree at the headers of a stream and of more octets after it, the same headers
+  -- end in those octets
   pub ends_alike : (p q : List ℕ) → AgreeAtHeaders C most (p ++ q) a b →
       header_ends_from A p q ≡ header_ends_from B p q
   ends_alike p q h =
@@ -656,12 +658,12 @@ module _ (C : Table) (a b : Answers) (most : ℕ) where
       (each_parts (AnswersAlike a b) (header_ends_from A [] p) (header_ends_from A p q)
       (subst (Each (AnswersAlike a b)) (from_append A p [] q) h)).0
 
-  -- what more octets add to the text
+  -- the same text is added by more octets
   pub added_alike : (p q : List ℕ) → AgreeAtHeaders C most (p ++ q) a b → added A p q ≡ added B p q
   unfolding added
   added_alike p q h = rw (text_alike p (alike_front p q h), text_alike (p ++ q) h) refl
 
-  -- ---- a correspondent
+  -- ---- a correspondent with which both answers agree
 
   module _ {St : Type 0} (answer : St → Answer) (notified : St → CallEvent → St) where
     both_answer : (es : List HeaderEnd) (st : St) → AgreesAtEnds answer notified C st a es →
@@ -716,7 +718,7 @@ held_alike e a b p h k = record {
   shows = fields_alike e.table a b e.most p e.stream h k.shows;
 }
 
--- ---- answers that agree so, the other way round and one after the other
+-- ---- agreement of answers at headers is symmetric and transitive
 
 pub back : (C : Table) (most : ℕ) (p : List ℕ) (a b : Answers) → AgreeAtHeaders C most p a b →
     AgreeAtHeaders C most p b a

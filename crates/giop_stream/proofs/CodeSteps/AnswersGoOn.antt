@@ -1,4 +1,5 @@
--- Answers that agree with a correspondent at each header that ends in octets after a stream.
+-- For each correspondent there are `Answers` that agree with it at each header that ends in octets
+-- after a stream.
 use Rattle.std.proofs.Common.{inl, inr, ◌⊎◌, ◌≡◌, ℕ, ◌<◌, Bool, true, false, List, [], ◌∷◌, ◌++◌, length, refl, sym, ap, subst, ◌∙◌, append-nil, Some, None, arith}
 use Rattle.std.specs.Prelude.{◌==◌, if◌then◌else◌}
 use Rattle.std.specs.List.{AllByRecursion as Each}
@@ -35,7 +36,7 @@ use Rattle.giop_stream.proofs.CodeSteps.StreamAgreement.{each_parts, of_owner, o
 use Rattle.giop_stream.proofs.CodeSteps.AgreementAtHeaders.{alike, ends_at_alike, held_alike}
 use Rattle.giop_stream.proofs.CodeSteps.HeaderEndSteps.{at_free, at_none, at_stop, at_limit, from_append, from_one}
 
--- the owner of an octet takes it
+-- if an octet has an owner, it is added to the octets of the owner
 pub owner_takes : (most : ℕ) (still_open : List Open) (m : Message) (x : ℕ) (w : MessageKey) →
     owner_of_octet still_open (with_octet m x) ≡ Some w
     → joined w.number (events_of_octet most still_open (with_octet m x)) ≡ x ∷ []
@@ -46,7 +47,7 @@ module _ (C : Table) (most : ℕ) where
   abbrev R : Answers → Rules
   R a = rules_by C a most
 
-  -- they agree for this message, or its header has not ended
+  -- two answers agree for this message, or its header has not ended
   abbrev AgreeAt : List ℕ → Answers → Answers → MessageKey → Type 0
   AgreeAt p f g w = (f w.number ≡ g w.number)
       ⊎ (header_noted w.header (joined w.number (events most p)) ≡ None)
@@ -70,7 +71,7 @@ module _ (C : Table) (most : ℕ) where
       go (Held front) h = search (arith, none)
       go (Of now) h = (_, h.1.grows)
 
-  -- ---- answers that agree for a longer stream, for a front of it; and one after the other
+  -- ---- answers that agree for a longer stream agree for a front of it; agreement is transitive
 
   agree_back : (p : List ℕ) (x : ℕ) (a b : Answers) → AnswersAgree most (p ++ x ∷ []) a b →
       AnswersAgree most p a b
@@ -123,7 +124,7 @@ module _ (C : Table) (most : ℕ) where
     now : header_noted w.header (s ++ x ∷ []) ≡ Some n
     ends : header_ends_at (R a) p x ≡ Header_end w.number w.header n ∷ []
 
-  -- or the name of an exception
+  -- the name of an exception that ends in the next octet
   record NamesHere (a : Answers) (p : List ℕ) (x : ℕ) : Type 0 where
     number : ℕ
     name : List ℕ
@@ -137,7 +138,7 @@ module _ (C : Table) (most : ℕ) where
   ends_case a p x = search (arith, one_octet, at_none, at_free, at_stop, cases_lt, at_limit)
 
   module _ (a : Answers) (p : List ℕ) (x : ℕ) (h : EndsHere a p x) where
-    -- its message then has the octet
+    -- after the octet, the message has its old octets and this one
     joined_then : joined h.w.number (events most (p ++ x ∷ [])) ≡ h.s ++ x ∷ []
     unfolding limit
     joined_then =
@@ -156,7 +157,7 @@ module _ (C : Table) (most : ℕ) where
           owner_takes most (open_after most p) h.m x h.w owner,
         ) refl)
 
-    -- answers that agree after the octet agree for it
+    -- if answers agree after the octet, they agree for the message of the octet
     agree_for : (b c : Answers) → AnswersAgree most (p ++ x ∷ []) b c → b h.w.number ≡ c h.w.number
     agree_for b c agree = go (of_owner (AgreeAt (p ++ x ∷ []) b c) most p h.w (rw h.current h.owner)
         front)
@@ -172,7 +173,7 @@ module _ (C : Table) (most : ℕ) where
         go (inl k) = k
         go (inr k) = search (arith, joined_then)
 
-    -- another answer for it makes no difference before it
+    -- if the answer for this message is another one, nothing is different before the octet
     abbrev put : Answer → Answers
     put answer i = if i == h.w.number then answer else a i
 
@@ -195,7 +196,7 @@ module _ (C : Table) (most : ℕ) where
         go e k false is = inl (rw is refl)
         go e k true is = search (arith, eqb-true, header_of_number, of_w, octets_are)
 
-  -- answers that agree for each message whose header has ended agree at each header that ends
+  -- if answers agree for each message whose header has ended, they agree at each header that ends
   pub at_headers : (a b : Answers) (p : List ℕ) → AnswersAgree most p a b →
       AgreeAtHeaders C most p a b
   unfolding header_ends_from
@@ -213,7 +214,7 @@ module _ (C : Table) (most : ℕ) where
       here p x h (inr (inl k)) = rw k.ends (agree_for a p x k a b h, tt)
       here p x h (inr (inr k)) = rw k.ends (tt, tt)
 
-  -- the same headers end in the next octet
+  -- if answers agree, the same headers end in the next octet
   ends_agree : (p : List ℕ) (x : ℕ) (a b : Answers) → AnswersAgree most p a b →
       header_ends_at (R a) p x ≡ header_ends_at (R b) p x
   ends_agree p x a b h = ends_at_alike C a b most p x (alike C a b most p (at_headers a b p h))
@@ -277,7 +278,7 @@ module _ (C : Table) (most : ℕ) where
       ]
     ]
 
--- an engine holds a stream by each of them
+-- an engine holds a stream by all answers that agree
 pub held_agree : (e : EngineView) (a b : Answers) (p : List ℕ) → AnswersAgree e.most p a b →
     HoldsBy e a p → HoldsBy e b p
 held_agree e a b p h = held_alike e a b p (at_headers e.table e.most a b p h)

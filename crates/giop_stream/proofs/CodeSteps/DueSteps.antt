@@ -1,5 +1,5 @@
--- After which octet of a piece the reading stops: what is due after more octets, by what is due
--- after those that were taken.
+-- After which octet of a piece the reading stops: what is due after more octets, if it is known
+-- what is due after those that were taken.
 use Rattle.std.proofs.Common.{◌≡◌, ℕ, ◌+◌, ◌-◌, ◌<◌, ◌≤◌, ◌⊎◌, inl, inr, Bool, true, false, List, [], ◌++◌, length, take, take-add, drop, refl, sym, ap, ◌∙◌, append-nil, append_assoc, None, arith}
 use Rattle.std.specs.Prelude.{◌&&◌, ◌||◌, nat_lt}
 use Rattle.std.proofs.lemmas.Bool.{cases_lt, false≢true, le-ltb}
@@ -13,7 +13,7 @@ use Rattle.giop_stream.specs.DueOctets.{begins_in, is_due_after}
 use Rattle.giop_stream.specs.HeaderEndsOfStream.{header_ends_from}
 use Rattle.giop_stream.proofs.CodeSteps.HeaderEndSteps.{from_append}
 
--- two that are both not so
+-- if two values are both false, neither of them is true
 either_false : (a b : Bool) → a ≡ false → b ≡ false → (a || b) ≡ false
 either_false a b p q = rw (p, q) refl
 
@@ -25,7 +25,7 @@ second_false : (a b : Bool) → (a || b) ≡ false → b ≡ false
 second_false true b e = absurd (false≢true (sym e))
 second_false false b e = e
 
--- what is so only if it is awaited
+-- if the second value is false whenever the first is true, they aren't both true
 if_awaited : (a b : Bool) → (a ≡ true → b ≡ false) → (a && b) ≡ false
 if_awaited true b f = f refl
 if_awaited false b f = refl
@@ -49,13 +49,14 @@ module _ {St : Type 0} (due : St → Bool) (notified : St → CallEvent → St) 
   abbrev Count : List ℕ → ℕ
   Count z = length (messages (cut z))
 
-  -- by the correspondent, and how many messages had begun before and after
+  -- what is due, from the correspondent's state and from how many messages had begun before and
+  -- after
   pub due_is : (octets : List ℕ) (now : St) (before after : ℕ) →
       now ≡ after_ends notified C st (header_ends_from R p octets) → before ≡ Count p →
       after ≡ Count (p ++ octets) → (due now || (awaits && nat_lt before after)) ≡ Due octets
   due_is octets now before after told was is = rw (told, was, is) refl
 
-  -- before the first octet
+  -- before the first octet nothing is due, if the correspondent isn't due
   pub none_due : due st ≡ false → Due [] ≡ false
   unfolding header_ends_from
   none_due calm =
@@ -64,7 +65,7 @@ module _ {St : Type 0} (due : St → Bool) (notified : St → CallEvent → St) 
       either_false (due st) (awaits && nat_lt (Count p) (Count (p ++ []))) calm
       (if_awaited awaits (nat_lt (Count p) (Count (p ++ []))) (λ j. same))
 
-  -- after octets, and some more
+  -- nothing is due after the octets `past` and `more`
   module _ (past : List ℕ) (now : St)
       (told : now ≡ after_ends notified C st (header_ends_from R p past))
       (undue : Due past ≡ false) (more : List ℕ) where
@@ -96,7 +97,8 @@ module _ {St : Type 0} (due : St → Bool) (notified : St → CallEvent → St) 
   module _ (piece : List ℕ) (t : ℕ) (now : St)
       (told : now ≡ after_ends notified C st (header_ends_from R p (take t piece)))
       (undue : (k : ℕ) → k ≤ t → Due (take k piece) ≡ false) where
-    -- after a front of the octets that were taken, or of some more
+    -- nothing is due after a front of the octets that were taken, nor after these and fewer than n
+    -- more
     pub fronts_after : (n : ℕ) → ((j : ℕ) → j < n →
         StaysUndue due notified C now (header_ends_from R (p ++ take t piece))
         (take j (drop t piece))

@@ -1,5 +1,5 @@
--- The invariants of every stream, by induction on its octets: those of `Soundness`, and that a
--- message which begins with its request id is not over before that is complete.
+-- The invariants of every stream, by induction on its octets: those of `Soundness`; and a message
+-- that begins with its request id is not over before the id is complete.
 use Rattle.std.proofs.Common.{inl, inr, ◌⊎◌, ◌≡◌, ℕ, suc, ◌-◌, ◌<◌, ◌≤◌, true, List, [], ◌∷◌, ◌++◌, length, get_or, refl, sym, ap, ◌∙◌, Some, None, arith, append-nil}
 use Rattle.std.specs.List.{AllByRecursion as Each}
 use Rattle.std.proofs.lemmas.List.{length_push, get_or_push}
@@ -132,8 +132,8 @@ sound R causal laws p = (kept R causal laws p).sound
 pub alive : (R : Rules) → IsCausal R.reading → IsStreamable R.reading → (p : List ℕ) → IsAlive R p
 alive R causal laws p = (kept R causal laws p).alive
 
--- ---- What does not depend on the reader of messages, shown with one that gives no lines but an
--- end.
+-- ---- What does not depend on the reader of messages is shown with a reader that gives no lines
+-- except an end.
 
 mute : MessageReader
 mute = record { reads = λ number header xs. []; closes = λ number header xs. (End, []) ∷ [] }

@@ -1,5 +1,5 @@
--- The state of a stream is the fresh state stepped by each octet, and gives what is written at the
--- finish.
+-- The state of a stream is the fresh state after one step for each octet, and it gives what is
+-- written at the finish.
 use Rattle.std.proofs.Common.{◌≡◌, ℕ, true, List, [], ◌∷◌, ◌++◌, length, refl, append_assoc, Option, Some, None, arith}
 use Rattle.std.specs.Prelude.{◌&&◌, nat_lt, is_none, IfSome}
 use Rattle.std.proofs.lemmas.Bool.{lt-ltb}

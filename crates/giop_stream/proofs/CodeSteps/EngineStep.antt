@@ -1,4 +1,4 @@
--- The step agrees with the definitions: from the state of a stream it gives the lines that the
+-- The step agrees with the definitions: from the state of a stream, it gives the lines that the
 -- octet adds, and the state of the longer stream.
 use Rattle.std.proofs.Common.{◌≡◌, ℕ, suc, ◌+◌, ◌<◌, true, List, [], ◌∷◌, ◌++◌, length, refl, sym, ap, subst, ◌∙◌, None, arith}
 use Rattle.std.proofs.lemmas.Bool.{cases_lt, cases_eq, lt-ltb, le-ltb, eq-eqb, leb-true, and_parts}
@@ -52,7 +52,7 @@ module _ (R : Rules) (p : List ℕ) (m : Message) (shows : Shows R p m) where
       (other_of s now) (opener_of (open_after R.most p) m)
       (λ four name. (shows.name_is four name, same_name four name)) shows.past_is)
 
-  -- after a Fragment's request id, the message that it continues
+  -- after a Fragment's request id: the message that the Fragment continues
   named_same : has_named m ≡ true → length m.payload < size m.header →
       opener_of effect.tracked.still_open m ≡ other_of s now
   unfolding effect now tracked_after s has_named

@@ -1,6 +1,6 @@
 -- The last octet of a header and the request id of a Fragment that continues an open message: the
--- stream with them, and that the code does their steps. They write the start, the request id, and
--- what its last octet does.
+-- stream with these octets, and that the code does their steps. The octets write the start line,
+-- the line of the request id, and the lines of the id's last octet.
 use Rattle.std.proofs.Common.{◌≡◌, ℕ, suc, ◌+◌, ◌^◌, ◌<◌, ◌≤◌, true, List, [], ◌∷◌, ◌++◌, length, refl, sym, ap, subst, ◌∙◌, append_assoc, append-nil, length-append, take_all, Option, Some, None, Result, arith}
 use Rattle.std.specs.Prelude.{OnOk}
 use Rattle.std.proofs.lemmas.Bool.{and_parts, eqb-true, le-ltb, ne_eqb}
@@ -72,12 +72,12 @@ fragment_is : (header : List ℕ) → is_fragment header ≡ true → (minor hea
 unfolding is_fragment
 fragment_is header f = search (arith, and_parts, eqb-true)
 
--- it is not refused
+-- the header of a Fragment is not refused
 fragment_stands : (header : List ℕ) → is_fragment header ≡ true → refused header ≡ None
 unfolding refused
 fragment_stands header f = search (arith, fragment_is)
 
--- and the correspondent is told nothing of it
+-- the correspondent is told nothing of a Fragment
 fragment_tells : (C : Table) (number : ℕ) (header : List ℕ) (n : Noted) → kind header ≡ 7 →
     call_event C (Header_end number header n) ≡ None
 unfolding header_event
@@ -92,7 +92,7 @@ fragment_untold C w (Some xs) octets seven =
 
 -- ---- The octets of a request id before the last one.
 
--- They say nothing, and change no slot.
+-- The octets add no lines, and change no slot.
 record IsQuietRun (c : Tracked) (ran : Effect) : Type 0 where
   lines : ran.lines ≡ []
   slots : slots_at ran.tracked ≡ slots_at c
@@ -124,7 +124,8 @@ module _ (C : Table) (l : Answers) (w : MessageKey) (says : SaysId w.header) whe
             more.slots ∙ slots;
       }
 
--- ---- The stream with these octets: x, the last one of a header, q and d, those of a request id.
+-- ---- The stream with these octets: x is the last octet of a header, q and d are the octets of a
+-- request id.
 
 module _ (C : Table) (l : Answers) (most : ℕ) (p : List ℕ) (x : ℕ) (q : List ℕ) (d : ℕ)
     (free : (cut p).stop ≡ None)
@@ -145,7 +146,7 @@ module _ (C : Table) (l : Answers) (most : ℕ) (p : List ℕ) (x : ℕ) (q : Li
   abbrev pub header : List ℕ
   header = (cut p).held ++ x ∷ []
 
-  -- the Fragment, as it begins
+  -- the Fragment when it begins
   abbrev pub first : Message
   first = beginner (cut p).whole (suc (length p)) header
 
@@ -167,7 +168,7 @@ module _ (C : Table) (l : Answers) (most : ℕ) (p : List ℕ) (x : ℕ) (q : Li
   first_adds = begins_is R causal (in_turn C l) p x so free none
       (le-ltb limit (suc (length p)) (omega (arith, room))) (right_at_twelve header full) full
 
-  -- it starts, and nothing else
+  -- its start line is the only effect
   begun_is : begun ≡ record { tracked = c₀; lines = starts first ∷ [] }
   unfolding tracked_after end_events
   begun_is =
@@ -200,7 +201,7 @@ module _ (C : Table) (l : Answers) (most : ℕ) (p : List ℕ) (x : ℕ) (q : Li
   unfolding of_parts
   within = search (arith, begun_cut, length_push)
 
-  -- ---- With the request id but its last octet.
+  -- ---- With the request id except its last octet.
 
   run : IsRun C l most p₁ first q
   run = search (arith, run_is, within)
@@ -266,7 +267,7 @@ module _ (C : Table) (l : Answers) (most : ℕ) (p : List ℕ) (x : ℕ) (q : Li
   unfolding id
   id_is = ap (num (order header)) (take_all 4 (q ++ d ∷ []) (omega (arith, three, length_push q d)))
 
-  -- ---- With all of them.
+  -- ---- With all octets of the request id.
 
   abbrev pub all_do : Effect
   all_do = continuation_effect C l most c₄ m₄ d
@@ -286,7 +287,7 @@ module _ (C : Table) (l : Answers) (most : ℕ) (p : List ℕ) (x : ℕ) (q : Li
   pub grows : lines R (p ++ (x ∷ (q ++ d ∷ []))) ≡ lines R p ++ all_do.lines
   grows = search (arith, all_octets, paid, started, append_assoc)
 
-  -- the correspondent is told nothing
+  -- the correspondent is told nothing of these octets
   pub tells_none : AreUntold C (header_ends_from R p (x ∷ (q ++ d ∷ [])))
   unfolding header_ends_from
   tells_none =
@@ -301,7 +302,7 @@ module _ (C : Table) (l : Answers) (most : ℕ) (p : List ℕ) (x : ℕ) (q : Li
       (fragment_untold C (message_key first) ((tracked_after R p₁).known first.number)
       (q ++ d ∷ []) (fragment_is header fragment).1)
 
--- ---- By the fields.
+-- ---- From the fields.
 
 module _ (C : Table) (l : Answers) (most : ℕ) (s : State) (reached : IsReached C l most s)
     (m : FramingView) (h : Shows C l m s)
@@ -330,7 +331,7 @@ module _ (C : Table) (l : Answers) (most : ℕ) (s : State) (reached : IsReached
   pub all_come : m.totals.octets ≡ length p
   all_come = search (arith, all_read)
 
-  -- the octets of the request id before the last one, and that
+  -- the octets of the request id before the last one, and the last one
   pub parts : (q : List ℕ) × ((d : ℕ) × (is.id ≡ q ++ d ∷ []))
   parts = search (arith, octets_are)
 

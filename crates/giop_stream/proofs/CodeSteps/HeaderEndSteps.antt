@@ -54,7 +54,7 @@ pub positive : (n : ℕ) → (n ≡ 0 → ⊥) → 0 < n
 positive zero f = absurd (f refl)
 positive (suc n) f = omega arith
 
--- ---- ends of which the correspondent is told nothing
+-- ---- header ends, if the correspondent is told nothing of them
 
 abbrev pub AreUntold : Table → List HeaderEnd → Type 0
 AreUntold C = Each (λ e. call_event C e ≡ None)
@@ -72,14 +72,16 @@ untold_ends notified C st (e ∷ es) h =
 
 -- ---- one message
 
--- what holds of no ends holds of a message that is over
+-- if a message is over, none of its headers ends; so what holds of no header ends holds of its
+-- header ends
 pub none_ends : (P : (List ℕ → List HeaderEnd) → Type 0) (C : Table) (a : Answers) (w : MessageKey)
     (o : Option (List ℕ)) → RepresentsMessage C a None w o → P (λ octets. []) →
     P (run_header_ends w o)
 none_ends P C a w None k f = f
 none_ends P C a w (Some s) k f = absurd k
 
--- and what holds of those of a message that follows octets holds of it
+-- if a message follows octets, what holds of the header ends after those octets holds of its header
+-- ends
 pub given_ends : (P : (List ℕ → List HeaderEnd) → Type 0) (C : Table) (a : Answers)
     (m : CodeMessage) (w : MessageKey) (o : Option (List ℕ)) → RepresentsMessage C a (Some m) w o →
     ((s : List ℕ) → o ≡ Some s → Follows C a w.number w.header m s →
@@ -89,7 +91,7 @@ given_ends P C a m w None k f = absurd k
 
 -- ---- the owner of the octets
 
--- what holds of its ends holds of theirs
+-- what holds of the header ends of the owner of the octets holds of the octets' header ends
 module _ (P : (List ℕ → List HeaderEnd) → Type 0) (C : Table) (a : Answers) (s : Slots)
     (c : Tracked) (who : Option MessageKey) (h : SlotsRepresent C a s c who) where
   pub own_ends : (m : Option CodeMessage) → IsItself s.owner m →
@@ -116,7 +118,7 @@ unfolding header_ends_at
 at_free R p x free room = search (arith, lt-ltb)
 
 module _ (C : Table) (a : Answers) where
-  -- the message is over where an octet faults it
+  -- if an octet faults the message, the message is over
   faulted_over : (w : MessageKey) (s : List ℕ) (x : ℕ) → Faulty C a w s x ≡ true
       → is_over (stage_of (message (signatures_of C (a w.number)) w.header (s ++ x ∷ []))) ≡ true
   faulted_over w s x e = search (arith, over_stays, octet_over)
@@ -156,14 +158,14 @@ module _ (C : Table) (a : Answers) where
       (ap (λ o. run_header_ends w o q) (sym (own_then (message_reader C a) c
       (event at w (Takes x)))))
 
-  -- of an octet of this message
+  -- which headers end in an octet of this message
   ends_here : (R : Rules) (p : List ℕ) (m : Message) (x : ℕ) → (cut p).stop ≡ None →
       (cut p).current ≡ Some m → length p < limit
       → header_ends_at R p x ≡ owner_header_ends (tracked_after R p)
       (owner_of_next (open_after R.most p) m) (x ∷ [])
   ends_here R p m x free current room = search (arith, at_free)
 
-  -- octets that only add to contents, one after the other, and one more
+  -- which headers end in octets that only add to contents, and in one more octet
   pub run_from : (most : ℕ) (q p : List ℕ) (m : Message) (x : ℕ) → Within p m (length q) →
       length p + length q < limit
       → owner_header_ends (tracked_after (rules_by C a most) p)
@@ -216,7 +218,7 @@ pub from_one : (R : Rules) (p : List ℕ) (x : ℕ) →
 unfolding header_ends_from
 from_one R p x = search (arith, append-nil)
 
--- ---- octets of a header that they do not complete
+-- ---- octets of a header that they don't complete
 
 pub record Heads (p : List ℕ) (n : ℕ) : Type 0 where
   pub no_current : (cut p).current ≡ None
@@ -266,7 +268,7 @@ heads_none R xs p none few = all xs p (record { no_current = none; few = few })
     all (y ∷ ys) q h = rw (at_none R q y h.no_current)
         (all ys (q ++ y ∷ []) (heads_on q y (length ys) h))
 
--- ---- events of one part, and of another after it
+-- ---- the events of one part, and of another part after it
 
 module _ {St : Type 0} (answer : St → Answer) (notified : St → CallEvent → St) (C : Table)
     (a : Answers) (st : St) where
@@ -284,13 +286,13 @@ module _ {St : Type 0} (answer : St → Answer) (notified : St → CallEvent →
       → later ≡ after_ends notified C st (es ++ fs)
   told_after now later es fs told more = search (arith, told_both)
 
--- a request list answers each message, and no event changes it
+-- a request list gives the operations of each message, and no event changes it
 pub list_answers : (C : Table) (l : RequestTable) (es : List HeaderEnd)
     → AgreesAtEnds (λ (k : RequestTable) id. kept_operation k id) (λ k t. k) C l (by_list l) es
 list_answers C l [] = tt
 list_answers C l (e ∷ es) = search (arith, list_answers C l es)
 
--- ---- by the fields
+-- ---- from the fields
 
 pub any_ok : {A E : Type 0} {P : A → Type 0} (r : Result A E) → ((x : A) → P x) → IfOk r P
 any_ok (Ok x) f = f x
@@ -318,11 +320,11 @@ module _ {St : Type 0} (notified : St → CallEvent → St) (C : Table) (a : Ans
     told_limit full = same_by (at_limit R r.stream x
         (omega (arith, full, all_read C a most s r m h free)))
 
-    -- a header that is not whole
+    -- an octet of an incomplete header: the correspondent's state stays
     pub told_heads : length m.header < 12 → Same
     told_heads few = search (arith, same_by, at_none, no_current)
 
-    -- an octet of a payload
+    -- an octet of a payload: the headers that end in it are those of the current message's octet
     pub at_payload : m.totals.octets < 2 ^ 48 →
         header_ends_at R r.stream x ≡ current_header_ends R r.stream (cut r.stream).current (x ∷ [])
     unfolding limit
@@ -330,7 +332,7 @@ module _ {St : Type 0} (notified : St → CallEvent → St) (C : Table) (a : Ans
         at_free R r.stream x (runs_on C a most s r m h free)
         (omega (arith, room, all_read C a most s r m h free))
 
--- octets of a header that only add to it
+-- no header ends in octets of a header that they don't complete
 pub told_ahead : (C : Table) (a : Answers) (most : ℕ) (s : State) (r : IsReached C a most s)
     (m : FramingView) (h : Shows C a m s) (xs : List ℕ)
     → m.stopped ≡ None → length m.header + length xs < 12 →
@@ -341,7 +343,7 @@ told_ahead C a most s r m h xs free few =
     ∙ ap (λ (o : Option Message). header_of o (cut r.stream).held) none in
     heads_none (rules_by C a most) xs r.stream none (omega (arith, few, ap length held))
 
--- octets of a payload
+-- the headers that end in octets of a payload are those of the current message's octets
 pub told_run : (C : Table) (a : Answers) (most : ℕ) (s : State) (r : IsReached C a most s)
     (m : FramingView) (h : Shows C a m s)
     (free : m.stopped ≡ None) (full : length m.header ≡ 12) (octets : List ℕ)

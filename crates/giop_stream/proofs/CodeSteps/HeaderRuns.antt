@@ -1,5 +1,5 @@
--- A run of header octets before the last one, taken at once: the code does their steps, and writes
--- nothing.
+-- A run of header octets before the header's last one, taken at once: the code does their steps,
+-- and writes nothing.
 use Rattle.std.proofs.Common.{◌≡◌, ℕ, ◌+◌, ◌^◌, ◌<◌, ◌≤◌, List, [], ◌∷◌, ◌++◌, length, take, refl, sym, ap, subst, ◌∙◌, append_assoc, append-nil, None, arith}
 use Rattle.std.proofs.lemmas.List.{length_push}
 use Rattle.giop_sig.specs.Table.{Table}
@@ -13,7 +13,7 @@ use Rattle.giop_stream.specs.FramingSteps as steps
 use Rattle.giop_stream.specs.ViewOfState.{Shows}
 use Rattle.giop_stream.proofs.CodeSteps.OutsideMessages.{held_step, held_shows}
 
--- None of these octets is wrong after this front of a header.
+-- After this front of a header, none of these octets is wrong.
 abbrev pub AreRight : List ℕ → List ℕ → Type 0
 AreRight front octets = (k : ℕ) → k < length octets → wrong (front ++ take (k + 1) octets) ≡ None
 
@@ -31,7 +31,7 @@ right_more front x xs h =
     ∙ ap (λ (z : List ℕ). front ++ z) (sym (take_more (k + 1) x xs)))
     ∙ h (k + 1) (omega (arith, less))
 
--- the fields with these octets added
+-- the fields after these octets were added to the header
 abbrev pub held_all : FramingView → List ℕ → FramingView
 held_all m xs = record m {
   totals = record m.totals { octets = m.totals.octets + length xs };
@@ -46,7 +46,7 @@ held_more : (m : FramingView) (x : ℕ) (xs : List ℕ) →
 unfolding steps.held_on
 held_more m x xs = search (arith, append_assoc)
 
--- they fit into the header that is held, and into the stream's limit
+-- the octets leave the header incomplete, and are within the stream's limit
 pub record Fit (m : FramingView) (xs : List ℕ) : Type 0 where
   pub free : m.stopped ≡ None
   pub few : length m.header + length xs < 12

@@ -1,4 +1,4 @@
--- How many octets a message lacks, by what the code keeps of a stream.
+-- How many octets a message lacks, from what the code keeps of a stream.
 use Rattle.std.proofs.Common.{◌≡◌, ℕ, ◌<◌, ◌≤◌, true, false, List, [], ◌∷◌, length, Option, Some, None, is_some, refl, sym, ap, ◌∙◌, arith, true≢false}
 use Rattle.std.specs.Prelude.{IfSome, ◌-◌}
 use Rattle.giop_sig.specs.Table.{Table}
@@ -47,7 +47,7 @@ twelve_of (Some m) n k h = h.twelve
 
 module _ (C : Table) (l : Answers) (most : ℕ) (s : State) (reached : IsReached C l most s)
     (m : FramingView) (h : Shows C l m s) where
-  -- after a stream fault it isn't known
+  -- after a stream fault, how many octets are lacking isn't known
   pub stopped_lacks : is_some m.stopped ≡ true → lacking (cut reached.stream) ≡ None
   unfolding state_of
   stopped_lacks is =
@@ -80,12 +80,12 @@ module _ (C : Table) (l : Answers) (most : ℕ) (s : State) (reached : IsReached
     between_lacks none = by_run (Some 0) (between k.current k.held twelve
         (omega (arith, none, ap length head)))
 
-    -- within a header it isn't known
+    -- within a header, how many octets are lacking isn't known
     pub within_lacks : 0 < length m.header → length m.header < 12 → lacking k ≡ None
     within_lacks some few = by_run None (within k.current k.held twelve
         (omega (arith, some, ap length head)) (omega (arith, few, ap length head)))
 
-    -- in a payload it is the rest of it
+    -- in a payload, the rest of the payload is lacking
     pub payload_lacks : length m.header ≡ 12 → lacking k ≡ Some (size m.header - m.payload_count)
     payload_lacks full =
         by_run (Some (size (header_of k.current k.held) - payload_count_of k.current))

@@ -21,7 +21,7 @@ use Rattle.giop_stream.specs.ViewOfState.{Shows, Does}
 use Rattle.giop_stream.proofs.Cuts.Cutting.{of_parts}
 use Rattle.giop_stream.proofs.Cuts.CutFrom.{end_message}
 
--- ---- A call does a step: by the lines and the state of the longer stream.
+-- ---- A call does a step, if it writes the lines of the longer stream and leaves its state.
 
 pub does_by : {A E : Type 0} (C : Table) (l : Answers) (most : ℕ) (p q : List ℕ) (one : Step)
     (ls : List Line) (result : Result A E) (before after : OutLog) (f : FramingView)
@@ -34,7 +34,7 @@ does_by C l most p q one ls result before after f state more grows text shows = 
   append_cancel_left,
 )
 
--- where a put failed nothing is claimed of the fields
+-- if a put failed, nothing is said of the fields
 pub on_err : {A E : Type 0} (P : Type 0) (r : Result A E) → IsErr r → OnOk r P
 on_err P (Ok x) h = absurd (false≢true h)
 on_err P (Err e) h = tt

@@ -1,4 +1,4 @@
--- An octet of a message: where the fields show the state of a stream, the code does the step.
+-- An octet of a message: if the fields show the state of a stream, the code does the step.
 use Rattle.std.proofs.Common.{inl, inr, ◌≡◌, ℕ, suc, ◌+◌, ◌^◌, ◌<◌, ◌≤◌, List, [], ◌∷◌, ◌++◌, length, refl, sym, ap, subst, ◌∙◌, append-nil, Option, Some, None, Result, arith}
 use Rattle.std.specs.Prelude.{OnOk, IfSome, ◌-◌, nat_lt, if◌then◌else◌}
 use Rattle.std.proofs.lemmas.Bool.{cases_lt, lt-ltb, le-ltb, eq-eqb, ne_eqb}
@@ -45,9 +45,9 @@ use Rattle.giop_stream.proofs.CodeSteps.EngineLaws.{step_state, step_lines, run_
 use Rattle.giop_stream.proofs.CodeSteps.OutsideMessages.{within_limit}
 use Rattle.giop_stream.proofs.CodeSteps.MessageEnds.{does_by, settled_on, settled_off, goes_on, goes_off, none_stops}
 
--- ---- States that a stream reaches.
+-- ---- States that a stream can reach.
 
--- with more octets
+-- a state that a stream reaches with more octets
 abbrev pub reached_on : (C : Table) (l : Answers) (most : ℕ) (s : State) (q : List ℕ) →
     AreOctets q → IsReached C l most s → IsReached C l most (run_state (rules_by C l most) s q)
 reached_on C l most s q octets r =
@@ -60,7 +60,7 @@ reached_on C l most s q octets r =
           r.stream q);
     }
 
--- with an equal limit of open messages
+-- the same state, with an equal limit of open messages
 abbrev pub reached_at : (C : Table) (l : Answers) (n most : ℕ) (s : State) → n ≡ most →
     IsReached C l n s → IsReached C l most s
 reached_at C l n most s same r = record {
@@ -69,7 +69,7 @@ reached_at C l n most s same r = record {
   held = r.held ∙ ap (λ (k : ℕ). state_of (rules_by C l k) r.stream) same;
 }
 
--- ---- How many payload octets were read, from how many are to come.
+-- ---- How many payload octets were read, if it is known how many are to come.
 
 come_by : (n : ℕ) (c : Cut) (current : Option Message) (held : List ℕ) →
     IfSome current (CurrentFits n c) → length held < 12
@@ -160,7 +160,7 @@ module _ (C : Table) (l : Answers) (most : ℕ) (s : State) (reached : IsReached
   pub at_p : Shows C l m (state_of R p)
   at_p = search (arith)
 
-  -- a call that writes the lines of the octet and leaves its state does the step,
+  -- a call that writes the lines of the octet and leaves its state does the step of the octet
   pub does_step : {A E : Type 0} (x : ℕ) (ls : List Line) (result : Result A E)
       (before after : OutLog) (f : FramingView)
       → lines R (p ++ x ∷ []) ≡ lines R p ++ ls → Writes result before after (lines_text ls)
@@ -175,7 +175,7 @@ module _ (C : Table) (l : Answers) (most : ℕ) (s : State) (reached : IsReached
     step_lines,
   )
 
-  -- and so for a run
+  -- a call that writes the lines of a run and leaves its state does the steps of the run
   pub does_run : {A E : Type 0} (q : List ℕ) (ls : List Line) (result : Result A E)
       (before after : OutLog) (f : FramingView)
       → lines R (p ++ q) ≡ lines R p ++ ls → Writes result before after (lines_text ls)
@@ -187,7 +187,7 @@ module _ (C : Table) (l : Answers) (most : ℕ) (s : State) (reached : IsReached
       (run_holds R causal (in_turn C l) p q)
       (run_lines R causal (in_turn C l) p q) grows text shows)
 
-  -- ---- What follows from the fields for the stream, where the reading goes on.
+  -- ---- What follows from the fields for the stream, if the reading goes on.
 
   module _ (free : m.stopped ≡ None) where
     pub runs_on : (cut p).stop ≡ None
@@ -218,7 +218,7 @@ module _ (C : Table) (l : Answers) (most : ℕ) (s : State) (reached : IsReached
     pub no_current : length m.header < 12 → (cut p).current ≡ None
     no_current few = search (arith, if_some, fits_at, header_at)
 
-    -- a complete header is the current message's
+    -- a complete header is the header of the current message
     pub has_current : length m.header ≡ 12 → (c : Message) × ((cut p).current ≡ Some c)
     has_current full = search (arith, header_at, fits_at)
 
@@ -273,7 +273,7 @@ module _ (C : Table) (l : Answers) (most : ℕ) (s : State) (reached : IsReached
     abbrev pub first : Message
     first = beginner (cut p).whole (suc (length p)) ((cut p).held ++ x ∷ [])
 
-    -- what it does
+    -- the effect of the header's last octet
     abbrev pub beginning : Effect
     beginning = effect_of C l most p first
 
@@ -363,6 +363,6 @@ module _ (C : Table) (l : Answers) (most : ℕ) (s : State) (reached : IsReached
     right = if_some (λ c. AreOctets c.header × (first_wrong_octet c.header ≡ None)) (cut p).current
         c cur (header_octets p reached.octets)
 
-    -- the number of its octets fits the counter
+    -- the size of its payload is below 2^32
     pub size_few : size m.header < 2 ^ 32
     size_few = search (arith, header_is, size_fits, right, current_fits)

@@ -1,5 +1,5 @@
--- The state of a stream, part by part; from it follows what the next octet is, and what events that
--- octet has.
+-- The state of a stream, part by part. It says what the next octet is, and which events that octet
+-- has.
 use Rattle.std.proofs.Common.{inl, inr, ◌⊎◌, ◌≡◌, ℕ, suc, ◌-◌, ◌<◌, ◌≤◌, true, List, [], ◌∷◌, ◌++◌, length, get_or, take, refl, ap, ◌∙◌, Option, Some, None, arith}
 use Rattle.std.specs.Prelude.{◌==◌, IfSome}
 use Rattle.std.proofs.lemmas.Bool.{lt-ltb, ne_eqb, le-leb}
@@ -147,7 +147,7 @@ module _ (R : Rules) (p : List ℕ) (x : ℕ) where
 
 -- ---- An octet of a message: its events, from the state.
 
--- what the state gives of the message m, at its octet
+-- what the state shows of the message m at its octet
 pub record Shows (R : Rules) (p : List ℕ) (m : Message) : Type 0 where
   pub name_is : length m.payload ≡ 4 → has_name m.header ≡ true →
       id_of (state_of R p) (now_of m) ≡ id m

@@ -1,5 +1,5 @@
--- A stream with one more octet, in each case: its cut, its lines, what is tracked of its messages,
--- and that the invariants stay.
+-- A stream with one more octet, in each case: its cut, its lines, and what is tracked of its
+-- messages; the invariants stay.
 use native.Mathlib.Nat.{le_of_eq}
 use Rattle.std.proofs.Common.{inl, inr, ◌⊎◌, ◌≡◌, ℕ, suc, ◌+◌, ◌-◌, ◌<◌, ◌≤◌, Bool, true, false, List, [], ◌∷◌, ◌++◌, length, get_or, refl, sym, ap, subst, ◌∙◌, Option, Some, None, arith}
 use Rattle.std.specs.Prelude.{nat_lt, ◌==◌}
@@ -44,7 +44,7 @@ pub record Adds (R : Rules) (p p' : List ℕ) (c : Cut) (ls : List Line) (tracke
     pub tracked_after : tracked_after R p' ≡ tracked
     pub sound : IsSound R p'
 
--- an octet of the message m: its header's last one, or one more of its payload
+-- an octet of the message m: the last one of its header, or one of its payload
 pub record IsOf (R : Rules) (p : List ℕ) (x : ℕ) (now : Now) : Type 0 where
   pub m : Message
   pub is_now : now_of m ≡ now
@@ -79,7 +79,7 @@ Then R p x (Held front) = ((cut p).stop ≡ None) × ((cut p).current ≡ None)
     × Adds R p (p ++ x ∷ []) (of_parts (cut p).whole None front None) [] (tracked_after R p)
 Then R p x (Of now) = ((cut p).stop ≡ None) × IsOf R p x now
 
--- ---- What the next octet is, by the parts of the cut.
+-- ---- What the next octet is, from the parts of the cut.
 
 pub octet_limit : (held : List ℕ) (number n payload_count x : ℕ) → nat_lt limit (suc n) ≡ true →
     octet_in None held number n payload_count x ≡ Ends StreamLimit
@@ -144,7 +144,7 @@ module _ (R : Rules) (causal : IsCausal R.reading) (laws : IsStreamable R.readin
   len : length (p ++ x ∷ []) ≡ suc (length p)
   len = search (arith, length_push)
 
-  -- where the octet is of no message
+  -- the octet is one of no message
   idle : (c : Cut) (ls : List Line) → cut (p ++ x ∷ []) ≡ c → messages c ≡ messages (cut p)
       → lines_of_messages R p ++ stop_line c.stop ≡ lines R p ++ ls → start_count ls ≡ 0 →
       Each (λ l. l.place ≡ suc (length p)) ls → Rises ls
@@ -162,7 +162,7 @@ module _ (R : Rules) (causal : IsCausal R.reading) (laws : IsStreamable R.readin
     quiet_sound,
   )
 
-  -- where it is of the message m
+  -- the octet is one of the message m
   deals : (m : Message) (whole : List Message) → cut (p ++ x ∷ []) ≡ end_message whole m
       → events R.most (p ++ x ∷ []) ≡ events R.most p
       ++ events_of_octet R.most (open_after R.most p) m → place m ≡ suc (length p) →
@@ -474,7 +474,7 @@ module _ (R : Rules) (causal : IsCausal R.reading) (laws : IsStreamable R.readin
   then_is = then_by (cut p).whole (cut p).current (cut p).held (cut p).stop refl
       (nat_lt limit (suc (length p))) refl
 
-  -- an octet of the current message's payload, and the last one of a header
+  -- an octet of the current message's payload, and the last octet of a header
   pub paid_is : (was : Message) → (cut p).stop ≡ None → (cut p).current ≡ Some was →
       nat_lt limit (suc (length p)) ≡ false
       → Adds R p (p ++ x ∷ []) (end_message (cut p).whole (with_octet was x))

@@ -1,5 +1,5 @@
--- An octet outside of messages (of an incomplete header, past the limit, or after a stream fault):
--- the code does the step.
+-- An octet outside of messages: in an incomplete header, past the limit, or after a stream fault.
+-- The code does its step.
 use Rattle.std.proofs.Common.{◌≡◌, ℕ, suc, ◌+◌, ◌^◌, ◌<◌, ◌≤◌, true, false, List, [], ◌∷◌, ◌++◌, length, refl, append-nil, Option, Some, None, arith}
 use Rattle.std.specs.Prelude.{nat_lt, is_some}
 use Rattle.std.proofs.lemmas.Bool.{cases_eq, lt-ltb, le-ltb, ne_eqb, false≢true}
@@ -37,7 +37,7 @@ pub none_by : (o : Option StreamFault) → is_some o ≡ false → o ≡ None
 none_by None e = refl
 none_by (Some fault) e = absurd cc
 
--- the slots stay ready where the reading ends
+-- if the reading ends, the slots stay ready
 pub ready_stopped : (C : Table) (m m' : FramingView) (fault : StreamFault) (place : ℕ) →
     m' ≡ steps.stop m fault place
     → AreReady C (place + 1) m.slots → AreReady C (m'.totals.octets + 1) m'.slots
@@ -67,26 +67,26 @@ module _ (C : Table) (l : Answers) (most : ℕ) (m : FramingView) (s : State) (h
     octets_are : m.totals.octets ≡ s.totals.octets
     octets_are = search (arith)
 
-    -- after the stream fault
+    -- an octet after the stream fault
     pub behind_step : (x : ℕ) → is_some m.stopped ≡ true →
         step R s x ≡ record { state = s; lines = [] }
     unfolding step octet_at octet_in
     behind_step x over = search (arith, false≢true)
 
-    -- the octet past the limit
+    -- an octet past the limit
     pub limit_step : (x : ℕ) → m.stopped ≡ None → 2 ^ 48 ≤ m.totals.octets →
         step R s x ≡ ended s StreamLimit
     unfolding step octet_at
     limit_step x free full = search (arith, octet_limit, past_limit, octets_are)
 
-    -- ---- Where the reading ends.
+    -- ---- The reading ends.
 
     pub ended_text : (fault : StreamFault) →
         stop_text fault (m.totals.octets + 1) ≡ lines_text (ended s fault).lines
     unfolding ended lines_text stop_line
     ended_text fault = search (arith, octets_are, append-nil)
 
-    -- whatever header octets were held
+    -- the fields show the end of the reading, whatever header octets were held
     pub ended_shows : (fault : StreamFault) (b : FramingView) →
         b.totals.messages ≡ m.totals.messages
         → b.totals.faults ≡ m.totals.faults → b.slots ≡ m.slots

@@ -1,4 +1,5 @@
--- What a call does to the message that octets belong to, by what it took of that message's octets.
+-- What a call does to the message to which octets belong, if it is known which of that message's
+-- octets it took.
 use Rattle.std.proofs.Common.{◌≡◌, Result, Ok, Err, IsErr, ℕ, ◌<◌, ◌≤◌, ◌⊎◌, inl, inr, Bool, true, false, List, [], ◌++◌, length, take, Option, Some, None, refl, sym, ap, subst, ◌∙◌, take_all, arith}
 use Rattle.std.specs.Prelude.{IfOk}
 use Rattle.std.proofs.lemmas.Bool.{cases_lt, false≢true}
@@ -22,7 +23,7 @@ use Rattle.giop_stream.specs.HeaderEndsOfStream.{run_header_ends}
 use Rattle.giop_stream.proofs.SlotSteps.Performing.{does_nothing, failed}
 use Rattle.giop_stream.proofs.CodeSteps.Runs.{DueOf, none_run, given_text, given_on, given_over}
 
--- nothing is said of the result of a call that failed
+-- if a call failed, nothing is said of its result
 pub if_err : {A E : Type 0} (P : A → Type 0) (r : Result A E) → IsErr r → IfOk r P
 if_err P (Ok x) e = absurd (false≢true e)
 if_err P (Err e) failed = tt
@@ -34,7 +35,7 @@ module _ (C : Table) (l : Answers) (w : MessageKey) (before : ℕ) (octets : Lis
   abbrev Ends : List ℕ → List ℕ → List HeaderEnd
   Ends s = header_ends w.number w.header s
 
-  -- what holds of each list of octets that this message follows
+  -- P holds of each list of octets that this message follows
   abbrev Given : Message → Option (List ℕ) → (List ℕ → Type 0) → Type 0
   Given m o P = (s : List ℕ) → o ≡ Some s → Follows C l w.number w.header m s → P s
 
@@ -69,7 +70,7 @@ module _ (C : Table) (l : Answers) (w : MessageKey) (before : ℕ) (octets : Lis
         DueOf C l P m w (Some s) before xs
     due_of P s xs p z e f = let same : s ≡ z = cc in subst (λ q. P (Due q xs)) same p
 
-    -- a put failed at one of them
+    -- a put failed at one of the octets
     pub failed_takes : {A E A' E' : Type 0} (count faults : A → ℕ) (r : Result A E) → IsErr r →
         (message : Option Message) (Before : (List ℕ → List HeaderEnd) → List ℕ → Type 0)
         (count' : A' → ℕ) (r' : Result A' E') (o : Option (List ℕ)) →
@@ -92,7 +93,7 @@ module _ (C : Table) (l : Answers) (w : MessageKey) (before : ℕ) (octets : Lis
               (due_of (Writes r a b) s (take t.n octets) (writes_failed r a b _ is_err t.all)));
         }
 
-    -- none of them faults it
+    -- none of the octets faults the message
     pub on_takes : {E : Type 0} (m' : Message) (n : ℕ)
         (Before : (List ℕ → List HeaderEnd) → List ℕ → Type 0) (o : Option (List ℕ)) →
         RepresentsMessage C l (Some m) w o →
@@ -116,7 +117,7 @@ module _ (C : Table) (l : Answers) (w : MessageKey) (before : ℕ) (octets : Lis
               (subst (λ i. Wrote a b (Due s (take i octets))) (sym t.counted) t.all)) follows;
         }
 
-    -- One of them faults it: then it takes all of them.
+    -- One of the octets faults the message: then the message takes all of them.
     module _ {St : Type 0} (due : St → Bool) (notified : St → CallEvent → St) (st now : St) where
       module _ (s : List ℕ) (i : ℕ)
           (found : FaultedAt (signatures_of C (l w.number)) w.header s octets i) where

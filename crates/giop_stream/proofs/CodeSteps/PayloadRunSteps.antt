@@ -1,5 +1,5 @@
--- Runs of payload octets, of which at most the last one ends a request id or the message: the
--- stream with them, and that the code does their steps.
+-- Runs of payload octets; only the last one of a run may end a request id or the message. The
+-- stream with these octets, and that the code does their steps.
 use Rattle.std.proofs.Common.{◌≡◌, ◌≢◌, ℕ, suc, ◌+◌, ◌-◌, ◌^◌, ◌<◌, ◌≤◌, List, [], ◌∷◌, ◌++◌, length, take, get_or, refl, sym, ap, subst, ◌∙◌, append_assoc, append-nil, length-append, Option, Some, None, Result, Ok, Err, arith}
 use Rattle.std.specs.Prelude.{OnOk}
 use Rattle.std.specs.Result.{OkIff, result_unwrap_or}
@@ -43,7 +43,7 @@ use Rattle.giop_stream.proofs.CodeSteps.EngineAlive.{sound, alive}
 use Rattle.giop_stream.proofs.CodeSteps.MessageOctets.{does_run, runs_on, all_read, knows_at, faults_at, header_is, come_is, number_is, size_few, current_fits, right, effect_of, settled_shows}
 use Rattle.giop_stream.proofs.CodeSteps.MessageEnds.{goes_on}
 
--- ---- One of them.
+-- ---- One of the octets.
 
 -- The next n octets are payload of m, the current message: none of them is the last of its request
 -- id or of the message.
@@ -64,7 +64,7 @@ within_grows p m x n h =
     ∙ goes_on (cut p).whole (with_octet m x)
     (omega (arith, h.before_last, length_push m.payload x))))
 
--- the next one is not the last of the request id
+-- the next octet is not the last of the request id
 not_named : (p : List ℕ) (m : Message) (x n : ℕ) → Within p m (suc n) →
     length (m.payload ++ x ∷ []) ≢ 4
 not_named p m x n h e = search (arith, length_push)
@@ -86,14 +86,14 @@ within_on p m x n h =
       room = omega (arith, h.room, length_push p x);
     }
 
--- its only event is that a message takes it: the one that it belongs to,
+-- the octet's only event is that a message takes it
 comes_alone : (most : ℕ) (still_open : List Open) (m : Message) → 0 < length m.payload →
     length m.payload ≢ 4 → length m.payload < size m.header →
     events_of_octet most still_open m ≡ events_at_octet still_open m
 unfolding events_of_octet
 comes_alone most still_open m some other less = search (arith, ne_eqb, append-nil)
 
--- and the next octet belongs to the same one
+-- the next octet belongs to the same message
 owner_on : (still_open : List Open) (m : Message) (x : ℕ) → length (m.payload ++ x ∷ []) ≢ 4 →
     owner_of_next still_open (with_octet m x) ≡ owner_of_next still_open m
 owner_on still_open m x other = search (arith, owner_elsewhere, ne_eqb, owner_next)
@@ -112,7 +112,7 @@ module _ (C : Table) (l : Answers) where
         ((sound (rules_by C l most) (is_causal (λ number. signatures_of C (l number))) (in_turn C l)
         p).fits h.free).current
 
-    -- the octet's effect on the message that it belongs to
+    -- the octet's effect on the message to which it belongs
     abbrev pub taken : Effect
     taken = effect_to C l (suc (length p)) (tracked_after (rules_by C l most) p)
         (owner_of_next (open_after most p) m) (Takes x)
@@ -154,7 +154,7 @@ module _ (C : Table) (l : Answers) where
         ap (λ (open' : List Open). owner_of_next open' (with_octet m x)) still_open
         ∙ owner_on (open_after most p) m x (not_named p m x n h)
 
--- fewer of them are payload too
+-- fewer than n octets are payload of m too
 pub within_less : (p : List ℕ) (m : Message) (k n : ℕ) → k ≤ n → Within p m n → Within p m k
 within_less p m k n less h = record {
   free = h.free;
@@ -164,7 +164,7 @@ within_less p m k n less h = record {
   room = omega (arith, less, h.room);
 }
 
--- and no message begins in them
+-- no message begins in these octets
 pub none_begin : (xs p : List ℕ) (m : Message) → Within p m (length xs) →
     length (messages (cut (p ++ xs))) ≡ length (messages (cut p))
 unfolding of_parts messages
@@ -185,9 +185,9 @@ none_begin (x ∷ xs) p m h =
       length_push (cut p).whole (with_octet m x),
     )
 
--- ---- All of them.
+-- ---- All of the octets.
 
--- the stream p with these octets, where m is its current message
+-- the stream p with these octets, if m is its current message
 pub record IsRun (C : Table) (l : Answers) (most : ℕ) (p : List ℕ) (m : Message) (q : List ℕ) : Type
     0 where
   pub within : Within (p ++ q) (with_payload m (m.payload ++ q)) 0
@@ -229,7 +229,7 @@ module _ (C : Table) (l : Answers) where
             (with_payload m (sym payload j))) ∙ (more.owner_of_next ∙ who);
       }
 
--- ---- What the fields show with them.
+-- ---- What the fields show after these octets.
 
 -- a number below 2 ^ 32 is converted as it is
 pub number_fits : {E : Type 0} (r : Result ℕ E) (n other : ℕ) → n < 2 ^ 32 →
@@ -237,14 +237,14 @@ pub number_fits : {E : Type 0} (r : Result ℕ E) (n other : ℕ) → n < 2 ^ 32
 number_fits (Ok k) n other less h = h.1
 number_fits (Err e) n other less h = absurd (h less)
 
--- the octets before the last one, and that one
+-- the octets before the last one, and the last one
 pub octets_are : (xs : List ℕ) → 0 < length xs → (q : List ℕ) × ((x : ℕ) × (xs ≡ q ++ x ∷ []))
 octets_are [] some = absurd (omega (arith, some))
 octets_are (x ∷ []) some = ([], (x, refl))
 octets_are (x ∷ y ∷ xs) some = let (q, (z, e)) = octets_are (y ∷ xs) (omega arith) in
     (x ∷ q, (z, ap (λ (zs : List ℕ). x ∷ zs) e))
 
--- before the last of these octets none is the message's last
+-- none of the octets before the last one is the message's last
 before_all : (q : List ℕ) (n payload_count most : ℕ) → n ≡ suc (length q) → payload_count < most →
     (1 < n → payload_count + n ≤ most)
     → payload_count + length q < most
@@ -301,7 +301,7 @@ module _ (C : Table) (l : Answers) (most : ℕ) (s : State) (reached : IsReached
     room = omega (arith, room, all, one_more);
   }
 
-  -- their number fits the counter
+  -- the number of payload octets with these is below 2^32
   pub run_fits : m.payload_count + length octets < 2 ^ 32
   run_fits = omega (arith, before_last, size_few C l most s reached m h free c current, one_more)
 
@@ -388,7 +388,7 @@ module _ (C : Table) (l : Answers) (most : ℕ) (s : State) (reached : IsReached
       last = subst (λ (t : Tracked). IsBeforeOctet t c' now x) (sym ran_then) before_x;
     }
 
-    -- ---- What they do.
+    -- ---- What these octets do.
 
     abbrev all_do : Effect
     all_do = octets_effect C l most (tracked_after R p) c now q x
@@ -448,7 +448,7 @@ module _ (C : Table) (l : Answers) (most : ℕ) (s : State) (reached : IsReached
         (subst (λ (t : Tracked). SlotsRepresent C l b.slots (x_does t).tracked
         (owner_after (x_does t).tracked.still_open n)) ran_then keeps))
 
--- ---- The first n of them, as many as are taken.
+-- ---- The first n of the octets, which are those that are taken.
 
 module _ (C : Table) (l : Answers) (most : ℕ) (s : State) (reached : IsReached C l most s)
     (m : FramingView) (h : Shows C l m s)
@@ -499,7 +499,7 @@ module _ (C : Table) (l : Answers) (most : ℕ) (s : State) (reached : IsReached
   taken_before = run_before C l most s reached m h free c current xs parts.0 parts.1.0 parts.1.1
       apart_then few_then room_then now known.0 known.1 place_is count_is
 
-  -- what they do
+  -- the effect of the octets that are taken
   abbrev pub taken_do : Effect
   taken_do = octets_effect C l most (tracked_after (rules_by C l most) reached.stream) c now parts.0
       parts.1.0

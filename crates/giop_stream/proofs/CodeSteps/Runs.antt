@@ -1,4 +1,5 @@
--- A message that takes a run of octets at once: the same lines and the same rest as octet by octet.
+-- A message that takes a run of octets at once: the lines and what is left are the same as octet by
+-- octet.
 use Rattle.std.proofs.Common.{◌≡◌, ℕ, suc, ◌+◌, Bool, true, false, List, [], ◌∷◌, ◌++◌, take, drop, refl, sym, ap, subst, ◌∙◌, append_assoc, append-nil, add-one, Option, Some, None, Result, Ok, arith}
 use Rattle.std.specs.Prelude.{if◌then◌else◌, slice_get, option_map}
 use Rattle.std.proofs.lemmas.List.{take-append-drop}
@@ -32,7 +33,7 @@ use Rattle.giop_stream.proofs.SlotSteps.ReadingEffects.{over_lines, over_then, t
 use Rattle.giop_stream.proofs.SlotSteps.Performing.{text_append, performs_on}
 use Rattle.giop_stream.proofs.SlotSteps.EventsOnSlots.{Alters, IsItself, still_takes, still_alters, no_key, own_effects, slot_effects, own_has, slot_has, own_kept, slot_kept}
 
--- what follows from what holds of the octets that a call took
+-- what follows from a property of the octets that a call took
 pub takes_weaker : {A E : Type 0} {count : A → ℕ} {before P Q : List ℕ → Type 0} {r : Result A E}
     {octets : List ℕ} → ((xs : List ℕ) → P xs → Q xs) → TakesFront count before P r octets →
     TakesFront count before Q r octets
@@ -45,7 +46,7 @@ takes_weaker f t = record {
   all = f (take t.n _) t.all;
 }
 
--- A message that is over stays so.
+-- A message that is over stays over.
 pub over_stays : (S : Signatures) (header s more : List ℕ) →
     is_over (stage_of (message S header s)) ≡ true
     → is_over (stage_of (message S header (s ++ more))) ≡ true
@@ -114,7 +115,7 @@ module _ (C : Table) (l : Answers) where
       rest ih true o = search (arith, then_is, none_run, text_over)
       rest ih false o = search (arith, then_is)
 
-  -- a message that is over after one octet is over after all of them
+  -- if a message is over after one octet, it is over after all of them
   over_with : (w : MessageKey) (s xs : List ℕ) (x : ℕ) → Over w (s ++ x ∷ []) ≡ true →
       Over w (s ++ x ∷ xs) ≡ true
   over_with w s xs x o = subst (λ (z : List ℕ). Over w z ≡ true) (append_assoc s (x ∷ []) xs)
@@ -180,7 +181,7 @@ module _ (C : Table) (l : Answers) where
                 (append_assoc s (x ∷ []) xs),
           ))
 
-  -- ---- A message of which the code keeps a value.
+  -- ---- A message, if the code keeps a value of it.
 
   -- P holds of the text that these octets add
   abbrev pub DueOf : (List ℕ → Type 0) → Message → MessageKey → Option (List ℕ) → ℕ → List ℕ →
@@ -208,7 +209,7 @@ module _ (C : Table) (l : Answers) where
   given_text P m w (Some s) before xs k f = search (arith, run_text, goes)
   given_text P m w None before xs k f = absurd k
 
-  -- where none of them faults it, and where one does
+  -- what the octets do if none of them faults the message, and if one does
   pub given_on : {E : Type 0} (m m' : Message) (w : MessageKey) (o : Option (List ℕ)) (before : ℕ)
       (xs : List ℕ) (n : ℕ) (a b : OutLog) → RepresentsMessage C l (Some m) w o →
       DueOf (Wrote a b) m w o before xs →
@@ -246,7 +247,7 @@ module _ (C : Table) (l : Answers) where
       }
   given_over m w None before xs i n a b k writes found = absurd k
 
-  -- ---- A run's effect on what is tracked: it changes one message alone.
+  -- ---- A run's effect on what is tracked: it changes only one message.
 
   run_alters : (w : MessageKey) (xs : List ℕ) (before : ℕ) (c : Tracked) →
       Alters c w (run_effect C l before c (Some w) xs) (run_part C l before w (c.known w.number) xs)
@@ -272,7 +273,7 @@ module _ (C : Table) (l : Answers) where
   nobody_run [] before c = refl
   nobody_run (x ∷ xs) before c = nobody_run xs (suc before) c
 
-  -- what the octets that are taken do to their owner, they do to what is tracked
+  -- what the octets that are taken do to their owner is what they do to the tracked messages
   module _ {A E : Type 0} (count faults : A → ℕ) (r : Result A E) (a b : OutLog) (s : Slots)
       (c : Tracked) (owner_of_next : Option MessageKey) (before : ℕ) (octets : List ℕ)
       (h : SlotsRepresent C l s c owner_of_next)
@@ -288,7 +289,7 @@ module _ (C : Table) (l : Answers) where
         TakesFront count (Before (owner_header_ends c who))
         (λ xs. DoesEffect C l faults r a b new (run_effect C l before c who xs) who) r octets
 
-    -- what becomes of a message that is over, or of none
+    -- the octets do nothing if their message is over or they belong to none
     none_runs : (of : PayloadOwner) (own' : Option Message) → IsItself of own' → (xs : List ℕ) →
         DoesPart C l faults r a b own' no_key (run_part C l before no_key None xs) →
         DoesEffect C l faults r a b (record { slots = s.slots; owner = of })

@@ -1,5 +1,6 @@
--- An event has the same lines, and a message that is kept is the same, by answers that agree for a
--- message or whose header has not ended; and what holds of each message.
+-- An event has the same lines, and the same is kept of its message, by two answers that agree for
+-- the message, or if its header has not ended. And what holds of each message holds of each
+-- event's.
 use Rattle.std.proofs.Common.{arith, ◌≡◌, ℕ, Bool, true, false, List, [], ◌∷◌, ◌++◌, map, flat_map, ◌⊎◌, Option, Some, None, refl, subst}
 use Rattle.std.specs.Prelude.{◌==◌, if◌then◌else◌, option_to_list}
 use Rattle.std.specs.List.{AllByRecursion as Each}
@@ -23,7 +24,7 @@ use Rattle.giop_stream.proofs.Cuts.Numbers.{header_of_number, own_header}
 use Rattle.giop_stream.proofs.Events.EventsOfOctet.{events_of_octet_each, opened_each}
 use Rattle.giop_stream.proofs.Events.EventsByEngine.{found_in}
 
--- one event, whose message has these octets in all
+-- one event, if the message has these octets in all
 pub tells_agree : (C : Table) (a b : Answers) (e : Event) (so_far later all : List ℕ)
     (what : EventKind) → all ≡ so_far ++ later
     → (a e.subject.number ≡ b e.subject.number) ⊎ (header_noted e.subject.header all ≡ None)
@@ -46,7 +47,7 @@ tells_agree C a b e so_far later all Closes split same = search (
 -- ---- the fields of an engine
 
 module _ (C : Table) (a b : Answers) where
-  -- for a message that is kept they agree, or its header has not ended
+  -- if octets are kept of a message, the answers agree for it, or its header has not ended
   abbrev pub IsSame : MessageKey → Option (List ℕ) → Type 0
   IsSame w None = Unit {0}
   IsSame w (Some xs) = (a w.number ≡ b w.number) ⊎ (header_noted w.header xs ≡ None)
@@ -85,7 +86,7 @@ each_parts P [] ys h = (tt, h)
 each_parts P (x ∷ xs) ys h = search (arith, each_parts P xs ys h.1)
 
 module _ (P : MessageKey → Type 0) (most : ℕ) where
-  -- the first event of a message is its own
+  -- the first event of a message is an event of the message itself
   first_own : (still_open : List Open) (m : Message) →
       Each (λ e. P e.subject) (events_of most still_open m) → P (message_key m)
   unfolding events_of events_of_octet header_events own with_payload fronts
@@ -137,7 +138,7 @@ of_owner P most p w owner h =
     go None own k = absurd cc
     go (Some m) own k = by m own.0 (has_named m) k
 
--- ---- What holds of each message holds of each event's.
+-- ---- What holds of each message holds of the message of each event.
 
 module _ (P : MessageKey → Type 0) (most : ℕ) where
   of_message : (still_open : List Open) (m : Message) → Each (λ o. P o.opener) still_open →
@@ -162,7 +163,7 @@ module _ (P : MessageKey → Type 0) (most : ℕ) where
       each_append (λ e. P e.subject) es _ first
       (of_messages (opened still_open es) ms (opened_each P still_open es openers first) own.1)
 
--- the events of a number have one header
+-- the events of one message number have one header
 pub one_header : (most : ℕ) (p : List ℕ) → Each
     (λ e. header_of_number (messages (cut p)) e.subject.number ≡ Some e.subject.header)
     (events most p)

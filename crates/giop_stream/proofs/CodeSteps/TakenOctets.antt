@@ -1,4 +1,5 @@
--- What is told of the first octets of a piece, by what is told of a payload's octets at its front.
+-- What is told of the first octets of a piece, if it is known what is told of the payload's octets
+-- at the front of the piece.
 use Rattle.std.proofs.Common.{◌≡◌, ℕ, zero, suc, ◌+◌, ◌-◌, ◌^◌, ◌<◌, ◌≤◌, Bool, true, false, List, [], ◌∷◌, ◌++◌, length, get_or, take, take-add, drop, append-nil, append_assoc, refl, sym, ap, subst, ◌∙◌, arith, None, Result}
 use Rattle.std.specs.Prelude.{IfOk}
 use Rattle.std.proofs.lemmas.Bool.{le-ltb}
@@ -20,12 +21,12 @@ use Rattle.giop_stream.proofs.CodeSteps.MessageOctets.{has_current}
 use Rattle.giop_stream.proofs.CodeSteps.PayloadRunSteps.{begins, within_less, none_begin, octets_are}
 use Rattle.giop_stream.proofs.CodeSteps.HeaderEndSteps.{AreUntold, untold_front, agrees_front, from_append, told_run}
 
--- the first of octets
+-- the first octet of octets
 pub first_alone : (octets : List ℕ) → 0 < length octets → take 1 octets ≡ get_or octets 0 0 ∷ []
 first_alone [] some = absurd (omega arith)
 first_alone (x ∷ xs) some = refl
 
--- the answers agree over the first of the octets
+-- if the answers agree over octets, they agree over the first n of them
 pub front_agrees : {St : Type 0} (answer : St → Answer) (notified : St → CallEvent → St)
     (C : Table) (a : Answers) (st : St) (R : Rules) (p octets : List ℕ) (n : ℕ) →
     AgreesAtEnds answer notified C st a (header_ends_from R p octets) →
@@ -36,7 +37,7 @@ front_agrees answer notified C a st R p octets n agrees =
     (ap (header_ends_from R p) (sym (take-append-drop n octets))
     ∙ from_append R (take n octets) p (drop n octets)) agrees
 
--- where nothing is told of octets, nothing is told of a front of them
+-- if nothing is told of octets, nothing is told of a front of them
 pub front_untold : (C : Table) (R : Rules) (p octets : List ℕ) (n : ℕ) →
     AreUntold C (header_ends_from R p octets) → AreUntold C (header_ends_from R p (take n octets))
 front_untold C R p octets n untold =
@@ -47,13 +48,13 @@ front_untold C R p octets n untold =
 
 -- ---- no message begins
 
--- in octets with which no more have begun
+-- no message begins in octets after which no more messages have begun
 pub none_in : (p xs : List ℕ) → length (messages (cut (p ++ xs))) ≡ length (messages (cut p)) →
     begins_in p xs ≡ false
 none_in p xs same = le-ltb (length (messages (cut p))) (length (messages (cut (p ++ xs))))
     (omega (arith, same))
 
--- nor in a front of them
+-- no message begins in a front of such octets
 pub none_before : (p octets : List ℕ) (k n : ℕ) → k ≤ n →
     length (messages (cut (p ++ take n octets))) ≡ length (messages (cut p)) →
     begins_in p (take k octets) ≡ false
@@ -101,7 +102,7 @@ module _ (C : Table) (a : Answers) (most : ℕ) (s : State) (r : IsReached C a m
   abbrev R : Rules
   R = rules_by C a most
 
-  -- the first k of a run of them
+  -- the headers that end in the first k octets of a run of payload octets
   pub run_front : (k : ℕ) → 0 < k → k ≤ run →
       current_header_ends R r.stream (cut r.stream).current (take k (take run octets))
       ≡ header_ends_from R r.stream (take k octets)
@@ -113,7 +114,7 @@ module _ (C : Table) (a : Answers) (most : ℕ) (s : State) (r : IsReached C a m
       (λ early. omega (arith, long, less, apart early)) (λ more. omega (arith, long, less, few))
       (omega (arith, long, less, room))
 
-  -- no message begins in fewer of them than there are
+  -- no message begins in the first k octets of a run, if k is less than the run's length
   run_begins : (k : ℕ) → k < run → begins_in r.stream (take k octets) ≡ false
   run_begins k less =
       let here = has_current C a most s r m h free full in

@@ -1,4 +1,4 @@
--- `cut_from`, which cuts the rest of a stream: with one more octet, and with more fuel.
+-- `cut_from`, which cuts the rest of a stream: its result with one more octet, and with more fuel.
 use Rattle.std.proofs.Common.{◌≡◌, ℕ, zero, suc, ◌+◌, ◌-◌, ◌<◌, ◌≤◌, Bool, true, false, List, [], ◌∷◌, ◌++◌, length, take, drop, refl, sym, ◌∙◌, Option, Some, None, arith, length-drop}
 use Rattle.std.specs.Prelude.{nat_lt, ◌==◌, if◌then◌else◌}
 use Rattle.std.proofs.lemmas.Bool.{lt-ltb, le-ltb, cases_lt, eq-eqb, ne_eqb}
@@ -9,7 +9,7 @@ use Rattle.giop_message.specs.Headers.{size}
 use Rattle.giop_stream.specs.Framing.{Message, with_payload, Cut, with_first, cut_from}
 use Rattle.giop_stream.proofs.Lists.{wrong_last, offence_stays, offence_comes}
 
--- the last message: among the whole ones if it has all its octets, else the current one
+-- the last message: among the complete ones if it has all its octets, else the current one
 unfoldable pub end_message : List Message → Message → Cut
 end_message whole m =
     if nat_lt (length m.payload) (size m.header)
@@ -159,7 +159,7 @@ cut_is fuel number before ys header payload t d e h k = search (
   done_is,
 )
 
--- The lemma at a stream that is longer by an octet, in each case.
+-- The lemma for a stream that is longer by an octet, in each case.
 Grows : ℕ → ℕ → ℕ → List ℕ → ℕ → Type 0
 Grows fuel number before xs x = cut_from fuel number before (xs ++ x ∷ [])
     ≡ grow number (suc (before + length xs)) x (cut_from fuel number before xs)
@@ -169,7 +169,7 @@ grows_wrong : (fuel number before : ℕ) (xs : List ℕ) (x : ℕ) (found : ℕ 
 unfolding Grows grow
 grows_wrong fuel number before xs x found e = search (arith, cut_wrong, wrong_kept)
 
--- inside a header
+-- the rest of the stream ends inside a header
 header_is : (fuel number before : ℕ) (xs : List ℕ) (x : ℕ) → length xs < 12 →
     first_wrong_octet (take 12 xs) ≡ None
     → (w : Option StreamFault) → wrong (xs ++ x ∷ []) ≡ w
@@ -218,7 +218,7 @@ grows_open fuel number before xs x e h k = search (
   length_push,
 )
 
--- with one more message in front
+-- the same with one more message before the others
 first_settles : (m : Message) (whole : List Message) (last : Message) →
     with_first m (end_message whole last) ≡ end_message (m ∷ whole) last
 unfolding with_first end_message
@@ -301,7 +301,7 @@ cut_from_grows (suc fuel) number before xs x h =
     grows_by fuel number before xs x h (λ n b ys k. cut_from_grows fuel n b ys x k)
     (first_wrong_octet (take 12 xs)) refl
 
--- More fuel than there are octets changes nothing.
+-- If there is more fuel than there are octets, still more fuel changes nothing.
 more_by : (fuel number before : ℕ) (xs : List ℕ) → length xs < suc fuel
     → ((number before : ℕ) (ys : List ℕ) → length ys < fuel
     → cut_from (suc fuel) number before ys ≡ cut_from fuel number before ys) →

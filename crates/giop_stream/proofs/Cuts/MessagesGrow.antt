@@ -1,4 +1,4 @@
--- More octets of a stream have as many messages begun, or more.
+-- If more octets come, as many messages of a stream have begun, or more.
 use Rattle.std.proofs.Common.{◌≡◌, ℕ, suc, ◌+◌, ◌-◌, ◌≤◌, Bool, true, false, List, [], ◌∷◌, ◌++◌, length, Option, Some, None, refl, ap, append-nil, append_assoc, length-append, arith}
 use Rattle.std.specs.Prelude.{◌==◌, nat_lt}
 use Rattle.std.proofs.lemmas.List.{length_push}

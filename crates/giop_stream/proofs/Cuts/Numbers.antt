@@ -1,4 +1,4 @@
--- The messages of a stream are numbered from 1, so that a number has one header.
+-- The messages of a stream are numbered from 1, so each number has one header.
 use Rattle.std.proofs.Common.{◌≡◌, ℕ, zero, suc, ◌+◌, ◌<◌, Bool, true, false, List, [], ◌∷◌, ◌++◌, length, take, drop, refl, sym, subst, Option, Some, None, arith}
 use Rattle.std.specs.Prelude.{nat_lt, ◌==◌, if◌then◌else◌, option_to_list}
 use Rattle.std.specs.List.{AllByRecursion as Each}
@@ -9,7 +9,7 @@ use Rattle.giop_stream.specs.HeaderOctets.{first_wrong_octet}
 use Rattle.giop_stream.specs.Framing.{Message, with_first, cut_from, limit, limited, cut, messages}
 use Rattle.giop_stream.proofs.Cuts.CutFrom.{cut_wrong, cut_short, cut_open, cut_more}
 
--- their numbers go on from this one
+-- the numbers of the messages are n, n + 1, and so on
 abbrev NumberedFrom : ℕ → List Message → Type 0
 NumberedFrom n [] = Unit {0}
 NumberedFrom n (m ∷ ms) = (m.number ≡ n) × NumberedFrom (suc n) ms
@@ -46,7 +46,7 @@ numbered p =
     subst (NumberedFrom 1) (sym (limited_same (nat_lt limit (length p)) c.whole c.current c.held
     c.stop)) (from_cut (suc (length p)) 1 0 (take limit p))
 
--- the header of the message of a number
+-- the header of the message that has a number
 pub header_of_number : List Message → ℕ → Option (List ℕ)
 header_of_number [] n = None
 header_of_number (m ∷ ms) n = if m.number == n then Some m.header else header_of_number ms n

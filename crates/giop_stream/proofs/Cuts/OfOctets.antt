@@ -1,4 +1,5 @@
--- The header of the current message has octets only, none of them wrong, and its size has 32 bits.
+-- The header of the current message consists of octets, and none of them is wrong; its size is
+-- below 2^32.
 use Rattle.std.proofs.Common.{inl, inr, ◌≡◌, ℕ, zero, suc, ◌+◌, ◌^◌, ◌<◌, Bool, true, false, List, length, take, drop, refl, Option, Some, None, arith, length-drop}
 use Rattle.std.specs.Prelude.{nat_lt, IfSome}
 use Rattle.std.proofs.lemmas.Bool.{cases_lt}
@@ -11,7 +12,7 @@ use Rattle.giop_stream.specs.HeaderOctets.{first_wrong_octet}
 use Rattle.giop_stream.specs.Framing.{Cut, with_first, cut_from, limit, stop_or_limit, limited, cut}
 use Rattle.giop_stream.proofs.Cuts.CutFrom.{cut_wrong, cut_short, cut_open, cut_more}
 
--- the header of the current message has octets only, none of them wrong
+-- the header of the current message consists of octets, and none of them is wrong
 abbrev pub HeaderOctets : Cut → Type 0
 HeaderOctets c = IfSome c.current (λ m. AreOctets m.header × (first_wrong_octet m.header ≡ None))
 

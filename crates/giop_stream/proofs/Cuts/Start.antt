@@ -1,4 +1,4 @@
--- The empty stream: its cut, events, lines and open messages, and that the invariants hold of it.
+-- The empty stream: its cut, events, lines and open messages; and the invariants hold of it.
 use Rattle.std.proofs.Common.{◌≡◌, ℕ, [], refl, ◌∙◌, Some, None, arith}
 use Rattle.giop_stream.specs.HeaderOctets.{fronts, wrong, first_wrong, first_wrong_octet}
 use Rattle.giop_stream.specs.Rules.{Rules}

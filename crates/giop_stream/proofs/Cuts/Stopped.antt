@@ -1,4 +1,4 @@
--- After a stream fault no octet adds a line or is counted.
+-- After a stream fault, no octet adds a line or is counted.
 use Rattle.std.proofs.Common.{◌≡◌, ℕ, List, [], ◌∷◌, ◌++◌, length, refl, ◌∙◌, sym, ap, append_assoc, Some, arith}
 use Rattle.std.proofs.lemmas.List.{append-nil, length_push}
 use Rattle.giop_checkpoint.specs.declared.fault.StreamFault.{StreamFault}
@@ -30,7 +30,7 @@ one_stays R causal p x found h =
     lines_stopped R p' (Some found) (ap (λ (c : Cut). c.stop) same ∙ h)
     ∙ (rw sd refl ∙ sym (lines_stopped R p (Some found) h))
 
--- the fault stays
+-- a stream fault stays
 stop_stays : (p q : List ℕ) (found : ℕ × StreamFault) → (cut p).stop ≡ Some found →
     (cut (p ++ q)).stop ≡ Some found
 stop_stays p [] found h = rw (append-nil p) h

@@ -1,5 +1,5 @@
--- The lines of a stream, the messages that are over and the octets kept of the others, after some
--- more events.
+-- After some more events: the lines of a stream, the messages that are over, and the octets kept of
+-- the others.
 use Rattle.std.proofs.Common.{arith, ◌≡◌, ℕ, suc, ◌+◌, ◌≤◌, Bool, true, false, List, [], ◌++◌, length, refl, ap, Option, Some, None, length-append}
 use Rattle.std.specs.Prelude.{if◌then◌else◌, ◌||◌, option_map}
 use Rattle.std.specs.List.{AllByRecursion as Each}
@@ -19,7 +19,7 @@ use Rattle.giop_stream.proofs.Lists.{any_append}
 use Rattle.giop_stream.proofs.Events.EventsOfOctet.{opened_append}
 use Rattle.giop_stream.proofs.StreamLines.LinesOfOctet.{joined_append, lines_so_far, lines_so_far_each, lines_by_past, lines_grow, in_order_grows, in_order_idle, standing_append, keeping, standing_all_lines}
 
--- After these events, from what holds before them.
+-- What holds after these events, if it is known what holds before them.
 line_places : (R : MessageReader) → IsCausal R → (es : List Event) (n : ℕ) →
     Each (λ e. e.place ≤ n) es → Each (λ l. l.place ≤ n) (lines_of_events R es [] es)
 line_places R causal es n h = rw (lines_by_past R causal es [] es refl)

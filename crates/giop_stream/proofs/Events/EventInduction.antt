@@ -1,5 +1,5 @@
--- Induction over the events of an octet after those of its first part: what holds of no events, of
--- each single event and of lists joined holds of all of them.
+-- Induction over the events of an octet after those of its first part: if something holds of no
+-- events, of each single event, and of two lists joined, it holds of all these events.
 use Rattle.std.proofs.Common.{arith, ℕ, Bool, true, false, List, [], ◌++◌, Option, Some, None}
 use Rattle.std.specs.Prelude.{◌==◌, if◌then◌else◌}
 use Rattle.giop_stream.specs.declared.fault.FramingFault.{FramingFault}
@@ -13,7 +13,7 @@ IsLater Begins = ⊥
 IsLater (Takes x) = ⊥
 IsLater _ = Unit {0}
 
--- Q holds of no events, and of two lists joined
+-- Q holds of no events, and of two lists that are joined
 pub record IsJoined (Q : List Event → Type 0) : Type 0 where
   pub none : Q []
   pub both : (es more : List Event) → Q es → Q more → Q (es ++ more)
@@ -28,7 +28,7 @@ pub of_header : (Q : List Event → Type 0) → IsJoined Q → (now : Now) → Q
 unfolding header_events
 of_header Q j now begins h = search (arith)
 
--- Q holds of an event of the message itself, and of one of the open message
+-- Q holds of each later event of the message itself, and of each of the open message
 pub record HoldsOf (Q : List Event → Type 0) (now : Now) (other : Option Open) : Type 0 where
   pub mine : (what : EventKind) → IsLater what → Q (own now what)
   pub theirs : (what : EventKind) → IsLater what → Q (event_of_open now other what)

@@ -1,4 +1,5 @@
--- The events of an octet from the fields of an engine: the same as those from the message.
+-- The events of an octet, computed from the fields of an engine, are the same as those computed
+-- from the message.
 use Rattle.std.proofs.Common.{◌≡◌, ℕ, ◌<◌, Bool, true, false, List, [], ◌∷◌, refl, Option, Some, arith}
 use Rattle.std.specs.Prelude.{◌==◌, if◌then◌else◌, ◌||◌}
 use Rattle.std.specs.List.{find, AllByRecursion as Each}
@@ -48,7 +49,7 @@ module _ (most : ℕ) (still_open : List Open) (now : Now) (i j : ℕ) (o q : Op
       events_with_id most still_open now i o ≡ events_with_id most still_open now j q
   events_with_id_agree h k = search (arith, cases_eq, at_four, elsewhere)
 
--- ---- An open message is found by its number, as the numbers rise.
+-- ---- An open message is found by its number, since the numbers rise.
 
 pub found_in : (Q : Open → Type 0) (test : Open → Bool) (still_open : List Open) (o : Open) →
     Each Q still_open → find test still_open ≡ Some o → Q o

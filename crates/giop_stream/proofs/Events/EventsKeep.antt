@@ -11,7 +11,7 @@ use Rattle.giop_stream.specs.Events.{EventKind, Opens, Cancelled, Faults, Closes
 use Rattle.giop_stream.proofs.Lists.{each_append, each_filter}
 use Rattle.giop_stream.proofs.Events.EventsOfOctet.{opened_append, quiet_if, quiet_header, quiet_octet, quiet_continues, four}
 
--- ---- A property is kept if it passes to fewer open messages, and to one more where an opener
+-- ---- A property is kept if it passes to fewer open messages, and to one more when an opener
 -- becomes open.
 
 unfoldable pub opened_by : Message → Open
@@ -168,7 +168,7 @@ rising_events most still_open m r h =
           (record { id = id m; opener = message_key m }) q (h can.named);
     }) r
 
--- ---- They are not too many.
+-- ---- There are at most as many open messages as may be open.
 
 unfoldable pub IsFew : ℕ → List Open → Type 0
 IsFew most still_open = length still_open ≤ most
@@ -197,7 +197,7 @@ few_events most still_open m h = kept_events most (IsFew most) still_open m
           λ can q. few_push most still_open (opened_by m) can.room;
     }) h
 
--- ---- No two have the same request id.
+-- ---- No two open messages have the same request id.
 
 abbrev pub Differ : List Open → Type 0
 Differ [] = Unit {0}
@@ -243,7 +243,7 @@ differ_events most still_open m h =
           (record { id = id m; opener = message_key m }) q (none_found (id m) still_open can.none);
     }) h
 
--- ---- Each is an opener.
+-- ---- Each open message is an opener.
 
 unfoldable pub AreOpeners : List Open → Type 0
 AreOpeners still_open = Each (λ o. is_opener o.opener.header ≡ true) still_open

@@ -1,4 +1,4 @@
--- The events of a stream with one octet more, and the open messages after them.
+-- The events of a stream with one more octet, and the open messages after them.
 use Rattle.std.proofs.Common.{inl, inr, ◌⊎◌, ◌≡◌, ℕ, ◌<◌, ◌≤◌, Bool, true, false, not, List, [], ◌∷◌, ◌++◌, length, refl, sym, append_assoc, Option, Some, None, arith}
 use Rattle.std.specs.List.{find, AllByRecursion as Each}
 use Rattle.std.specs.Prelude.{◌==◌, if◌then◌else◌}
@@ -124,7 +124,8 @@ quiet_continues still_open now (Some o) = search (
   still_faulted,
 )
 
--- Before the last octet of a message, and before its id or in a Fragment, nothing changes.
+-- Before the last octet of a message, no message opens or closes, if its request id isn't complete
+-- or it is a Fragment.
 pub four : (most : ℕ) (still_open : List Open) (m : Message) → (length m.payload == 4) ≡ true
     → ((length m.payload < 4) ⊎ (is_fragment m.header ≡ true)) →
     opened still_open (events_at_request_id most still_open m) ≡ still_open
@@ -166,8 +167,8 @@ payload_run most still_open m =
     )
     (quiet_one most still_open (with_payload m (xs ++ x ∷ [])) h k))
 
--- The events of an octet are the same by the messages that were open before its message and by
--- those that are open now.
+-- The events of an octet are the same, whether they are computed from the messages that were open
+-- before its message or from those that are open now.
 free : (most : ℕ) (still_open other : List Open) (m : Message) → 4 < length m.payload →
     is_fragment m.header ≡ false → events_of_octet most still_open m ≡ events_of_octet most other m
 unfolding events_of_octet payload_events message_end_events goes_past
@@ -186,8 +187,8 @@ events_of_octet_same most still_open m xs x h = search (
   length_push,
 )
 
--- What holds of the events of the message itself and of each open message holds of all events of an
--- octet.
+-- If something holds of the events of the message itself and of each open message, it holds of all
+-- events of an octet.
 own_each : (P : Event → Type 0) (now : Now) (what : EventKind)
     → ((what : EventKind) → P (record { place = now.place; subject = now.subject; what = what })) →
     Each P (own now what)
@@ -265,7 +266,7 @@ events_of_octet_each most P still_open m h k =
     parts_each most P still_open (now_of m) (id m) (opener_of still_open m) h
     (found (About P (now_of m)) (λ o. o.id == id m) still_open k)
 
--- After a Fragment's request id no event has the Fragment for its subject.
+-- After a Fragment's request id, no event is one of the Fragment itself.
 module _ (most : ℕ) (P : Event → Type 0) (still_open : List Open) (now : Now) (id : ℕ)
     (other : Option Open)
     (f : is_fragment now.subject.header ≡ true) (past : 4 < now.payload_count)
@@ -303,7 +304,7 @@ events_of_octet_agree most P still_open m long h k = go (goes_past m) refl
     go false e = search (arith, parts_each, one)
     go true e = search (arith, and_parts, past_each, ltb-true, one)
 
--- a message before its id is complete
+-- a message before its request id is complete
 pub not_past : (m : Message) → has_named m ≡ false → goes_past m ≡ false
 unfolding has_named goes_past
 not_past m h = search (arith, leb-false, le-ltb)
@@ -313,8 +314,8 @@ pub not_named : (m : Message) (x : ℕ) → goes_past (with_payload m (m.payload
 unfolding has_named goes_past
 not_named m x h = search (arith, ltb-false, lt-leb, length_push)
 
--- What holds of the open messages and of the subjects of these events holds of the open messages
--- after them.
+-- If something holds of the open messages and of the subjects of these events, it holds of the open
+-- messages after them.
 changed_each : (P : MessageKey → Type 0) (still_open : List Open) (subject : MessageKey)
     (what : EventKind) → Each (λ o. P o.opener) still_open
     → P subject → Each (λ o. P o.opener) (changed still_open subject what)

@@ -1,5 +1,5 @@
--- How many faults a stream can have: each message one at most, and the stream itself one, a stream
--- fault or a truncated end.
+-- How many faults a stream can have: each message has at most one, and the stream itself has at
+-- most one: a stream fault or a truncated end.
 use Rattle.std.proofs.Common.{inl, inr, ◌≡◌, ℕ, zero, suc, ◌+◌, ◌<◌, ◌≤◌, Bool, true, false, List, [], ◌∷◌, ◌++◌, length, take, drop, refl, sym, ap, ◌∙◌, Option, Some, None, arith}
 use Rattle.std.specs.Prelude.{◌||◌, nat_lt, if◌then◌else◌, flat_map}
 use Rattle.std.specs.List.{AllByRecursion as Each}
@@ -75,7 +75,7 @@ numbered p = go (nat_lt limit (length p))
     go true = stopped whole.stop
     go false = all
 
--- ---- and so have the subjects of the events, and the lines.
+-- ---- The subjects of the events and the lines have such numbers too.
 
 module _ (most : ℕ) (P : ℕ → Type 0) where
   abbrev Named : List Event → Type 0
@@ -164,7 +164,7 @@ order_each P (suc n) ls h = search (
       ls h,
 )
 
--- ---- Each message that is not over has one fault more at most.
+-- ---- Each message that is not over can have one more fault.
 
 -- how many of the messages 1 to n are not over
 free : (ℕ → Bool) → ℕ → ℕ
@@ -187,7 +187,7 @@ module _ (f g : ℕ → Bool) (more : (i : ℕ) → f i ≡ true → g i ≡ tru
   fewer_free zero = omega arith
   fewer_free (suc n) = search (arith, one_fewer, fewer_free n)
 
-  -- fewer, where one of them is over that wasn't
+  -- the count is less, if one of the messages is over now that wasn't over before
   less_free : (k n : ℕ) → IsNumber n k → f k ≡ false → g k ≡ true → free g n < free f n
   unfolding free
   less_free k zero h e d = search (arith)
@@ -230,7 +230,7 @@ faults_free n over (l ∷ ls) h = go (over l.number) (is_fault l.content) refl r
         ))
     go false false e k ih = search (arith, fewer_free, more)
 
--- ---- Of a stream.
+-- ---- The bound for a stream.
 
 numbers : (p : List ℕ) → Each (λ m. IsNumber (length (messages (cut p))) m.number)
     (messages (cut p))

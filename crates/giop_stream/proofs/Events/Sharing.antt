@@ -1,4 +1,4 @@
--- The joined octets of a message, taken from the events, are its shares of the messages.
+-- The joined octets of a message, which are taken from the events, are its shares of the messages.
 use Rattle.std.proofs.Common.{◌≡◌, ℕ, ◌≤◌, Bool, true, false, List, [], ◌∷◌, ◌++◌, length, get_or, take, drop, refl, sym, ◌∙◌, append_assoc, Option, Some, None, arith}
 use Rattle.std.specs.Prelude.{◌==◌, if◌then◌else◌}
 use Rattle.std.proofs.lemmas.Bool.{lt-ltb, le-ltb, cases_lt, ne_eqb, eq-eqb}
@@ -56,7 +56,7 @@ silent_header i now =
     of_header (IsSilent i) (silent_both i) now (silent_own i now Begins refl)
     (λ fault. silent_own i now (Faults fault) refl)
 
--- One more octet of a message: what it gives to message i.
+-- What one more octet of a message gives to message i.
 events_of_octet_is : (most : ℕ) (i : ℕ) (still_open : List Open) (m : Message) (first : List Event)
     → (if length m.payload == 0 then events_at_header m else events_at_octet still_open m) ≡ first →
     joined i (events_of_octet most still_open m) ≡ joined i first

@@ -1,5 +1,5 @@
--- The invariants of a stream, kept by each octet: where its events are, how its messages are
--- numbered, which may be open, and what has come of the current one.
+-- The invariants of a stream, which each octet keeps: where its events are, how its messages are
+-- numbered, which messages may be open, and how many octets of the current message have come.
 use Rattle.std.proofs.Common.{◌≡◌, ℕ, suc, ◌+◌, ◌<◌, ◌≤◌, false, List, [], ◌∷◌, ◌++◌, length, refl, sym, ap, subst, ◌∙◌, append_assoc, Some, None, arith}
 use Rattle.std.specs.Prelude.{IfSome}
 use Rattle.std.specs.List.{list_any, AllByRecursion as Each}
@@ -37,7 +37,8 @@ pub record Fits (n : ℕ) (c : Cut) : Type 0 where
   pub held : length c.held ≤ n
   pub short : length c.held < 12
 
--- of the open messages: they are not too many, no two have the same id, and each is an opener
+-- the open messages: there are at most `most`, no two have the same request id, and each is an
+-- opener
 pub record AreSound (most : ℕ) (still_open : List Open) : Type 0 where
   pub few : IsFew most still_open
   pub differ : Differ still_open
@@ -169,7 +170,7 @@ dealt_sound R causal p p' whole m len ec ev pl nm twelve st more low starts grow
         → Each (λ l. P l.number) (sorted_lines R known es)
     now_each R P known es h = unfold sorted_lines in written_each R P known es h
 
--- The events and the open messages, where a message has one more octet.
+-- The events and the open messages after a message has one more octet.
 pub events_on : (most : ℕ) (whole : List Message) (m : Message) (x : ℕ) →
     length m.payload < size m.header
     → (let es = events_from most [] (whole ++ m ∷ []) in let m' =

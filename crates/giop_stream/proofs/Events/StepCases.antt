@@ -52,13 +52,13 @@ pub place_more : (m : Message) (x n : ℕ) → place m ≡ n →
 unfolding place
 place_more m x n h = search (arith, length_push)
 
--- a message of which the empty list is kept has no joined octets
+-- if the empty list is kept of a message, the message has no joined octets
 pub none_known : (R : Rules) (p : List ℕ) (i : ℕ) → octets_of R p i ≡ Some [] →
     joined i (events R.most p) ≡ []
 unfolding octets_of
 none_known R p i h = search (arith)
 
--- the last octet of a header
+-- the last octet of a header: the place of the message
 pub place_first : (n : ℕ) (m : Message) → m.before ≡ suc n - 12 → m.payload ≡ [] → 11 ≤ n →
     place m ≡ suc n
 unfolding place

@@ -1,5 +1,5 @@
--- The first messages (all but 1.2 Fragments) that are not over are the open ones and the current
--- one that are not over.
+-- The first messages (all except 1.2 Fragments) that are not over are the open ones and the current
+-- one, as far as these are not over.
 use Rattle.std.proofs.Common.{inl, inr, ◌⊎◌, ◌≡◌, ℕ, suc, ◌<◌, ◌≤◌, Bool, true, false, cond, not, List, [], ◌∷◌, ◌++◌, length, map, refl, sym, subst, ◌∙◌, Option, Some, None, arith}
 use Rattle.std.specs.Prelude.{if◌then◌else◌, ◌||◌, IfSome}
 use Rattle.std.specs.List.{filter, list_any, AllByRecursion as Each}
@@ -186,7 +186,7 @@ first_base : (over : ℕ → Bool) (still_open : List Open) (hs : List ℕ) (m :
 unfolding base tail_of head_of
 first_base over still_open hs m low h = search (arith, not_open, alive, numbers_of, alive_append)
 
--- what is needed of the message m that the octet belongs to
+-- what must hold of the message m to which the octet belongs
 record Ready (R : Rules) (p : List ℕ) (m : Message) : Type 0 where
   start : alive (is_over R p) (first_messages (cut p).whole ++ head_of m)
       ≡ alive (is_over R p) (base (open_after R.most p) m)

@@ -19,7 +19,7 @@ use Rattle.giop_stream.proofs.StreamLines.FirstMessages.{numbers_of, tail_of, al
 use Rattle.giop_stream.proofs.Events.EventsByEngine.{found_in}
 use Rattle.giop_stream.proofs.Events.UnfinishedAreOpen.{tail_now, alive_append, complete}
 
--- The numbers that an engine has at the finish are those of the unfinished messages.
+-- The message numbers that an engine has at the finish are those of the unfinished messages.
 one_left : (over : ℕ → Bool) (xs : OctetsByNumber) (i : ℕ) (rest : List ℕ) →
     ((i : ℕ) → over i ≡ true → xs i ≡ None)
     → ((i : ℕ) → over i ≡ false → (ys : List ℕ) × (xs i ≡ Some ys)) → (b : Bool) → over i ≡ b
@@ -53,7 +53,7 @@ unfolding is_open
 all_open [] = tt
 all_open (o ∷ still_open) = search (arith, eq-eqb, each_weaker, or_right, all_open still_open)
 
--- the owner of the next octets that isn't open is the current message
+-- if the owner of the next octets isn't open, it is the current message
 current_left : (over : ℕ → Bool) (c : Tracked) (current : Option Message)
     → ((i : ℕ) → over i ≡ true → c.known i ≡ None) →
     ((i : ℕ) → over i ≡ false → (ys : List ℕ) × (c.known i ≡ Some ys))

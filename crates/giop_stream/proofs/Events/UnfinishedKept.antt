@@ -1,5 +1,5 @@
--- Through the events of an octet the numbers of the open messages and the current one stay, but for
--- those that are over after it.
+-- Through the events of an octet, the numbers of the open messages and of the current one stay,
+-- except those of messages that are over after it.
 use Rattle.std.proofs.Common.{inl, inr, ◌⊎◌, ◌≡◌, ℕ, ◌<◌, ◌≤◌, Bool, true, false, List, [], ◌∷◌, ◌++◌, length, map, refl, ap, Option, Some, None, arith}
 use Rattle.std.specs.Prelude.{nat_le, ◌==◌, if◌then◌else◌}
 use Rattle.std.specs.List.{AllByRecursion as Each}
@@ -187,7 +187,7 @@ stays_events most over m still_open low d = search (
   stays_both,
 )
 
--- A first message (no 1.2 Fragment) is open or over once it has its last octet.
+-- When a first message (one that is no 1.2 Fragment) has its last octet, it is open or over.
 opener_kind : (h : List ℕ) → may_be_fragmented h ≡ true → (kind h == 7) ≡ false
 unfolding may_be_fragmented
 opener_kind h e = search (arith, ne_eqb)

@@ -1,5 +1,5 @@
--- The fields of any stream's engine are in the ranges of a checkpoint's fixed part, so that a load
--- takes them.
+-- The fields of any stream's engine are in the ranges of a checkpoint's fixed part, so a load takes
+-- them.
 use Rattle.std.proofs.Common.{◌≡◌, ℕ, ◌+◌, ◌*◌, ◌-◌, ◌^◌, ◌<◌, ◌≤◌, Bool, true, false, List, [], ◌∷◌, ◌++◌, length, refl, Option, Some, None, arith}
 use Rattle.std.specs.Prelude.{nat_lt, if◌then◌else◌}
 use Rattle.std.proofs.lemmas.Bool.{ltb-true, ltb-false}
@@ -48,7 +48,7 @@ owner_among None None many = tt
 owner_among None (Some m) many = omega arith
 owner_among (Some k) own many = search (arith, among)
 
--- a header has 12 octets at most, and a size of 32 bits if it is complete
+-- a header has at most 12 octets; if it is complete, its size is below 2^32
 record IsHeader (header : List ℕ) : Type 0 where
   most : length header ≤ 12
   small : length header ≡ 12 → size header < 2 ^ 32

@@ -68,7 +68,7 @@ Restores C octets first found =
     IsSomeAnd found (λ e. Follows C l n h e xs)
 
 module _ (C : Table) (l : Answers) (first : FirstRecord) where
-  -- the record is this entry of an open message, which represents these octets
+  -- the record is this entry of an open message, and the message represents these octets
   record IsOf (e : Entry) (w : MessageKey) (message : Option Message)
       (message_octets : Option (List ℕ)) (id : ℕ) : Type 0 where
     entry : IsEntry first e
@@ -88,7 +88,7 @@ module _ (C : Table) (l : Answers) (first : FirstRecord) where
   is_again w xs None h = absurd h
   is_again w xs (Some m) h = (refl, h)
 
-  -- a message that is over: no frames, and zeros for its octets
+  -- a message that is over has no frames, and zeros for its octets
   abbrev IsNothing : MessageKey → Option (List ℕ) → Type 0
   IsNothing w message_octets = (first.frames.now ≡ []) × (first.message ≡ replicate 224 0)
       × RepresentsMessage C l None w message_octets
@@ -134,7 +134,7 @@ module _ (C : Table) (l : Answers) (at : ℕ) (first : FirstRecord) (held : Held
       IsOf C l first is.entry held.open_as.opener is.kept.value.message held.octets is.kept.key
   of_slot is = search (arith, standing_in, number_in, header_in)
 
-  -- the slot made from a record, where its message represents the same octets
+  -- the slot made from a record, if its message represents the same octets
   slot_again : (id : ℕ) (found : Option Message) (is : IsOpenEntry C l at first held) →
       is.kept.key ≡ id →
       RepresentsMessage C l found held.open_as.opener held.octets →
@@ -147,7 +147,7 @@ module _ (C : Table) (l : Answers) (at : ℕ) (first : FirstRecord) (held : Held
       × IsSlot C l (pushed first id None) held
   over_again id is over = search (arith, over_by, of_slot, slot_again)
 
-  -- ---- which message a record is of: an open one or the current one
+  -- ---- the message of a record: an open one or the current one
 
   pub open_not_current : IsOpenEntry C l at first held →
       first.«record».record_kind ≡ record_kinds.Current → ⊥
@@ -205,13 +205,13 @@ module _ (C : Table) (l : Answers) where
 
 -- ---- the first of the records that are left
 
--- the record that was read first is this entry's, and these are the octets after it
+-- the record that was read first is the record of this entry, and these are the octets after it
 abbrev pub IsRead : FirstRecord → Entry → List ℕ → Type 0
 IsRead first e rest =
     (first.«record» ≡ e.record_is) × (first.message ≡ e.message) × (first.frames.now ≡ e.frames)
     × (first.rest.now ≡ rest)
 
--- it is the entry of an open message
+-- the first record is the entry of an open message
 pub record FrontOpen (C : Table) (l : Answers) (at count : ℕ) (first : FirstRecord)
     (held : List Held) (w : MessageKey) (xs : Option (List ℕ))
     : Type 0 where
@@ -221,7 +221,7 @@ pub record FrontOpen (C : Table) (l : Answers) (at count : ℕ) (first : FirstRe
   pub is : IsOpenEntry C l at first here
   pub left : AreLeft C l at (count - 1) first.rest.now others w xs
 
--- or of the current one
+-- the first record is the entry of the current message
 pub record FrontOwn (C : Table) (l : Answers) (at count : ℕ) (first : FirstRecord)
     (held : List Held) (w : MessageKey) (xs : Option (List ℕ))
     : Type 0 where
@@ -304,7 +304,7 @@ module _ (C : Table) (l : Answers) (at count : ℕ) (octets : List ℕ) (w : Mes
 false_not_true : false ≡ true → ⊥
 false_not_true e = cc
 
--- all that was left was added
+-- all messages whose records were left are added
 abbrev pub IsAll : Table → Answers → Bool → Slots → Slots → List Held → MessageKey →
     Option (List ℕ) → Type 0
 IsAll C l result before after held w xs =
@@ -367,8 +367,8 @@ module _ (C : Table) (l : Answers) (at count : ℕ) (w : MessageKey) (xs : Optio
       )
   all_again held (inr f) room bare = search (arith, added_none)
 
--- Up to `mid` these records were added, and so many are left, in `rest`: whatever adds those has
--- added all.
+-- Records were added up to `mid`, and `left` records remain, whose octets are `rest`. If a call
+-- adds those, all records are added.
 abbrev pub Completes : Table → Answers → ℕ → ℕ → List ℕ → MessageKey → Option (List ℕ) → Slots →
     Slots → ℕ → List ℕ → Type 0
 Completes C l at count octets w xs before mid left rest =
@@ -421,7 +421,7 @@ module _ (C : Table) (l : Answers) (at count : ℕ) (octets : List ℕ) (w : Mes
         (λ hs here space none. absurd (fails hs here space none)) held are room bare in
         false_not_true all.0
 
--- the records that are left after the first of so many
+-- the records that are left after the first of `n` records
 pub records_left : (n : ℕ) (xs : List ℕ) → (n ≡ 0 → ⊥) → AreRecords n xs →
     (used xs ≤ length xs) × AreRecords (n - 1) (drop (used xs) xs)
 records_left zero xs some are = absurd (some refl)

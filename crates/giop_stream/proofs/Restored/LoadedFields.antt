@@ -1,5 +1,5 @@
--- The fields of an engine that are read from a checkpoint's fixed part show the same state as those
--- that were written.
+-- The fields of an engine that are read from a checkpoint's fixed part show the same state as the
+-- fields that were written.
 use Rattle.std.proofs.Common.{◌≡◌, ℕ, ◌+◌, ◌-◌, ◌*◌, ◌^◌, ◌≤◌, Bool, true, false, List, [], length, flat_map, arith, Option, Some, None, refl, sym, ap, ◌∙◌}
 use Rattle.std.specs.Prelude.{nat_lt, if◌then◌else◌}
 use Rattle.std.proofs.lemmas.Bool.{lt-ltb, le-ltb}
@@ -33,7 +33,8 @@ use Rattle.giop_stream.proofs.SlotSteps.EventsOnSlots.{no_key}
 use Rattle.giop_stream.proofs.Restored.LoadRanges.{AreTotals, may_be_again}
 use Rattle.giop_stream.proofs.Restored.SavedSizes.{entries_count}
 
--- ---- a message that can stand in the place of the current one, since it has read the same octets
+-- ---- a message that can stand in the place of the current one, since both have read the same
+-- octets
 
 pub record CanStand (C : Table) (l : Answers) (i : Option ℕ) (message : Option Message)
     (c : Tracked) (owner : Option MessageKey) : Type 0 where
@@ -65,12 +66,12 @@ module _ (C : Table) (l : Answers) (c : Tracked) where
     again = λ m e k. absurd cc;
   }
 
--- where the owner is open there is no current message
+-- if the owner is an open message, there is no current message
 alone : (of : PayloadOwner) (k : ℕ) → index_of of ≡ Some k → current_of of ≡ None
 alone (owners.Current message is_over) k e = absurd cc
 alone (owners.Open i) k e = refl
 
--- ---- after the fixed part the records are left to read, and there is room for them
+-- ---- after the fixed part, the records are left to be read, and there is room for them
 
 module _ (octets p : List ℕ) (C : Table) (l : RequestTable) (most : ℕ)
     (s : Spells octets C l most p) where
@@ -91,14 +92,14 @@ pub room_for : (R : Rules) (p : List ℕ) (bare : Slots) → bare.slots.entries 
 unfolding state_of tracked_after
 room_for R p bare none = search (arith, slots_many, few_open)
 
--- the fixed part has the limit of open messages that the stream was read with
+-- the fixed part has the limit of open messages with which the stream was read
 pub limit_is : (octets p : List ℕ) (C : Table) (l : RequestTable) (most : ℕ)
     (s : Spells octets C l most p) (fixed : Fixed) →
     fixed ≡ fixed_of C l s.memory → fixed.most_open ≡ most
 unfolding fixed_of
 limit_is octets p C l most s fixed is = search (arith)
 
--- ---- where the stream stands: in a header, in a payload or stopped
+-- ---- where the stream stands: in a header, in a payload, or stopped
 
 behind_none : (found : Option (ℕ × StreamFault)) (held : List ℕ) (fault : StreamFault) →
     fault_of found ≡ Some fault →
@@ -111,7 +112,7 @@ held_behind : (R : Rules) (p : List ℕ) (fault : StreamFault) → (state_of R p
 unfolding state_of
 held_behind R p fault e = search (arith, behind_none)
 
--- in a header that is incomplete, or in a payload
+-- the place, if the header is incomplete, or if the stream is in a payload
 abbrev running_place : Bool → List ℕ → ℕ → Place
 running_place b header payload_count = if b then Header (record { items = header }) else Payload
     header (size header - payload_count)
@@ -131,7 +132,7 @@ header_by : (b : Bool) (header : List ℕ) (payload_count : ℕ) →
 header_by true header payload_count = refl
 header_by false header payload_count = refl
 
--- after a stream fault no header is held
+-- after a stream fault, no header octet is held
 abbrev IsBehind : Option StreamFault → List ℕ → Type 0
 IsBehind stopped header = (fault : StreamFault) → stopped ≡ Some fault → header ≡ []
 
@@ -141,7 +142,7 @@ header_again : (stopped : Option StreamFault) (header : List ℕ) (payload_count
 header_again (Some fault) header payload_count behind = sym (behind fault refl)
 header_again None header payload_count behind = search (arith, header_by)
 
--- how many payload octets have come, from how many are still to come
+-- how many payload octets have come, if it is known how many are still to come
 abbrev payload_count_of : Bool → List ℕ → ℕ → ℕ
 payload_count_of b header left = if b then 0 else size header - left
 
@@ -166,7 +167,7 @@ come_again None header left payload_count behind e =
 
 -- ---- the owner of the payload
 
--- Where such a message was loaded, the owner that is loaded is this one too.
+-- If such a message was loaded, the owner that is loaded is the owner of the stream's octets too.
 owner_again : (C : Table) (l : Answers) (i : Option ℕ) (own : Option Message) (made : PayloadOwner)
     (many : ℕ) (c : Tracked) (owner : Option MessageKey) (s : CanStand C l i own c owner) →
     many ≡ length (slots_at c) →
@@ -199,7 +200,8 @@ pub record IsReadAs (m : FramingView) (fixed : Fixed) (made : Slots) : Type 0 wh
   pub owner : m.slots.owner ≡ fields.owner_by fixed.owner (length made.slots.entries) made.owner
   pub slots : m.slots.slots ≡ made.slots
 
--- bounds for the totals of a stream that stopped so and holds so many header octets
+-- bounds for the totals of a stream with this stream fault, if it has one, and this many held
+-- header octets
 pub record MayBe (fixed : Fixed) (stop : Option StreamFault) (long : ℕ) : Type 0 where
   pub running : stop ≡ None → fixed.octets ≤ 2 ^ 48
   pub messages : fixed.messages ≤ fixed.octets

@@ -1,4 +1,5 @@
--- What `save` writes: the fixed part, then an entry for each open message and the current one.
+-- What `save` writes: the fixed part, and then an entry for each open message and for the current
+-- one.
 use Rattle.std.proofs.Common.{◌≡◌, Bool, true, false, nat_le, cond, ℕ, zero, suc, ◌+◌, ◌<◌, ◌≤◌, get_or, List, [], ◌∷◌, ◌++◌, length, take, flat_map, replicate, Option, Some, None, Result, Ok, Err, IsErr, refl, sym, ap, subst, ◌∙◌, append_assoc, append-nil, arith}
 use Rattle.std.specs.List.{AllByRecursion as Each}
 use Rattle.std.proofs.lemmas.List.{take_all}
@@ -36,7 +37,7 @@ flat_append (x ∷ xs) ys = search (arith, append_assoc, flat_map, flat_append x
 pub flat_one : (e : Entry) → flat_map entry_octets (e ∷ []) ≡ entry_octets e
 flat_one e = append-nil (entry_octets e)
 
--- the entries with one open message more
+-- the entries, after one more open message
 pub entries_push : (slots : List OpenEntry) (slot : OpenEntry) (es : List Entry) (e : Entry) →
     AreOpen slots es → IsOpen slot e
     → AreOpen (slots ++ slot ∷ []) (es ++ e ∷ [])
@@ -45,7 +46,7 @@ entries_push [] slot (f ∷ es) e are is = absurd are
 entries_push (s ∷ slots) slot [] e are is = absurd are
 entries_push (s ∷ slots) slot (f ∷ es) e are is = (are.0, entries_push slots slot es e are.1 is)
 
--- and with the current one at the end
+-- the entries, with the current message at the end
 pub entries_own : (slots : List OpenEntry) (m : Message) (es : List Entry) (e : Entry) →
     AreOpen slots es → IsCurrent m e → AreEntries slots (Some m) (es ++ e ∷ [])
 entries_own [] m [] e are is = (is, refl)
@@ -91,14 +92,14 @@ over_is slot r before between after none range few record_kind number header put
     stored_over None e = (refl, refl)
     stored_over (Some m) e = absurd (let no : Some m ≡ None = e in cc)
 
--- a message that isn't over
+-- a message that isn't over is written with its record
 pub open_is : (slot : OpenEntry) (m : Message) (before after : List ℕ) → slot.value.message ≡ Some m
     → IsPutOne before after (IsMessageRecord (record_kinds.Open slot.key) slot.value.number
     slot.value.header m)
     → IsPutOne before after (IsOpen slot)
 open_is slot m before after some put = search (arith)
 
--- an entry's three parts, written one after the other
+-- an entry's three parts are written one after another
 pub kept_put : (before a b after : List ℕ) (e : Entry) → a ≡ before ++ own_octets e.record_is →
     b ≡ a ++ e.message
     → after ≡ b ++ e.frames → after ≡ before ++ entry_octets e
@@ -196,7 +197,7 @@ current_is m number header before after n h put = search (arith)
 pub put_none_yet : (a : OutLog) → Puts (Ok 0) a a []
 put_none_yet a = search (arith, wrote-nil)
 
--- a record that was composed by itself, after others
+-- a record that was composed by itself is put after others
 pub put_behind : (none front octets items : List ℕ) (Is : Entry → Type 0) → none ≡ [] →
     octets ≡ items → IsPutOne none items Is
     → IsPutOne front (front ++ octets) Is

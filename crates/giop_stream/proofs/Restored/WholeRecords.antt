@@ -1,4 +1,4 @@
--- A checkpoint is a fixed part and whole records after it; and why other octets are refused.
+-- A checkpoint is a fixed part, followed by complete records; and why other octets are refused.
 use Rattle.std.proofs.Common.{◌≤◌, ◌≡◌, ℕ, true, get_or, List, [], ◌∷◌, ◌++◌, length, flat_map, arith, inl, inr, refl, sym, ◌∙◌}
 use Rattle.std.specs.List.{AllByRecursion as Each}
 use Rattle.std.proofs.lemmas.List.{drop_at, length-append}
@@ -20,7 +20,7 @@ use Rattle.giop_stream.specs.Checkpoint.{counts_of, fixed_of, checkpoint_octets,
 use Rattle.giop_stream.proofs.Restored.LoadRanges.{fixed_range}
 use Rattle.giop_stream.proofs.Restored.SavedSizes.{entry_long, entries_count, entries_range}
 
--- ---- the octets of entries are whole records
+-- ---- the octets of entries are complete records
 
 first_of : (e : Entry) (rest : List ℕ) → get_or (entry_octets e ++ rest) 0 0 ≡ e.record_is.frames
 unfolding own_octets kind_octets
@@ -61,7 +61,7 @@ module _ (octets p : List ℕ) (C : Table) (l : RequestTable) (most : ℕ)
   unfolding counts_of
   layout_read = s.is_read
 
-  -- what holds of every fixed part and records in their ranges holds of these
+  -- if something holds of every fixed part and of all records in their ranges, it holds of these
   pub parts_read : (P : Fixed → List ℕ → Type 0) (counts : Counts) → counts ≡ counts_of C l →
       ((layout : Layout) (f : Fixed) (records : List ℕ) → f.counts ≡ counts →
       reads counts.version layout ≡ true → HasRange layout f →
@@ -73,7 +73,7 @@ module _ (octets p : List ℕ) (C : Table) (l : RequestTable) (most : ℕ)
       (fixed_counts C l s.memory ∙ sym same) (rw same layout_read)
       (fixed_range octets p C l most s) fixed_records fixed_front
 
--- ---- octets that are no checkpoint
+-- ---- octets that are not a checkpoint
 
 pub refused_is : (c : Counts) (s : List ℕ) (why : LoadFault) → Refused c s why → IsRefused c s why
 refused_is c s refusals.Magic (inl never) = never

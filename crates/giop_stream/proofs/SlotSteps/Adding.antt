@@ -1,4 +1,4 @@
--- The text that octets add to that of a stream.
+-- The text that octets add to the text of a stream.
 use Rattle.std.proofs.Common.{arith, ◌≡◌, ℕ, List, [], ◌++◌, length, drop, refl, append-nil}
 use Rattle.std.proofs.Math.Seq.{drop-append_seam}
 use Rattle.giop_message.specs.MessageReader.{IsCausal, IsStreamable}
@@ -18,7 +18,7 @@ added_by : (R : Rules) (p q : List ℕ) (ls : List Line) → lines R (p ++ q) �
 unfolding added text
 added_by R p q ls e = search (arith, drop, text_append, drop-append_seam)
 
--- and those are the lines of a run
+-- the text that is added is the lines of a run
 pub added_run : (R : Rules) → IsCausal R.reading → IsStreamable R.reading → (p q : List ℕ) →
     added R p q ≡ lines_text (run R (state_of R p) q)
 added_run R causal laws p q = search (arith, added_by, run_lines)

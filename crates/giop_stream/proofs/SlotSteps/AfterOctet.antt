@@ -1,5 +1,5 @@
--- A payload octet, as the code does it after the octet's owner has taken it: at the request id, and
--- at the end.
+-- A payload octet after its owner has taken it, as the code does it: at the request id, and at the
+-- end.
 use Rattle.std.proofs.Common.{◌≡◌, ℕ, ◌≤◌, Bool, true, false, List, length, refl, sym, subst, Option, Some, None, arith}
 use Rattle.std.specs.Prelude.{◌==◌, ◌&&◌, if◌then◌else◌}
 use Rattle.std.proofs.lemmas.Bool.{eq-eqb, eqb-true, lt-leb, le-leb, lt-ltb, le-ltb, cases_lt, false≢true}
@@ -23,7 +23,7 @@ use Rattle.giop_stream.proofs.SlotSteps.EventsOnSlots.{current_kept}
 use Rattle.giop_stream.proofs.StreamLines.LineOrder.{not_past}
 use Rattle.giop_stream.proofs.SlotSteps.Cases.{effects_none}
 
--- ---- The owner of the octets, where the request id isn't complete at this one.
+-- ---- The owner of the octets, if the request id isn't complete at this octet.
 
 both_by : (f a b : Bool) (x y : Option MessageKey) → a ≡ b →
     (if f && a then x else y) ≡ (if f && b then x else y)
@@ -74,7 +74,7 @@ module _ (C : Table) (l : Answers) (s : Slots) (c : Tracked) (m : Message) (now 
   unfolding id_events
   no_id e = search (arith, effects_none)
 
-  -- the request id that is read from the message's own octets
+  -- the request id that is read from the octets of the message itself
   pub named_here : (i : ℕ) → ((w : MessageKey) (xs : List ℕ) (j : ℕ) →
       RepresentsMessage C l (current_of s.owner) w (Some xs)
       → first_request_id (message_lines (message (signatures_of C (l w.number)) w.header xs))

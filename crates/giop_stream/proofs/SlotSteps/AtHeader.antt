@@ -35,7 +35,7 @@ pub starts_faults : (m : Message) (ls : List Line) → fault_count (starts m ∷
 unfolding fault_count
 starts_faults m ls = refl
 
--- ---- The header's own events, then the end.
+-- ---- The events of the header itself, and then the end.
 
 module _ (R : Rules) (c : Tracked) (m : Message) where
   abbrev pub begun : Effect

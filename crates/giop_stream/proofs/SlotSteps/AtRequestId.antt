@@ -1,4 +1,4 @@
--- The last octet of a request id, as the code does it, by the slot that it finds.
+-- The last octet of a request id, as the code does it, for the slot that it finds.
 use Rattle.std.proofs.Common.{◌≡◌, ℕ, ◌<◌, ◌≤◌, Bool, true, false, List, [], length, refl, sym, ap, ◌∙◌, Option, Some, None, arith}
 use Rattle.std.specs.Prelude.{◌==◌, slice_get, option_map, is_some}
 use Rattle.std.specs.List.{find, position_from}
@@ -42,7 +42,7 @@ opener_named header f = rw f refl
 pub cancel_named : (header : List ℕ) → is_cancel header ≡ true → has_name header ≡ true
 cancel_named header f = search (arith)
 
--- ---- A message that becomes open has no line.
+-- ---- A message that becomes open adds no line.
 
 module _ (C : Table) (l : Answers) where
   pub opens_lines : (c : Tracked) (m : Message) (at i : ℕ) →
@@ -158,7 +158,7 @@ module _ (C : Table) (l : Answers) (s : Slots) (c : Tracked) (m : Message) (now 
   misses_all r e n f g b = cancel_misses (rules_by C l s.slots.most) c c.still_open m f g b
       (misses (cancel_named m.header b) r e n)
 
-  -- whether the open message that is found may be cancelled
+  -- whether the open message that was found may be cancelled
   pub header_may : (o : Open) (v : Contents) (k : ℕ) (r : Bool) → slice_get c.still_open k ≡ Some o
       → option_map (λ e. e.value) (slice_get s.slots.entries k) ≡ Some v →
       may_be_cancelled v.header ≡ r

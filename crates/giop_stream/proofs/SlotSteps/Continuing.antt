@@ -1,4 +1,4 @@
--- A Fragment that continues an open message, as the code does it: at its request id, and where the
+-- A Fragment that continues an open message, as the code does it: at its request id, and if the
 -- last octet of its header and its request id come together.
 use Rattle.std.proofs.Common.{◌≡◌, ℕ, ◌<◌, Bool, true, false, List, [], ◌∷◌, ◌++◌, length, take, refl, ap, ◌∙◌, Option, Some, None, Result, arith}
 use Rattle.std.proofs.lemmas.Bool.{eq-eqb}
@@ -8,7 +8,7 @@ use Rattle.giop_cdr.specs.Numbers.{num}
 use Rattle.giop_sig.specs.Table.{Table}
 use Rattle.giop_message.specs.Headers.{order, is_fragment}
 use Rattle.giop_message.specs.MessageReader.{Value, due}
-use Rattle.giop_message.specs.Signatures.{Answers, signatures_of}
+use Rattle.giop_message.specs.Signatures.{Answers}
 use Rattle.giop_message.specs.ReaderOfTable.{message_reader}
 use Rattle.giop_message.specs.Text.{numbered_line}
 use Rattle.giop_message.specs.RequestId.{request_id_text, request_id_said}
@@ -50,7 +50,7 @@ pub goes_faults : (m : Message) (o : Open) (ls : List Line) →
 unfolding fault_count
 goes_faults m o ls = refl
 
--- what the code knows of a message at its request id, where that is a Fragment's
+-- what the code knows of a Fragment at its request id
 pub continuing : (C : Table) (l : Answers) (s : Slots) (c : Tracked) (m : Message) (now : Current)
     (i : ℕ) → IsAtRequestId C l s c m now i
     → is_fragment m.header ≡ true → IsContinuing C l s c (Some (message_key m)) m now
@@ -79,7 +79,7 @@ module _ (C : Table) (l : Answers) (s : Slots) (c : Tracked) (owner : Option Mes
       line_text (goes_on m o) ≡ continues_line now.number number
   goes_text o number e = rw (h.current.number, e) refl
 
-  -- which is the first of its lines
+  -- the line of the Fragment is the first of the lines
   pub goes_first : (o : Open) → is_fragment m.header ≡ true → opener_of c.still_open m ≡ Some o
       → BeginsSo (goes_on m o) (effects (message_reader C l) c
       (events_at_request_id s.slots.most c.still_open m)).lines
@@ -101,24 +101,21 @@ module _ (C : Table) (l : Answers) (s : Slots) (c : Tracked) (owner : Option Mes
       same_order (order m.header) (order o.opener.header) ≡ r
   orders o a b header r e f g same = search (arith)
 
--- ---- What is said of a request id's octets.
+-- ---- The lines of a request id's octets.
 
 module _ (C : Table) (l : Answers) (number : ℕ) (header : List ℕ) (says : SaysId header) where
-  -- of those before the last one nothing,
+  -- the octets before the last one add no line
   pub few_due : (xs : List ℕ) (x : ℕ) → length xs < 3 →
       due (message_reader C l) number header xs x ≡ []
-  unfolding signatures_of
-  few_due xs x few =
-      rw (few_said (λ n. signatures_of C (l n)) number header says.0 says.1 says.2 (xs ++ x ∷ [])
+  few_due xs x few = rw (few_said C l number header says.0 says.1 says.2 (xs ++ x ∷ [])
       (omega (arith, few, length_push xs x))) refl
 
-  -- and of that the number that they spell
+  -- the last octet adds the line of the number that the octets spell
   pub four_due : (xs : List ℕ) (x : ℕ) → length xs ≡ 3
       → due (message_reader C l) number header xs x
       ≡ request_id_said (num (order header) (take 4 (xs ++ x ∷ []))) ∷ []
-  unfolding signatures_of
-  four_due (a ∷ b ∷ c ∷ []) x three = rw (four_said (λ n. signatures_of C (l n)) number header
-      says.0 says.1 says.2 a b c x) refl
+  four_due (a ∷ b ∷ c ∷ []) x three =
+      rw (four_said C l number header says.0 says.1 says.2 a b c x) refl
   four_due [] x three = absurd (omega (arith, three))
   four_due (a ∷ []) x three = absurd (omega (arith, three))
   four_due (a ∷ b ∷ []) x three = absurd (omega (arith, three))
@@ -138,8 +135,8 @@ pub said_faults : (at number i : ℕ) (ls : List Line) →
 unfolding fault_count
 said_faults at number i ls = refl
 
--- Slots where no message owns the octets do not change with what is kept of a message that isn't
--- open.
+-- If no message owns the octets, the slots don't change when the octets kept of a message that
+-- isn't open change.
 pub owned_by_none : (C : Table) (l : Answers) (s : Slots) (c c' : Tracked) →
     slots_at c' ≡ slots_at c → SlotsRepresent C l s c None → SlotsRepresent C l s c' None
 owned_by_none C l s c c' same h = search (arith)
@@ -171,13 +168,13 @@ module _ (C : Table) (l : Answers) (s : Slots) (c : Tracked) (m : Message) (now 
   alive : c.known m.number ≡ Some m.payload
   alive = h.before.alive (fragment_named m.header h.fragment) few
 
-  -- its last octet is taken by the Fragment itself
+  -- the request id's last octet is taken by the Fragment itself
   taken : first R c m' ≡ one_effect (message_reader C l) c now.place (message_key m) (Takes x)
   taken = takes_at C l s.slots.most c m now x h.before
       ∙ ap (λ (w : Option MessageKey). effect_to C l now.place c w (Takes x))
       (owner_early c.still_open m few)
 
-  -- and says the request id
+  -- the line of this octet is the line of the request id
   pub first_lines : (first R c m').lines ≡ id_line now.place m.number found.id ∷ []
   unfolding id
   first_lines = search (arith, taken, alive, take_lines, reader_lines, four_due, fragment_named)
@@ -209,7 +206,7 @@ module _ (C : Table) (l : Answers) (s : Slots) (c : Tracked) (m : Message) (now 
   unfolding id_events
   ids_are = search (arith, eq-eqb, four)
 
-  -- from then on the octets belong to the message that it continues
+  -- after this octet, the octets belong to the message that the Fragment continues
   owner_is : owner_of_next c'.still_open m' ≡ Some opener_at.o.opener
   owner_is = search (arith, owner_at_id, four, owner_fragment, opener_is)
 
@@ -224,7 +221,7 @@ module _ (C : Table) (l : Answers) (s : Slots) (c : Tracked) (m : Message) (now 
       ≡ numbered_line now.number (request_id_text found.id)
   said_text = search (arith)
 
-  -- ---- What they do.
+  -- ---- What the octets do.
 
   abbrev pub rest_lines : List Line
   rest_lines = (second R c m').lines ++ (third R c m').lines
@@ -233,7 +230,7 @@ module _ (C : Table) (l : Answers) (s : Slots) (c : Tracked) (m : Message) (now 
       ≡ then_effect (first R c m') (then_effect (second R c m') (third R c m'))
   parts = in_parts R c m' (some_come C l s.slots.most c m now x h.before)
 
-  -- the line of the request id is the first of its last octet
+  -- the line of the request id is the first line of the id's last octet
   pub all_lines : (effects (message_reader C l) c
       (events_of_octet s.slots.most c.still_open m')).lines
       ≡ id_line now.place m.number found.id ∷ rest_lines

@@ -1,4 +1,4 @@
--- What each event does to the slots: which one changes, goes or comes.
+-- What each event does to the slots: which slot changes, is removed or is added.
 use Rattle.std.proofs.Common.{arith, inl, inr, ◌≡◌, ℕ, true, not, List, [], ◌∷◌, ◌++◌, refl, sym, ap, ◌∙◌, Option, Some, None, append-nil}
 use Rattle.std.specs.Prelude.{◌==◌, slice_get, slice_set}
 use Rattle.std.specs.List.{filter, remove}
@@ -33,7 +33,7 @@ still_open_at : (R : MessageReader) (c : Tracked) (e : Event) →
 unfolding tracked_at
 still_open_at R c e = refl
 
--- an event that opens and closes nothing changes the slot of its message, where that is open
+-- if an event opens and closes nothing, it changes the slot of its message if that is open
 pub slot_stays : (R : MessageReader) (c : Tracked) (e : Event) (k : ℕ) (o : Open) →
     stays e.what ≡ true → Rising c.still_open
     → slice_get c.still_open k ≡ Some o → e.subject ≡ o.opener
@@ -48,7 +48,7 @@ slot_stays R c e k o h rising here w =
     (slot_at (tracked_at R c e).known c.known c.still_open k o rising here
     (λ i other. others_then R c e i (λ same. other (same ∙ sym number))))
 
--- and no slot where it isn't
+-- if the message isn't open, the event changes no slot
 pub slots_stay : (R : MessageReader) (c : Tracked) (e : Event) → stays e.what ≡ true →
     IsNotOpen e.subject.number c.still_open → slots_at (tracked_at R c e) ≡ slots_at c
 slots_stay R c e h apart = search (arith, still_open_at, stays_still_open, no_slot, others_then)
@@ -72,7 +72,7 @@ none_there : (still_open : List Open) (n : ℕ) → IsNotOpen n still_open →
     filter (λ o. not (o.opener.number == n)) still_open ≡ still_open
 none_there still_open n h = search (arith, filter_keeps, not, each_weaker, ne_eqb)
 
--- and no slot where the message isn't open
+-- if the message isn't open, the event removes no slot
 pub slots_left : (R : MessageReader) (c : Tracked) (e : Event) → goes e.what ≡ true →
     IsNotOpen e.subject.number c.still_open → slots_at (tracked_at R c e) ≡ slots_at c
 slots_left R c e h apart = search (
@@ -84,7 +84,7 @@ slots_left R c e h apart = search (
   others_then,
 )
 
--- an event without an octet, and without a last line of its message
+-- an event that opens a message changes nothing of the octets that are kept of it
 opens_then : (R : MessageReader) (e : Event) (i : ℕ) (o : Option (List ℕ)) → e.what ≡ Opens i →
     octets_then R e o ≡ o
 unfolding octets_then lines_of lines_for lines_of_event up_to_last_line octet
@@ -125,7 +125,7 @@ unfolding octets_then lines_of lines_for lines_of_event line up_to_last_line oct
 quiet_then R e n None h = refl
 quiet_then R e n (Some xs) h = search (arith, append-nil)
 
--- a Fragment that continues a message changes nothing
+-- a Fragment that continues a message changes nothing that is tracked
 pub tracked_stays : (R : MessageReader) (c : Tracked) (e : Event) (n : ℕ) → e.what ≡ Continues n →
     tracked_at R c e ≡ c
 unfolding changed
@@ -148,7 +148,7 @@ unfolding octets_then lines_of lines_for lines_of_event line up_to_last_line oct
 begins_then R e None h = refl
 begins_then R e (Some xs) h = search (arith, append-nil)
 
--- nor does a message that begins
+-- a message that begins changes nothing that is tracked
 pub tracked_begins : (R : MessageReader) (c : Tracked) (e : Event) → e.what ≡ Begins →
     tracked_at R c e ≡ c
 unfolding changed

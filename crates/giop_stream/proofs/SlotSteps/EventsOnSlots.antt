@@ -1,4 +1,4 @@
--- Calls of the code that do an event or a run: what the slots represent then.
+-- Calls of the code that do an event or a run: what the slots represent after them.
 use Rattle.std.proofs.Common.{arith, ◌≡◌, ℕ, ◌<◌, not, List, [], ◌∷◌, ◌++◌, length, refl, sym, ap, subst, ◌∙◌, Option, Some, None, Result, append-nil}
 use Rattle.std.specs.Prelude.{◌==◌, slice_get, slice_set, option_map}
 use Rattle.std.specs.List.{filter, remove, AllByRecursion as Each}
@@ -27,7 +27,7 @@ use Rattle.giop_stream.proofs.SlotSteps.ReadingEffects.{over_lines}
 use Rattle.giop_stream.proofs.SlotSteps.OneSlotChanges.{at_index, own_then, others_then, slot_at, no_slot, slot_gone, slot_comes}
 use Rattle.giop_stream.proofs.SlotSteps.SlotLists.{slots_get, get_last, slots_many, slot_of, entry_there, revalued_set, set_slot, no_more_slots, are_as_many, push_slot, remove_slot}
 
--- the key of no message
+-- a key that stands for no message
 pub no_key : MessageKey
 no_key = record { number = 0; header = [] }
 
@@ -51,11 +51,11 @@ record Place (c : Tracked) (w : MessageKey) (k : ℕ) : Type 0 where
   here : slice_get c.still_open k ≡ Some slot
   is : slot.opener ≡ w
 
--- The owner isn't an open message, and this is kept of it.
+-- The owner isn't an open message, and this is what the code keeps of it.
 abbrev pub IsItself : PayloadOwner → Option Message → Type 0
 IsItself of message = (index_of of ≡ None) × (current_of of ≡ message)
 
--- The effect changes one message, as this part says, and no other.
+-- The effect changes one message, as this part says, and no other message.
 pub record Alters (c : Tracked) (w : MessageKey) (effect : Effect) (part : Part) : Type 0 where
   pub lines : effect.lines ≡ part.lines
   pub still_open : effect.tracked.still_open ≡ c.still_open
@@ -90,13 +90,13 @@ module _ (C : Table) (l : Answers) where
   unfolding tracked_at part_of
   still_alters at c w what still = search (arith, own_then, others_then)
 
-  -- the current message isn't open, and this is kept of it
+  -- the current message isn't open, and this is what the code keeps of it
   own_parts : (s : Slots) (c : Tracked) (w : MessageKey) (message : Option Message) →
       IsItself s.owner message → SlotsRepresent C l s c (Some w)
       → IsNotOpen w.number c.still_open × RepresentsMessage C l message w (c.known w.number)
   own_parts s c w message e h = rw (e.0, e.1) at h.owner
 
-  -- a message that isn't open is no open one
+  -- an owner that isn't open has no index among the slots
   no_index : (Q : Option ℕ → Type 0) (i : Option ℕ) (message : Option Message) (c : Tracked)
       (w : MessageKey) → IsNotOpen w.number c.still_open
       → PayloadBelongs C l i message c (Some w) →
@@ -168,7 +168,7 @@ module _ (C : Table) (l : Answers) where
         owner = rw is (p.slot, rw alters.still_open p.here, p.is);
       }
 
-  -- ---- A call that does a part of an effect, on the owner of the octets.
+  -- ---- A call that does a part of an effect to the owner of the octets.
 
   -- the owner is the current message, or there is none
   pub own_has : (Q : Option MessageKey → Type 0) (s : Slots) (c : Tracked)
@@ -255,7 +255,7 @@ module _ (C : Table) (l : Answers) where
       (record { open_as = p.slot; octets = c.known p.slot.opener.number }) h.slots
       (slots_get c k p.slot p.here)))
 
-  -- an event without a line and without an octet
+  -- an event that opens a message changes nothing of the octets that are kept of it
   opens_then : (at : ℕ) (w : MessageKey) (i : ℕ) (o : Option (List ℕ)) →
       octets_then (message_reader C l) (event at w (Opens i)) o ≡ o
   unfolding octets_then lines_of lines_for lines_of_event up_to_last_line octet
@@ -316,7 +316,7 @@ module _ (C : Table) (l : Answers) where
   unfolding tracked_at
   gone_still_open at c w what h = h c.still_open w
 
-  -- the slots stay where a message that isn't open closes
+  -- if a message that isn't open closes, the slots stay
   own_gone : (c : Tracked) (w : MessageKey) (at : ℕ) (what : EventKind) (ks : List OpenEntry) →
       IsGone what
       → Each (λ o. o.opener.number ≡ w.number → ⊥) c.still_open →
@@ -333,7 +333,7 @@ module _ (C : Table) (l : Answers) where
             (λ i j. others_then (message_reader C l) c e i j),
       ) h
 
-  -- and lose this one where its message closes
+  -- if an open message closes, its slot is removed
   pub slot_goes : (c : Tracked) (k : ℕ) (o : Open) (at : ℕ) (what : EventKind)
       (ks : List OpenEntry) → IsGone what
       → Rising c.still_open → slice_get c.still_open k ≡ Some o →

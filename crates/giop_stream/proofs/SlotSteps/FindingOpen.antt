@@ -1,4 +1,4 @@
--- Where the code finds the open message with a request id.
+-- Which open message with a request id the code finds.
 use Rattle.std.proofs.Common.{◌≡◌, ℕ, suc, ◌+◌, Bool, true, false, cond, List, [], ◌∷◌, refl, sym, subst, ◌∙◌, Option, Some, None, arith}
 use Rattle.std.specs.Prelude.{◌==◌, slice_get}
 use Rattle.std.specs.List.{find, position_from}
@@ -11,7 +11,7 @@ use Rattle.giop_message.specs.Signatures.{Answers}
 
 -- ---- The open message with a request id.
 
--- where a search ends
+-- the result of a search: none, or the index of the message
 pub Found : List Open → ℕ → ℕ → Option ℕ → Type 0
 Found still_open i n None = find (λ o. o.id == i) still_open ≡ None
 Found still_open i n (Some k) = (o : Open) × (at : ℕ) × (k ≡ n + at)

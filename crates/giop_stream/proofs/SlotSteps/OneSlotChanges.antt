@@ -1,4 +1,4 @@
--- An event changes one slot at most: that of its message.
+-- An event changes at most one slot: the slot of its message.
 use Rattle.std.proofs.Common.{◌≡◌, ℕ, zero, suc, ◌<◌, false, not, List, [], ◌∷◌, ◌++◌, refl, ap, ◌∙◌, Option, Some, None, arith}
 use Rattle.std.specs.Prelude.{◌==◌, option_map, slice_get, slice_set}
 use Rattle.std.specs.List.{filter, list_any, remove, AllByRecursion as Each}
@@ -13,7 +13,7 @@ use Rattle.giop_stream.proofs.Lists.{each_weaker, filter_keeps, map_agree}
 use Rattle.giop_stream.proofs.StreamLines.LinesOfOctet.{event_lines_number, standing_each}
 use Rattle.giop_stream.specs.Events.{Rising}
 
--- ---- What is kept.
+-- ---- What is kept of messages.
 
 one_joined : (e : Event) → joined e.subject.number (e ∷ []) ≡ octet e.what
 unfolding joined
@@ -51,7 +51,7 @@ others_then R c e i h =
 
 -- ---- The slots.
 
--- what holds of each element holds of the one at an index
+-- if something holds of each element, it holds of the element at an index
 pub at_index : {A : Type 0} (P : A → Type 0) (xs : List A) (k : ℕ) (x : A) →
     slice_get xs k ≡ Some x → Each P xs → P x
 at_index P [] k x e h = absurd cc
@@ -69,7 +69,7 @@ apart : (o : Open) (still_open : List Open) →
     Each (λ a. a.opener.number ≡ o.opener.number → ⊥) still_open
 apart o still_open h = search (arith, each_weaker)
 
--- If what is kept changes for one open message alone, its slot alone changes.
+-- If what is kept changes for one open message only, only its slot changes.
 pub slot_at : (f g : OctetsByNumber) (still_open : List Open) (k : ℕ) (o : Open) →
     Rising still_open → slice_get still_open k ≡ Some o
     → ((i : ℕ) → (i ≡ o.opener.number → ⊥) → f i ≡ g i)
@@ -85,13 +85,13 @@ slot_at f g (a ∷ still_open) (suc k) o r e h = search (
       r.1 e h,
 )
 
--- and none, if it changes for no open message
+-- if what is kept changes for no open message, no slot changes
 pub no_slot : (f g : OctetsByNumber) (still_open : List Open) (n : ℕ) →
     Each (λ o. o.opener.number ≡ n → ⊥) still_open
     → ((i : ℕ) → (i ≡ n → ⊥) → f i ≡ g i) → slots_of f still_open ≡ slots_of g still_open
 no_slot f g still_open n h k = search (arith, slots_agree, each_weaker)
 
--- the open messages but one
+-- the open messages except one
 pub others_open : (still_open : List Open) (k : ℕ) (o : Open) → Rising still_open →
     slice_get still_open k ≡ Some o
     → filter (λ a. not (a.opener.number == o.opener.number)) still_open ≡ remove still_open k
@@ -133,7 +133,7 @@ not_removed (a ∷ still_open) (suc k) o r e = search (
       r.1 e,
 )
 
--- where an open message closes, its slot is removed
+-- if an open message closes, its slot is removed
 pub slot_gone : (f g : OctetsByNumber) (still_open : List Open) (k : ℕ) (o : Open) →
     Rising still_open → slice_get still_open k ≡ Some o →
     ((i : ℕ) → (i ≡ o.opener.number → ⊥) → f i ≡ g i)
@@ -143,7 +143,7 @@ slot_gone f g still_open k o r e h = rw (others_open still_open k o r e)
     (no_slot f g (remove still_open k) o.opener.number (not_removed still_open k o r e) h
     ∙ slots_remove g still_open k)
 
--- where one becomes open, a slot is added at the end
+-- if a message becomes open, a slot is added at the end
 pub slot_comes : (f g : OctetsByNumber) (still_open : List Open) (o : Open) →
     Each (λ a. f a.opener.number ≡ g a.opener.number) still_open
     → slots_of f (still_open ++ o ∷ []) ≡ slots_of g still_open

@@ -1,5 +1,5 @@
--- A payload octet in three parts, as the code does it: its owner takes it, then the request id's
--- events, then the end's.
+-- A payload octet in three parts, as the code does it: its owner takes it; then come the events of
+-- the request id, and then those of the message's end.
 use Rattle.std.proofs.Common.{append-nil, append_assoc, length-append, suc, ◌≡◌, ℕ, ◌+◌, ◌-◌, ◌<◌, ◌≤◌, Bool, true, false, List, [], ◌∷◌, ◌++◌, length, get_or, refl, sym, ap, ◌∙◌, Option, Some, None, arith}
 use Rattle.std.specs.Prelude.{◌==◌, if◌then◌else◌}
 use Rattle.std.proofs.lemmas.Bool.{ne_eqb, eqb-true, le-leb, lt-ltb, cases_lt}
@@ -43,7 +43,7 @@ fragment_still : (most : ℕ) (still_open : List Open) (m : Message) → is_frag
 unfolding id_events request_id_events opened
 fragment_still most still_open m f = search (arith, quiet_continues)
 
--- so that the end has the same events after it
+-- if a message is no Fragment, the open messages make no difference to the events at its end
 plain_end : (still_open still_open' : List Open) (m : Message) → is_fragment m.header ≡ false →
     end_events still_open' m ≡ end_events still_open m
 unfolding end_events message_end_events
@@ -53,7 +53,7 @@ end_same : (most : ℕ) (still_open : List Open) (m : Message) →
     end_events (opened still_open (id_events most still_open m)) m ≡ end_events still_open m
 end_same most still_open m = search (arith, fragment_still, plain_end)
 
--- and the next octets have the same owner
+-- after the events of the request id, the next octets have the same owner as before them
 owner_same : (most : ℕ) (still_open : List Open) (m : Message) →
     owner_of_next (opened still_open (id_events most still_open m)) m ≡ owner_of_next still_open m
 owner_same most still_open m = search (arith, fragment_still, owner_plain)
@@ -119,12 +119,12 @@ module _ (R : Rules) (c : Tracked) (m : Message) where
       (length m.payload ≡ 4 → IsNewest m.number c.still_open) → Rising second.tracked.still_open
   second_rising r newest = search (arith, second_still_open, rising_id)
 
-  -- the owner after the message's last octet is nobody, whatever is open
+  -- the events at the message's end make no difference to the owner of the octets after this one
   pub third_owner : owner_after second.tracked.still_open m ≡ owner_after third.tracked.still_open m
   unfolding owner_after end_events opened
   third_owner = search (arith, effects_still_open)
 
--- ---- The owner of the octet that comes.
+-- ---- The owner of the next octet.
 
 same_opener : (still_open : List Open) (m : Message) (x : ℕ) → 4 ≤ length m.payload →
     opener_of still_open (with_octet m x) ≡ opener_of still_open m
@@ -181,7 +181,7 @@ module _ (C : Table) (l : Answers) (most : ℕ) (c : Tracked) (m : Message) (now
   takes_at = rw (← owner_next c.still_open m x)
       (octet_does C l c (with_octet m x) x now.place last_is h.current.place)
 
-  -- which is a run of one octet
+  -- the effect of one octet is the effect of a run of one octet
   pub takes_effect : first (rules_by C l most) c (with_octet m x)
       ≡ run_effect C l (now.place - 1) c (owner_of_next c.still_open m) (x ∷ [])
   unfolding run_effect
@@ -243,9 +243,9 @@ module _ (C : Table) (l : Answers) (most : ℕ) (c : Tracked) (m : Message) (now
         current = h.current;
       }
 
--- ---- Octets that only add to contents, and one after them.
+-- ---- Octets that only add to contents, and one octet after them.
 
--- a run is its first octets, and then the others
+-- the effect of a run is the effect of its first octets, and then of the others
 run_both : (C : Table) (l : Answers) (q : List ℕ) (before : ℕ) (c : Tracked) (w : Option MessageKey)
     (r : List ℕ)
     → run_effect C l before c w (q ++ r)
@@ -274,7 +274,7 @@ module _ (C : Table) (l : Answers) (most : ℕ) (s : Slots) (c : Tracked) (m : M
   unfolding place
   room = search (arith, length-append, length_push)
 
-  -- the owner takes all of them in one run
+  -- the owner takes all of these octets in one run
   pub takes_run : (octets : List ℕ) (before : ℕ) → octets ≡ q ++ x ∷ [] →
       before ≡ now.place - length octets
       → run_effect C l before c (owner_of_next c.still_open m) octets

@@ -1,4 +1,4 @@
--- The lines that calls write, one call after the other, and the faults that they count.
+-- The lines that calls write, one call after another, and the faults that they count.
 use Rattle.std.proofs.Common.{arith, ◌≡◌, ℕ, ◌+◌, List, [], ◌∷◌, ◌++◌, refl, append-nil, Result, Ok, Err, IsErr}
 use Rattle.std.specs.Prelude.{OnOk}
 use Rattle.std.proofs.lemmas.Bool.{false≢true}
@@ -24,7 +24,7 @@ pub no_faults : fault_count [] ≡ 0
 unfolding fault_count
 no_faults = refl
 
--- This line, no fault, is the first of these lines.
+-- This line is the first of these lines, and it is no fault.
 pub record BeginsSo (line : Line) (ls : List Line) : Type 0 where
   pub more : List Line
   pub is : ls ≡ line ∷ more
@@ -40,7 +40,7 @@ module _ {A E : Type 0} {n : A → ℕ} where
   unfolding lines_text fault_count
   does_nothing x log e p = search (arith, wrote-nil)
 
-  -- the same lines, and a consequence of what the call leaves
+  -- the call writes the same lines, and leaves what follows from what it is known to leave
   pub performs_on : {P Q : Type 0} {xs ys : List Line} (r : Result A E) (a b : OutLog) → xs ≡ ys →
       (P → Q) → WritesAndLeaves n r a b ys P → WritesAndLeaves n r a b xs Q
   performs_on r a b e f p = search (arith, on_ok_weaker)
@@ -53,7 +53,7 @@ module _ {A E : Type 0} {n : A → ℕ} where
   unfolding lines_text
   wrote_line x a b text e f w p = search (arith, append-nil)
 
-  -- one line is written
+  -- a call writes one line
   pub writes_line : {P : Type 0} {line : Line} (r : Result A E) (a b : OutLog) (text : List ℕ) →
       line_text line ≡ text
       → ((x : A) → fault_count (line ∷ []) ≡ n x) → Writes r a b text → P →
@@ -62,7 +62,7 @@ module _ {A E : Type 0} {n : A → ℕ} where
   writes_line (Ok x) a b text e f w p = search (arith, append-nil)
   writes_line (Err y) a b text e f w p = search (arith, append-nil)
 
-  -- a line, and then a call
+  -- a line was written, and then a call follows
   pub line_then : {P : Type 0} {line : Line} {ls : List Line} (r : Result A E) (a b d : OutLog)
       (text : List ℕ)
       → line_text line ≡ text → fault_count (line ∷ ls) ≡ fault_count ls → Wrote a b text →
@@ -71,14 +71,14 @@ module _ {A E : Type 0} {n : A → ℕ} where
   unfolding lines_text
   line_then {ls} r a b d text e f w p = search (arith, writes_then)
 
-  -- ---- Where a put failed.
+  -- ---- A put failed.
 
   pub failed : {P : Type 0} {ls : List Line} (r : Result A E) (a b : OutLog) → IsErr r →
       Writes r a b (lines_text ls) → WritesAndLeaves n r a b ls P
   failed (Ok x) a b h w = absurd (false≢true h)
   failed (Err e) a b h w = search (arith)
 
-  -- in the first line
+  -- a put failed in the first line
   pub line_failed : {P : Type 0} {line : Line} {ls : List Line} (r : Result A E) (a b : OutLog)
       (text : List ℕ)
       → BeginsSo line ls → line_text line ≡ text → IsErr r → WroteFront a b text →
@@ -88,20 +88,20 @@ module _ {A E : Type 0} {n : A → ℕ} where
   line_failed (Err f) a b text begins e h w = search (arith, front-append)
 
 module _ {A B E F : Type 0} {n : A → ℕ} {m : B → ℕ} where
-  -- in a call that writes the first lines
+  -- a put failed in a call that writes the first lines
   pub first_failed : {P Q : Type 0} {xs : List Line} (ys : List Line) (e : E) (r : Result B F)
       (a b : OutLog) → IsErr r
       → WritesAndLeaves n (Err e) a b xs P → WritesAndLeaves m r a b (xs ++ ys) Q
   first_failed ys e (Ok x) a b h p = absurd (false≢true h)
   first_failed {xs} ys e (Err f) a b h p = search (arith, text_append, front-append)
 
-  -- in a call that writes all lines
+  -- a put failed in a call that writes all lines
   pub call_failed : {P Q : Type 0} {ls : List Line} (e : E) (r : Result B F) (a b : OutLog) →
       IsErr r → WritesAndLeaves n (Err e) a b ls P → WritesAndLeaves m r a b ls Q
   call_failed e (Ok x) a b h p = absurd (false≢true h)
   call_failed e (Err f) a b h p = search (arith)
 
-  -- in a call after one that succeeded
+  -- a put failed in a call after one that succeeded
   pub then_failed : {P Q : Type 0} {xs ys : List Line} (x : A) (r : Result B F) (a b d : OutLog) →
       IsErr r
       → WritesAndLeaves {E = E} n (Ok x) a b xs P → WritesAndLeaves m r b d ys Q →
@@ -109,14 +109,14 @@ module _ {A B E F : Type 0} {n : A → ℕ} {m : B → ℕ} where
   then_failed x (Ok y) a b d h p q = absurd (false≢true h)
   then_failed {xs} {ys} x (Err e) a b d h p q = search (arith, text_append, wrote-front)
 
-  -- ---- A call that succeeded, and one after it.
+  -- ---- A call that succeeded, and another after it.
 
   pub done_then : {P Q : Type 0} {xs ys : List Line} (x : A) (r : Result B F) (a b d : OutLog)
       → WritesAndLeaves {E = E} n (Ok x) a b xs P → WritesAndLeaves m r b d ys Q →
       WritesAndLeaves (λ y. n x + m y) r a d (xs ++ ys) Q
   done_then {xs} {ys} x r a b d p q = search (arith, text_append, writes_then, count_append)
 
--- the same, with its faults counted otherwise
+-- the same call, if another function counts as many faults
 pub counts_as : {A B E F P : Type 0} {n : A → ℕ} {m : B → ℕ} {ls : List Line} (x : A) (y : B)
     (a b : OutLog) → n x ≡ m y
     → WritesAndLeaves {E = E} n (Ok x) a b ls P → WritesAndLeaves {E = F} m (Ok y) a b ls P

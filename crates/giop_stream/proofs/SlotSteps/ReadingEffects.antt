@@ -1,5 +1,5 @@
--- The lines of a message's events when it is read by a table, and that the calls of a message write
--- them.
+-- The lines of a message's events if it is read by a table; and the calls of a message write these
+-- lines.
 use Rattle.std.proofs.Common.{arith, inl, inr, ◌⊎◌, ◌≡◌, ℕ, suc, Bool, true, false, List, [], ◌∷◌, ◌++◌, length, map, refl, sym, ap, ◌∙◌, Option, Some, None, Result, Ok, Err}
 use Rattle.std.specs.Prelude.{◌||◌, if◌then◌else◌, is_some, IfOk}
 use Rattle.std.specs.List.{list_any}
@@ -50,7 +50,7 @@ unfolding lines_text closes_text
 closed_is at number [] = refl
 closed_is at number (c ∷ cs) = search (arith, closed_is at number cs)
 
--- two lines of one octet are a value and its call, or a value and a fault
+-- if an octet has two lines, they are a value and its call, or a value and a fault
 two_values : (s t : LineClass) → AreInLineOrder (s ∷ t ∷ []) → (s ≡ Value)
     × ((t ≡ Call) ⊎ (t ≡ Fault))
 two_values s t (inl e) = absurd cc
@@ -76,7 +76,7 @@ no_end (inr (inr (inr (inl e)))) = absurd cc
 no_end (inr (inr (inr (inr (inl e))))) = absurd cc
 no_end (inr (inr (inr (inr (inr e))))) = absurd cc
 
--- two lines of a close are those of the rest and the end
+-- if a close has two lines, they are those of the rest and the end
 two_closes : (s t : LineClass) → AtClose (s ∷ t ∷ []) → (s ≡ Rest) × (t ≡ End)
 two_closes s t (inl e) = absurd cc
 two_closes s t (inr (inl e)) = absurd cc

@@ -1,5 +1,5 @@
--- The GIOP header of a message that is known by its request id begins with it: its first four
--- octets are the id.
+-- The first four octets of the GIOP header are the request id, if the message is known by its
+-- request id.
 use Rattle.std.proofs.Common.{◌≡◌, ℕ, zero, suc, ◌<◌, true, List, [], ◌∷◌, length, take, refl, sym, subst, Option, Some, None, arith}
 use Rattle.std.specs.Prelude.{◌==◌, ◌&&◌, ◌||◌, IfSome}
 use Rattle.std.proofs.lemmas.Bool.{and_parts, cases_lt, eqb-true, ltb-true, ne_eqb, false≢true}
@@ -41,10 +41,10 @@ minor_few (a ∷ b ∷ c ∷ d ∷ e ∷ f ∷ g ∷ more) twelve h =
     version a b c d e f (right_here (a ∷ b ∷ c ∷ d ∷ e ∷ f ∷ []) _ six)
 minor_few _ twelve h = search (arith)
 
--- ---- Its type, by its kind.
+-- ---- The type of the header, by the kind of the message.
 
 abbrev HasType : ℕ → ℕ → Type 0
-HasType version kind = (T : Ty) × (header_type version kind ≡ Some T)
+HasType version kind = (T : Ty) × (header_type 1 version kind ≡ Some T)
 
 typed : (version kind : ℕ) → version < 3 → kind < 5 → HasType version kind
 typed zero zero v k = (_, refl)
@@ -100,21 +100,31 @@ says_id header twelve right name =
     let type = has_type header (minor_few header twelve right) name in (
       type.0,
       type.1,
-      id_first (header_type (minor header) (kind header)) type.0 type.1
-          (begins_with_id header name),
+      id_first (header_type 1 (minor header) (kind header)) type.0 type.1
+          (begins_with_id 1 header name),
     )
 
--- so has a Fragment's, whatever else is in it
+fragment_named : (header : List ℕ) → is_fragment header ≡ true → has_name header ≡ true
+fragment_named header f = search (arith)
+
+-- a Fragment's header begins with its request id, whatever else is in it
 pub fragment_says : (header : List ℕ) → is_fragment header ≡ true → SaysId header
 unfolding is_fragment
-fragment_says header f = search (arith, and_parts, eqb-true, id_first, begins_with_id)
+fragment_says header f =
+    let two = eqb-true (minor header) 2 (and_parts (minor header == 2) (kind header == 7) f).0 in
+    let type = fragment_type header (omega (arith, two)) f in (
+      type.0,
+      type.1,
+      id_first (header_type 1 (minor header) (kind header)) type.0 type.1
+          (begins_with_id 1 header (fragment_named header f)),
+    )
 
 -- ---- The request id that is read from its first four octets.
 
 pub id_is_id : (C : Table) (l : Answers) (m : Message) → length m.payload ≡ 4 → SaysId m.header
     → first_request_id (message_lines (message (signatures_of C (l m.number)) m.header m.payload))
     ≡ Some (id m)
-unfolding id signatures_of
+unfolding id
 id_is_id C l m four says = go m.payload four
   where
     go : (xs : List ℕ) → length xs ≡ 4 → first_request_id

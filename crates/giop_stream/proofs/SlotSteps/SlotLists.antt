@@ -1,5 +1,5 @@
--- Lists of slots: those of the code against those of the specs, one by one; which are ready for an
--- octet, and which keep room.
+-- Lists of slots: those of the code compared with those of the specs, one by one; which slots are
+-- ready for an octet, and which calls keep room.
 use Rattle.std.proofs.Common.{◌≡◌, ℕ, zero, suc, ◌<◌, ◌≤◌, List, [], ◌∷◌, ◌++◌, length, get_or, refl, ap, ◌∙◌, Option, Some, None, arith}
 use Rattle.std.specs.Prelude.{slice_get, slice_set, option_map}
 use Rattle.std.specs.List.{remove, AllByRecursion as Each}
@@ -39,7 +39,7 @@ slots_many K (o ∷ still_open) = ap suc (slots_many K still_open)
 
 -- ---- A value among the entries of the table of open messages.
 
--- the entry that holds it
+-- the entry that holds the value
 pub entry_there : (ks : List OpenEntry) (k : ℕ) (v : Contents) →
     option_map (λ e. e.value) (slice_get ks k) ≡ Some v
     → (x : OpenEntry) × (slice_get ks k ≡ Some x) × (x.value ≡ v)
@@ -68,7 +68,7 @@ none_behind [] k e l = omega (arith, l)
 none_behind (y ∷ ks) zero e l = search (arith)
 none_behind (y ∷ ks) (suc k) e l = none_behind ks k e (omega (arith, l))
 
--- that entry with another message in it
+-- the entry after its message was replaced
 pub revalued_set : (ks : List OpenEntry) (k : ℕ) (x : OpenEntry) (message : Option Message) →
     slice_get ks k ≡ Some x
     → revalued ks k (with_message x message).value ≡ slice_set ks k (with_message x message)
@@ -161,7 +161,7 @@ pub push_ready : (C : Table) (n : ℕ) (ks : List OpenEntry) (x : OpenEntry) →
 push_ready C n [] x h hs = (h, tt)
 push_ready C n (y ∷ ks) x h hs = (hs.0, push_ready C n ks x h hs.1)
 
--- two calls that each keep room keep it together
+-- if two calls each keep room, both together keep it
 pub room_then : {old between new : Slots} → KeepsRoom old between → KeepsRoom between new
     → KeepsRoom old new
 room_then a b = record { most = b.most ∙ a.most; ready = λ C n h. b.ready C n (a.ready C n h) }

@@ -1,4 +1,4 @@
--- A message that begins with its request id is never refused for its header alone.
+-- A message that begins with its request id is never refused only because of its header.
 use Rattle.std.proofs.Common.{◌≡◌, ℕ, true, false, List, None, arith}
 use Rattle.std.specs.Prelude.{nat_lt, ◌==◌}
 use Rattle.std.proofs.lemmas.Bool.{ne_eqb, and_parts, and_right, eqb-true, or_cases}

@@ -1,5 +1,5 @@
--- The lines of all events of one octet together; Ordering shows that they are those of one event
--- after the other.
+-- The lines of all events of one octet together. Ordering shows that these are the lines of one
+-- event after another.
 use Rattle.std.specs.Prelude.{false, List, [], ◌∷◌, ◌++◌}
 use Rattle.giop_message.specs.MessageReader.{MessageReader}
 use Rattle.giop_stream.specs.Events.{Event}
@@ -12,6 +12,6 @@ all_lines R known [] = []
 all_lines R known (e ∷ es) = lines_for R e (known e.subject.number)
     ++ all_lines R (kept_with known (e ∷ [])) es
 
--- those that are written, in the order of their classes
+-- the lines that are written, in the order of their classes
 unfoldable pub sorted_lines : MessageReader → OctetsByNumber → List Event → List Line
 sorted_lines R known es = up_to_last_line (λ i. false) (by_class (all_lines R known es))

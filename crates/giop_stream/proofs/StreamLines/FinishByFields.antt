@@ -57,7 +57,7 @@ open_at [] k o e = absurd cc
 open_at (a ∷ still_open) zero o e = search (arith, eq-eqb)
 open_at (a ∷ still_open) (suc k) o e = search (arith, or_right, open_at still_open k o e)
 
--- the line of the current message at the finish; none of a Fragment
+-- the line of the current message at the finish; a Fragment has none
 unfoldable pub current_text : Option CodeMessage → List ℕ
 current_text None = []
 current_text (Some m) = if is_fragment m.header then [] else unfinished_line m.number

@@ -1,5 +1,5 @@
--- Lists of message numbers: of the first messages (all but 1.2 Fragments) that are not over, and of
--- the open ones.
+-- Lists of message numbers: those of the first messages (all except 1.2 Fragments) that are not
+-- over, and those of the open ones.
 use Rattle.std.proofs.Common.{arith, ◌≡◌, ℕ, Bool, true, false, cond, not, List, [], ◌∷◌, ◌++◌, map, refl}
 use Rattle.std.specs.Prelude.{◌==◌, if◌then◌else◌, ◌||◌}
 use Rattle.std.specs.List.{filter}
@@ -10,7 +10,8 @@ use Rattle.giop_stream.specs.Framing.{Message}
 use Rattle.giop_stream.specs.Events.{Open}
 use Rattle.giop_stream.specs.OpenSlots.{is_open}
 
--- The numbers of the open messages, and of the current one if it is no Fragment and not open.
+-- The numbers of the open messages, and the number of the current one if it is no Fragment and not
+-- open.
 unfoldable pub numbers_of : List Open → List ℕ
 numbers_of still_open = map (λ o. o.opener.number) still_open
 

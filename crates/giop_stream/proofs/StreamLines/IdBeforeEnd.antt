@@ -1,4 +1,4 @@
--- A message that begins with its request id is not over before that is complete: its octets are
+-- If a message begins with its request id, it is not over before the id is complete: its octets are
 -- kept until then.
 use Rattle.std.proofs.Common.{◌≡◌, ℕ, suc, ◌<◌, ◌≤◌, Bool, true, false, List, [], ◌∷◌, ◌++◌, length, refl, append-nil, Some, None, arith}
 use Rattle.std.specs.Prelude.{◌==◌, ◌||◌, if◌then◌else◌, map}

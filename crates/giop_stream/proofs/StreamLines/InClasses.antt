@@ -1,5 +1,5 @@
--- Within which classes the lines of each kind of event are, those of lists of events, and those of
--- each part of an octet.
+-- Between which classes the lines are: those of each kind of event, those of lists of events, and
+-- those of each part of an octet.
 use Rattle.std.proofs.Common.{◌≡◌, ℕ, suc, ◌<◌, ◌≤◌, Bool, true, false, List, [], ◌∷◌, ◌++◌, length, refl, sym, append_assoc, Option, Some, None, arith}
 use Rattle.std.specs.Prelude.{nat_lt, ◌==◌, if◌then◌else◌, ◌&&◌, ◌||◌}
 use Rattle.std.specs.List.{filter}
@@ -58,7 +58,7 @@ event_lines_closes R closing e so_far all =
     class_spans 6 8 e (λ l. l.0) (λ l. l.1) (R.closes e.subject.number e.subject.header so_far)
     (close_spans _ (closing.closed e.subject.number e.subject.header so_far))
 
--- ---- The lines of events, whatever is kept.
+-- ---- The lines of events, whatever octets are kept.
 
 unfoldable pub Always : MessageReader → ℕ → ℕ → List Event → Type 0
 Always R lo hi es = (K : OctetsByNumber) → Spans lo hi (all_lines R K es)
@@ -74,7 +74,7 @@ all_lines_join R K (e ∷ es) fs =
           (all_lines R (kept_with K (e ∷ [])) es) (all_lines R more.0 fs))),
     )
 
--- two lists of events whose lines rise, one after the other
+-- two lists of events, one after the other, if the lines of both rise
 pub join_spans : (R : MessageReader) (K : OctetsByNumber) (a b c d : ℕ) (es fs : List Event) →
     b < c → a ≤ c → b ≤ d → Spans a b (all_lines R K es) → Always R c d fs →
     Spans a d (all_lines R K (es ++ fs))
@@ -196,7 +196,7 @@ module _ (R : Rules) (now : Now) where
 abbrev pub ends_short : Message → Bool
 ends_short m = nat_lt (size m.header) 4 && (is_opener m.header || is_fragment m.header)
 
--- where it doesn't, the joined message may close
+-- if a message doesn't end before its request id, the joined message may close
 pub always_close : (R : MessageReader) → IsClosing R → (still_open : List Open) (m : Message) →
     ends_short m ≡ false → Always R 6 8 (events_at_end still_open m)
 unfolding message_end_events

@@ -80,7 +80,7 @@ unfolding by_class of_rank
 any_by_class t ls h = let r = ranked t ls h in
     any_class t (λ n. filter (λ l. rank (class_of l.content) == n) ls) r.at classes r.known r.found
 
--- It is written, where its message was not over before.
+-- The last line is written, if its message was not over before.
 stand_by : (i : ℕ) (f : ℕ → Bool) (l : Line) (ls : List Line) (b c : Bool) → f i ≡ false →
     f l.number ≡ b
     → is_last_of i l ≡ c → (c || list_any (is_last_of i) ls) ≡ true
@@ -101,7 +101,8 @@ last_stands i f [] free h = absurd cc
 last_stands i f (l ∷ ls) free h = stand_by i f l ls (f l.number) (is_last_of i l) free refl refl h
     (λ g k j. last_stands i g ls k j)
 
--- A framing fault, a cancel and a close each write such a line, unless the message is over.
+-- A framing fault, a cancel and a close each write the last line of a message, unless the message
+-- is over.
 unfoldable pub is_final : EventKind → Bool
 is_final Closes = true
 is_final (Cancelled j) = true

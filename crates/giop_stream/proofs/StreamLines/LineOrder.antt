@@ -1,5 +1,5 @@
 -- The lines of an octet are in the order of their classes: those that the message's reader gives,
--- those of the request id, those of the close.
+-- then those of the request id, and then those of the close.
 use Rattle.std.proofs.Common.{inl, inr, ◌⊎◌, ◌≡◌, ℕ, suc, ◌<◌, ◌≤◌, Bool, true, false, List, [], ◌∷◌, ◌++◌, length, map, refl, Option, Some, None, arith}
 use Rattle.std.specs.Prelude.{nat_lt, ◌==◌, if◌then◌else◌, ◌||◌, option_map}
 use Rattle.std.specs.List.{AllByRecursion as Each}
@@ -26,13 +26,13 @@ one_octet : (e : Event) (x : ℕ) → e.what ≡ Takes x → joined e.subject.nu
 unfolding joined octet
 one_octet e x h = search (arith, eq-eqb)
 
--- Of two faults of one message the second is not written.
+-- If one message has two faults, the second is not written.
 two_faults : (d e : Event) (t u : List ℕ) → d.subject.number ≡ e.subject.number →
     Fine (line d (Said Fault t) ∷ line e (Said Fault u) ∷ [])
 unfolding line up_to_last_line is_last_of
 two_faults d e t u same = search (arith, eq-eqb)
 
--- The lines of two events d and e, each from its own list.
+-- The lines of two events d and e; the lines of each are made from a list of its own.
 module _ {A B : Type 0} (d e : Event) (f : A → LineClass) (g : A → List ℕ) (f' : B → LineClass)
     (g' : B → List ℕ) where
   abbrev both_give_lines : List A → List B → List Line
@@ -110,7 +110,7 @@ module _ (R : MessageReader) (laws : IsStreamable R) where
   takes_alone K at subject x = fine_of _ (always_one R 1 7 (event at subject (Takes x))
       (event_lines_takes R laws.ordered x) K).rises
 
-  -- the octet of a message, and perhaps its close
+  -- an octet of a message, and perhaps the close of the message
   takes_then : (K : OctetsByNumber) (now : Now) (x : ℕ) (b : Bool) (es : List Event) → (es ≡ [])
       ⊎ (es ≡ own now Closes)
       → Fine (all_lines R K (own now (Takes x) ++ (if b then es else [])))
@@ -180,12 +180,12 @@ unnamed_id : (most : ℕ) (still_open : List Open) (m : Message) → has_name m.
 unfolding request_id_events
 unnamed_id most still_open m h = search (arith, unnamed)
 
--- a message without a request id, or with at least 4 octets, is not too short
+-- a message isn't too short if it has no request id, or if it has at least 4 octets
 not_short : (m : Message) → (has_name m.header ≡ false) ⊎ (4 ≤ size m.header) → ends_short m ≡ false
 not_short m (inl h) = search (arith, unnamed, and_right)
 not_short m (inr h) = search (arith, le-ltb)
 
--- the header's last octet
+-- the last octet of a header
 short_begins : (R : MessageReader) (m : Message) → ends_short m ≡ true →
     Always R 0 0 (events_at_header m)
 unfolding header_events own
@@ -275,7 +275,7 @@ module _ (R : Rules) (laws : IsStreamable R.reading) (K : OctetsByNumber) (still
   unfolding events_of_octet
   first_octet none = search (arith, eq-eqb, ne_eqb, fine_of, first_rises, ends_short)
 
-  -- The lines of an octet are in order, and no two of those that are written have one class.
+  -- The lines of an octet are in order, and no two of those that are written have the same class.
   pub events_of_octet_fine : length m.payload ≤ size m.header →
       (has_name m.header ≡ true → IsBegun K m) →
       Fine (all_lines R.reading K (events_of_octet R.most still_open m))

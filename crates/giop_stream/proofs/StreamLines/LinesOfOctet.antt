@@ -1,4 +1,4 @@
--- The lines of a stream with one octet more.
+-- The lines of a stream with one more octet.
 use Rattle.std.proofs.Common.{◌≡◌, ℕ, zero, suc, ◌<◌, ◌≤◌, Bool, true, false, not, List, [], ◌∷◌, ◌++◌, length, map, refl, sym, ap, ◌∙◌, append_assoc, Option, Some, None, arith}
 use Rattle.std.specs.Prelude.{◌==◌, if◌then◌else◌, flat_map, ◌||◌, option_map}
 use Rattle.std.specs.List.{filter, list_any, AllByRecursion as Each}
@@ -35,7 +35,7 @@ event_lines_early R causal e so_far more (Takes x) =
     (omega (arith, length_push so_far x)))
 event_lines_early R causal e so_far more _ = refl
 
--- The lines of events, each by the octets up to it.
+-- The lines of events; the octets up to an event determine its lines.
 unfoldable pub lines_so_far : MessageReader → List Event → List Event → List Line
 lines_so_far R past [] = []
 lines_so_far R past (e ∷ es) = lines_of_event R e (joined e.subject.number past)
@@ -68,7 +68,7 @@ lines_so_far_append R past (e ∷ es) fs = search (
       ++ e ∷ []) es fs,
 )
 
--- More events at the end add lines at the end.
+-- If more events come at the end, their lines come at the end.
 pub lines_grow : (R : MessageReader) → IsCausal R → (es fs : List Event) →
     lines_of_events R (es ++ fs) [] (es ++ fs) ≡ lines_of_events R es [] es ++ lines_so_far R es fs
 lines_grow R causal es fs = search (arith, lines_by_past, lines_so_far_append)
@@ -163,7 +163,7 @@ by_class_filter : (q : Line → Bool) (ls : List Line) →
 unfolding by_class
 by_class_filter q ls = filter_classes q ls classes
 
--- The lines that are written: up to each message's last one.
+-- The lines that are written are those up to each message's last one.
 or_false : (b : Bool) → (b || false) ≡ b
 or_false true = refl
 or_false false = refl
@@ -220,7 +220,8 @@ standing_drops over orig f [] h = refl
 standing_drops over orig f (l ∷ ls) h = drops_by over orig f l ls h
     (λ o g k. standing_drops o orig g ls k) (orig l.number) (f l.number) refl refl
 
--- The lines of several events: those of the messages that are not over, by what is kept of them.
+-- The lines of several events: those of the messages that are not over, from the octets that are
+-- kept of them.
 unfoldable pub keeping : (ℕ → Bool) → List Event → OctetsByNumber
 keeping over past i = if over i then None else Some (joined i past)
 
@@ -288,14 +289,15 @@ standing_all_lines R over past es =
       all_lines_so_far R over past es,
     ) refl
 
--- What holds of the events' subjects holds of the lines' messages,
+-- If something holds of the numbers of the events' subjects, it holds of the numbers of the lines'
+-- messages.
 pub event_lines_number : (R : MessageReader) (P : ℕ → Type 0) (e : Event) (o : Option (List ℕ)) →
     P e.subject.number → Each (λ l. P l.number) (lines_for R e o)
 unfolding lines_for IsOf
 event_lines_number R P e None h = tt
 event_lines_number R P e (Some xs) h = search (arith, each_weaker, event_lines_of)
 
--- and what holds of the events' places of the lines' places.
+-- If something holds of the places of the events, it holds of the places of the lines.
 event_lines_place : (R : MessageReader) (P : ℕ → Type 0) (e : Event) (o : Option (List ℕ)) →
     P e.place → Each (λ l. P l.place) (lines_for R e o)
 unfolding lines_for IsOf

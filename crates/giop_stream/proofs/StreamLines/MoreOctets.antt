@@ -17,12 +17,12 @@ added_from : (R : Rules) (p q z : List ℕ) → text R (p ++ q) ≡ text R p ++ 
 unfolding added
 added_from R p q z e = search (arith, drop, drop-append_seam)
 
--- the text of a stream, then what more octets add
+-- the text of a stream with more octets is its own text, and then what these add
 pub text_adds : (R : Rules) → IsCausal R.reading → IsStreamable R.reading → (p q : List ℕ) →
     text R (p ++ q) ≡ text R p ++ added R p q
 text_adds R causal laws p q = search (arith, run_text, added_run)
 
--- what q and then r add
+-- what q and r add is what q adds, and then what r adds
 pub added_both : (R : Rules) → IsCausal R.reading → IsStreamable R.reading → (p q r : List ℕ) →
     added R p (q ++ r) ≡ added R p q ++ added R (p ++ q) r
 added_both R causal laws p q r =

@@ -1,4 +1,4 @@
--- No octet has two lines of one class.
+-- No two lines of an octet have the same class.
 use Rattle.std.proofs.Common.{inl, inr, ◌≡◌, ℕ, suc, ◌<◌, ◌≤◌, Bool, true, false, cond, List, [], ◌∷◌, ◌++◌, length, refl, append-nil, arith}
 use Rattle.std.specs.Prelude.{◌==◌, ◌&&◌}
 use Rattle.std.specs.List.{filter, AllByRecursion as Each}
@@ -17,7 +17,7 @@ use Rattle.giop_stream.proofs.Cuts.Start.{lines_nothing}
 use Rattle.giop_stream.proofs.CodeSteps.OneOctet.{Adds, Then, then_is}
 use Rattle.giop_stream.proofs.CodeSteps.EngineAlive.{sound}
 
--- ---- Among lines whose classes rise, each class has one line at most.
+-- ---- If the classes of lines rise, each class has at most one line.
 
 passed : (test : Line → Bool) (n : ℕ) → ((l : Line) → test l ≡ true → rank_of l ≡ n) → (k : Line) →
     n < rank_of k → test k ≡ false

@@ -1,5 +1,5 @@
--- Where the lines of an octet come in the order of their classes, its events may be taken one after
--- the other.
+-- If the lines of an octet come in the order of their classes, its events may be taken one after
+-- another.
 use Rattle.std.proofs.Common.{◌≡◌, ℕ, ◌<◌, ◌≤◌, Bool, true, false, cond, not, List, [], ◌∷◌, ◌++◌, refl, sym, ap, ◌∙◌, append_assoc, Option, Some, None, arith}
 use Rattle.std.specs.Prelude.{◌==◌, if◌then◌else◌, ◌||◌, flat_map, option_map}
 use Rattle.std.specs.List.{filter, list_any, AllByRecursion as Each}
@@ -24,7 +24,7 @@ abbrev pub Ordered : List Line → Type 0
 Ordered [] = Unit {0}
 Ordered (l ∷ ls) = Each (λ k. rank_of l ≤ rank_of k) ls × Ordered ls
 
--- lines whose ranks rise, so that no two are of one class
+-- lines whose ranks rise, so that no two have the same class
 abbrev pub Rises : List Line → Type 0
 Rises [] = Unit {0}
 Rises (l ∷ ls) = Each (λ k. rank_of l < rank_of k) ls × Rises ls
@@ -47,7 +47,7 @@ rises_standing over (l ∷ ls) h =
     (standing_each (λ k. rank_of l < rank_of k) later ls h.0) (rises_standing over ls h.1)
     (rises_standing later ls h.1)
 
--- in order, and no two of one class among those that are written
+-- the lines are in order, and no two of those that are written have the same class
 pub record Fine (ls : List Line) : Type 0 where
   pub ordered : Ordered ls
   pub rises : Rises (up_to_last_line (λ i. false) ls)
@@ -118,7 +118,7 @@ no_lines : (cs : List Class) → flat_map (λ c. filter (has_class c) []) cs ≡
 no_lines [] = refl
 no_lines (c ∷ cs) = no_lines cs
 
--- such lines are sorted
+-- lines in the order of their classes stay as they are when they are sorted
 pub ordered_stays : (ls : List Line) → Ordered ls → by_class ls ≡ ls
 unfolding by_class
 ordered_stays [] h = no_lines classes
@@ -139,7 +139,7 @@ ordered_filter : (q : Line → Bool) (ls : List Line) → Ordered ls → Ordered
 ordered_filter q [] h = tt
 ordered_filter q (l ∷ ls) h = search (arith, filtered_by, ordered_filter q ls h.1)
 
--- ---- The lines of the later events, by what is kept after the first ones.
+-- ---- The lines of the later events, from what is kept after the first ones.
 
 -- nothing is kept of messages that are over
 restricted : (ℕ → Bool) → OctetsByNumber → OctetsByNumber
@@ -186,7 +186,7 @@ all_lines_filter R over K (e ∷ es) =
     (kept_with (λ i. if over i then None else K i) (e ∷ [])) es
     (λ i. restricted_with over K (e ∷ []) i)))
 
--- ---- The effects, one event after the other.
+-- ---- The effects, one event after another.
 
 pub record AreEffects (R : MessageReader) (c : Tracked) (es : List Event) : Type 0 where
   pub lines : sorted_lines R c.known es ≡ (effects R c es).lines
@@ -212,7 +212,7 @@ or_none : (b : Bool) → b ≡ (b || false)
 or_none true = refl
 or_none false = refl
 
--- the lines of the first event, then those of the others by what is kept after it
+-- the lines of the first event, and then those of the others, from what is kept after it
 split_lines : (R : MessageReader) (K : OctetsByNumber) (e : Event) (es : List Event) →
     Ordered (all_lines R K (e ∷ es))
     → sorted_lines R K (e ∷ es) ≡ lines_at R K e

@@ -1,5 +1,5 @@
 -- What is written from a checkpoint on, together with what was written before, is the whole text;
--- and how many octets a checkpoint has at most.
+-- and how many octets a checkpoint can have.
 use Rattle.std.proofs.Common.{◌≡◌, Bool, true, false, ℕ, ◌≤◌, List, [], ◌++◌, length, refl, sym, ap, append_assoc, append-nil, length-drop, arith}
 use Rattle.std.specs.Prelude.{◌≢◌, Result, Ok, Err, IfOk, IfErr}
 use Rattle.std.proofs.lemmas.Bool.{false≢true}
@@ -33,7 +33,7 @@ pub remains : (R : Rules) → IsCausal R.reading → IsStreamable R.reading → 
 unfolding remaining whole_text
 remains R causal laws p q = search (arith, append_assoc, text_adds)
 
--- the finish, after what follows the front was written
+-- the finish, after the text of the octets that follow the front was written
 pub going_on : {A : Type 0} (R : Rules) (p q : List ℕ) (x y z : OutLog) (ended : Result A Stop) →
     Wrote x y (added R p q) →
     StopWrites ended y z (closing R (p ++ q)) → IfErr ended (λ why. why ≢ stop.Failed) →
@@ -51,7 +51,7 @@ unfolding remaining
 stopped_before A B R p q x y (stop.Out f) front sound = search (arith, front-append)
 stopped_before A B R p q x y stop.Failed front sound = absurd (sound refl)
 
--- a call of an engine that isn't failed never answers that it was
+-- a call of an engine that hasn't failed never returns that it had failed
 pub never_failed : {A : Type 0} (r : Result A Stop) (failed : Bool) →
     (r ≡ Err stop.Failed → failed ≡ true) →
     failed ≡ false → IfErr r (λ why. why ≢ stop.Failed)
@@ -64,13 +64,13 @@ pub leaves_sound : (A : Type 0) (why : Stop) (before after : EngineView) →
 leaves_sound A (stop.Out f) before after leaves sound = λ is. absurd cc
 leaves_sound A stop.Failed before after leaves sound = search (arith, false≢true)
 
--- the rules of an engine with this table and list, in which so many messages may be open
+-- the rules of an engine with this table and list, in which this many messages may be open
 pub rules_is : (e : EngineView) (C : Table) (l : RequestTable) (n : ℕ) → e.table ≡ C →
     e.request_table ≡ l → e.most ≡ n →
     rules_of e ≡ rules C l n
 rules_is e C l n table request_table most = search (arith)
 
--- what was written by these rules was written by equal ones
+-- what was written by these rules was written by equal rules
 pub closing_by : {A : Type 0} (ended : Result A Stop) (x y : OutLog) (Q R : Rules) (p : List ℕ) →
     Q ≡ R →
     StopWrites ended x y (closing Q p) → StopWrites ended x y (closing R p)

@@ -1,4 +1,4 @@
--- Lines whose classes rise, within two ranks; and the same of the line classes that a reader of
+-- Lines whose classes rise, within two ranks; and the same for the line classes that a reader of
 -- messages gives.
 use Rattle.std.proofs.Common.{inl, inr, ◌⊎◌, ◌≡◌, ℕ, ◌<◌, ◌≤◌, true, List, [], ◌∷◌, ◌++◌, map, refl, arith}
 use Rattle.std.specs.List.{list_any, AllByRecursion as Each}
@@ -51,7 +51,7 @@ spans_join a b c d xs ys h k i s t = record {
 pub spans_one : (n : ℕ) (l : Line) → rank_of l ≡ n → Spans n n (l ∷ [])
 spans_one n l h = search (arith)
 
--- ---- The same of a reader's line classes.
+-- ---- The same for a reader's line classes.
 
 abbrev pub class_rank : LineClass → ℕ
 class_rank Value = 1
@@ -116,7 +116,7 @@ close_spans ss (inl e) = search (arith)
 close_spans ss (inr (inl e)) = search (arith)
 close_spans ss (inr (inr e)) = search (arith)
 
--- at one octet and at the close after it, where only a fault can come twice
+-- the line classes at one octet and at the close after it; only a fault can come twice
 pub both_say : (ds cs : List LineClass) → AreInLineOrder ds → AtClose cs →
     (list_any is_fault ds ≡ true → cs ≡ End ∷ []) → (ds ≡ Rest ∷ [] → cs ≡ Rest ∷ End ∷ [] → ⊥)
     → LineClassesRise (ds ++ cs) ⊎ ((ds ≡ Fault ∷ []) × (cs ≡ Fault ∷ []))

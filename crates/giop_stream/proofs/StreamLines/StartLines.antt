@@ -1,4 +1,4 @@
--- How many start lines an octet has: one at a header's last octet, and none at any other.
+-- How many start lines an octet has: the last octet of a header has one, and all others have none.
 use Rattle.std.proofs.Common.{◌≡◌, ℕ, ◌+◌, ◌<◌, true, false, List, [], ◌∷◌, ◌++◌, length, refl, Option, Some, None, arith, length-append}
 use Rattle.std.specs.Prelude.{◌==◌, if◌then◌else◌, ◌||◌}
 use Rattle.std.specs.List.{filter, AllByRecursion as Each}
@@ -64,7 +64,7 @@ all_lines_none R K (e ∷ es) h =
     each_append NoStart (lines_for R e (K e.subject.number)) (all_lines R (kept_with K (e ∷ [])) es)
     (kept_none R e (K e.subject.number) h.0) (all_lines_none R (kept_with K (e ∷ [])) es h.1)
 
--- ---- Events without a start line: all but those at a header's last octet.
+-- ---- All events except those at a header's last octet have no start line.
 
 -- an event of this kind has no start line, whatever the message
 Calm : EventKind → Type 0
@@ -133,7 +133,7 @@ none_later R K still_open m h = search (
   classes_each,
 )
 
--- the start line comes before all others
+-- lines without a start line have none of the class Start
 no_start_class : (ls : List Line) → Each NoStart ls → filter (has_class Start) ls ≡ []
 unfolding NoStart
 no_start_class ls h = search (arith, filter_drops, each_weaker)

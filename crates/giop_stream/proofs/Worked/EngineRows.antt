@@ -1,6 +1,6 @@
--- The steps on example streams: run from the fresh state they write the text that the definitions
--- give, and the state then gives their closing. Each row holds by computation, with the small
--- reader of `Rows`.
+-- The steps on example streams. Run from the fresh state, they write the text that the definitions
+-- give, and the state then gives the closing of the stream. Each row holds by computation, with the
+-- small reader of `Rows`.
 use Rattle.std.proofs.Common.{arith, ◌≡◌, ℕ, List, codes}
 use Rattle.giop_stream.specs.Rules.{Rules}
 use Rattle.giop_stream.specs.Text.{lines_text}

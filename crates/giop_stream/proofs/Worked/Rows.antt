@@ -1,7 +1,7 @@
 -- The definitions on example streams with fragments: the text, and what is written at the end. Each
--- row holds by computation, with a small reader that gives a line for the request id, and at the
--- close one for the octets after it. `giop_stream_rows` has streams with the reader of messages
--- itself.
+-- row holds by computation, with a small reader: it gives a line for the request id, and at the
+-- close a line for the octets after it. `giop_stream_rows` has streams that are read by the reader
+-- of messages itself.
 use Rattle.std.proofs.Common.{arith, ◌≡◌, ℕ, ◌+◌, ◌-◌, ◌*◌, List, [], ◌∷◌, ◌++◌, length, take, drop, codes}
 use Rattle.std.specs.Prelude.{nat_le, nat_lt, ◌==◌, if◌then◌else◌, ◌&&◌}
 use Rattle.std.specs.Fmt.{decimal, digits}
@@ -30,7 +30,7 @@ use Rattle.giop_stream.specs.Stream.{text, start_count, fault_count, tally, is_o
 unfoldable pub id_text : ℕ → List ℕ
 id_text id = print_text.joined (codes "header.request_id ulong " ∷ decimal id ∷ [])
 
--- A message that begins with its request id; one of fewer than `least` octets is short.
+-- A message that begins with its request id; if it has fewer than `least` octets, it is short.
 unfoldable pub named_reads : List ℕ → List ℕ → List TimedLine
 named_reads header xs = if has_name header
     && nat_le 4 (length xs) then record {
@@ -55,7 +55,7 @@ small_reading least = record {
       λ number. named_closes least;
 }
 
--- with 16 open messages allowed
+-- the rules with the small reader; 16 messages may be open
 unfoldable pub small : ℕ → Rules
 small least = record { reading = small_reading least; most = 16 }
 
@@ -71,7 +71,7 @@ record Writes (R : Rules) (p lines end : List ℕ) : Type 0 where
   text : text R p ≡ lines
   closing : closing R p ≡ end
 
--- lists the definitions that the rows unfold
+-- a name for the list of the definitions that the rows unfold
 unfoldable pub rows : ℕ
 unfolding named_reads behind named_closes small_reading small digit octets digits num hex type_word
     print.start_line continues_line cancelled_line fault_line stream_fault_line unfinished_line
@@ -101,7 +101,7 @@ interleaved_row : Writes (small 0) interleaved
 unfolding rows interleaved
 interleaved_row = search (arith)
 
--- a message whose first part has its request id alone
+-- a message whose first part has only its request id
 unfoldable pub id_alone : List ℕ
 id_alone =
     octets
@@ -115,7 +115,7 @@ id_alone_row : Writes (small 0) id_alone
 unfolding rows id_alone
 id_alone_row = search (arith)
 
--- a joined message ends too early, with a Fragment that has no octet for it
+-- a joined message ends too early: a Fragment has no octet for it
 unfoldable pub too_short : List ℕ
 too_short =
     octets
@@ -129,7 +129,7 @@ too_short_row : Writes (small 46) too_short
 unfolding rows too_short
 too_short_row = search (arith)
 
--- a Fragment of no open message
+-- a Fragment whose request id belongs to no open message
 unfoldable pub not_open : List ℕ
 not_open = octets (codes "47494f50 0102 00 07 00000006 00000003 abcd")
 
@@ -140,7 +140,7 @@ not_open_row : Writes (small 0) not_open
 unfolding rows not_open
 not_open_row = search (arith)
 
--- two messages of one request id
+-- two messages with the same request id
 unfoldable pub twice : List ℕ
 twice = octets (codes "47494f50 0102 02 00 00000004 00000001 47494f50 0102 02 00 00000004 00000001")
 
@@ -180,7 +180,7 @@ cancelled_row : Writes (small 0) cancelled
 unfolding rows cancelled
 cancelled_row = search (arith)
 
--- a message of 1.1 that has fragments
+-- a message of GIOP 1.1 that has fragments
 unfoldable pub old_fragment : List ℕ
 old_fragment = octets (codes "47494f50 0101 02 00 00000000")
 
@@ -190,7 +190,7 @@ old_fragment_row : Writes (small 0) old_fragment
 unfolding rows old_fragment
 old_fragment_row = search (arith)
 
--- a Fragment of 1.0
+-- a Fragment of GIOP 1.0
 unfoldable pub early_fragment : List ℕ
 early_fragment = octets (codes "47494f50 0100 00 07 00000000")
 
@@ -200,7 +200,7 @@ early_fragment_row : Writes (small 0) early_fragment
 unfolding rows early_fragment
 early_fragment_row = search (arith)
 
--- a type above those of the standard
+-- a message type above those of the standard
 unfoldable pub unknown_type : List ℕ
 unknown_type = octets (codes "47494f50 0102 00 09 00000000")
 
@@ -210,7 +210,7 @@ unknown_type_row : Writes (small 0) unknown_type
 unfolding rows unknown_type
 unknown_type_row = search (arith)
 
--- a message that has fragments, without room for its request id
+-- a message that has fragments, but no room for its request id
 unfoldable pub no_room : List ℕ
 no_room = octets (codes "47494f50 0102 02 00 00000002 0000")
 
@@ -220,7 +220,7 @@ no_room_row : Writes (small 0) no_room
 unfolding rows no_room
 no_room_row = search (arith)
 
--- a Fragment of the other byte order, and one more
+-- a Fragment in the other byte order, and then one more Fragment
 unfoldable pub other_order : List ℕ
 other_order =
     octets
@@ -234,7 +234,7 @@ other_order_row : Writes (small 0) other_order
 unfolding rows other_order
 other_order_row = search (arith)
 
--- where the byte order is wrong at the close, the lines of the rest and the end are not written
+-- if the byte order is wrong at the close, the lines of the rest and the end are not written
 unfoldable pub order_at_close : List ℕ
 order_at_close =
     octets
@@ -247,7 +247,7 @@ order_at_close_row : Writes (small 0) order_at_close
 unfolding rows order_at_close
 order_at_close_row = search (arith)
 
--- a last Fragment of the wrong byte order closes its message all the same
+-- a last Fragment of the wrong byte order still closes its message
 unfoldable pub order_then_close : List ℕ
 order_then_close =
     octets

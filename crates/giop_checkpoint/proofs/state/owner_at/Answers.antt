@@ -5,7 +5,7 @@ use Rattle.giop_checkpoint.specs.Layouts.{OpenHasRange, IsAmong, owner_octet, li
 use Rattle.giop_checkpoint.proofs.States.{among_more, number_is, number_small}
 use Rattle.giop_checkpoint.proofs.state.owner_at.Goals as goal
 
--- the third layout and the latest have one place for the record's number
+-- the third layout and the latest layout store the record's number in the same octets
 by_layout : {layout : Layout} {octet n result : _} {owner : Option ℕ} {octets : List ℕ} →
     (layout ≡ Third) ⊎ (layout ≡ Latest)
     → (OpenHasRange Third n → IsAmong (n + 1) owner → octets ≡ limit_octets Third n owner →

@@ -13,12 +13,12 @@ both true wide e = e
 both false wide e = refl
 
 module _ (C : Table) (i : ℕ) where
-  -- a type without room is none
+  -- if the message has a version of narrow text and the type has wide text, the body has no type
   none : C.narrow ≡ true → wide_in C.types i ≡ true → Untyped ≡ type_if (body_tree C i)
   unfolding type_if
   none narrow wide = rw (narrow, wide) refl
 
-  -- and any other is a body's type
+  -- else the type is the type of a body
   some : (C.narrow && wide_in C.types i) ≡ false → Typed (tree C i) ≡ type_if (body_tree C i)
   unfolding type_if
   some e = rw e refl

@@ -3,9 +3,10 @@ use Rattle.giop_message.proofs.Going.{message_goes, message_resumes}
 use Rattle.giop_message.proofs.Faults.{over_where_faulted}
 use Rattle.giop_message.proofs.Causal.{is_causal, is_ordered}
 use Rattle.giop_message.proofs.Closes.{is_closing}
-use Rattle.giop_message.proofs.Named.{is_ending, is_named, id_is_said, has_ids}
+use Rattle.giop_message.proofs.Named.{is_ending, is_named, has_ids}
 use Rattle.giop_message.proofs.AtOctet.{text_is, close_is}
 use Rattle.giop_message.proofs.Marks.{ends_alike}
+use Rattle.giop_message.proofs.MessageLaws.{id_is_said}
 use Rattle.giop_message.proofs.laws.message_laws.Goals as goal
 
 pub returns : goal.returns
@@ -20,7 +21,7 @@ returns c = record {
       (λ number. has_ids C (answers number));
   order = λ C answers. is_ordered (λ number. signatures_of C (answers number));
   closing = λ C answers. is_closing (λ number. signatures_of C (answers number));
-  id = λ C answer. id_is_said (signatures_of C answer);
+  id = λ C answer. id_is_said C answer;
   writes = λ C answers number. text_is (signatures_of C (answers number)) number;
   closes = λ C answers number. close_is (signatures_of C (answers number)) number;
   told = λ C answer. ends_alike C answer;

@@ -47,7 +47,7 @@ request_called : (S : Signatures) (number : ℕ) (header : List ℕ) (h : Noted)
 unfolding request_call is_request called_text
 request_called S number header h id name is e f = rw (is, e, f) refl
 
--- by the interface that the object key has in the table
+-- the call names the interface that the table gives for the object key
 interface_called : (C : Table) (answer : Answer) (number : ℕ) (header : List ℕ) (h : Noted)
     (id : ℕ) (name : List ℕ) (shown : Bool) (interface : Option InterfaceId) →
     kind header ≡ 0 → h.request_id ≡ Some id → h.name ≡ Some name → shown ≡ is_shown name →

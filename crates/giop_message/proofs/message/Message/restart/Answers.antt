@@ -1,6 +1,6 @@
-use Rattle.std.proofs.Common.{◌≡◌, [], None, Some, refl, sym, ◌∙◌}
+use Rattle.std.proofs.Common.{◌≡◌, [], None, Some, refl, sym, ap, ◌∙◌}
 use Rattle.giop_sig.specs.HeaderTypes.{header_type}
-use Rattle.giop_sig.specs.Table.{in_version}
+use Rattle.giop_sig.specs.Table.{Table, in_version}
 use Rattle.giop_sig.specs.Trees.{tree}
 use Rattle.giop_message.specs.Headers.{minor, kind}
 use Rattle.giop_message.specs.Signatures.{signatures_of}
@@ -18,9 +18,10 @@ pub returns-in-Some-clause-follows : goal.returns-in-Some-clause-follows
 unfolding signatures_of
 returns-in-Some-clause-follows c answers =
     let e = c.begin.ensures in
-    let found : header_type (minor c.args.header) (kind c.args.header)
+    let version = ap (λ (t : Table). t.version) c.in_version.ensures in
+    let found : header_type c.args.catalogue.now.version (minor c.args.header) (kind c.args.header)
     ≡ Some (tree (in_version (minor c.args.header) c.args.catalogue.now) c.in-Some.of.0) =
-    rw (← c.minor_of-minor.ensures, ← c.kind_of.ensures, ← c.in_version.ensures)
+    rw (← c.minor_of-minor.ensures, ← c.kind_of.ensures, ← c.in_version.ensures, ← version)
     (sym c.in-Some.ensures.tree) in
     record {
       same_number = e.number;
@@ -38,9 +39,12 @@ pub returns-in-None-clause-follows : goal.returns-in-None-clause-follows
 unfolding signatures_of first_request_id
 returns-in-None-clause-follows c answers =
     let e = c.begin_rest.ensures in
+    let version = ap (λ (t : Table). t.version) c.in_version.ensures in
     let S = signatures_of c.args.catalogue.now (answers c.args.number) in
-    let none : header_type (minor c.args.header) (kind c.args.header) ≡ None =
-    rw (← c.minor_of-minor.ensures, ← c.kind_of.ensures) (sym c.in-None.ensures.tree) in
+    let none : header_type c.args.catalogue.now.version (minor c.args.header) (kind c.args.header)
+    ≡ None =
+    rw (← c.minor_of-minor.ensures, ← c.kind_of.ensures, ← version)
+    (sym c.in-None.ensures.tree) in
     record {
       same_number = e.number;
       same_header = e.header;

@@ -16,7 +16,7 @@ use Rattle.giop_message.proofs.HeaderEndLaws.{header_ends_none}
 use Rattle.giop_message.proofs.SectionRuns.{if_err, first_alone, standing, took, by_reads, ReadWith, broken_front, took_front, failed_front, rest_front, text_more, text_done, text_named, text_wrong, keeps_noted_header, went_on, went_done, went_wrong, none_ends, answered_here, told_here, padding_none, rest_none}
 use Rattle.giop_message.proofs.message.Message.take_some.Goals as goal
 
--- a section that has ended is still the part
+-- a section that has just ended is still the part of the message
 ended_in : (C : Table) (d : Decoder) (section : Section) (r : Read) {part : Part} →
     part ≡ parts.Typed section → KeepsNoted C (root_of section) d r → Ended C d part section r
 ended_in C d section r is keeps_noted =

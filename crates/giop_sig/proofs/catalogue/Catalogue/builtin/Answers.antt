@@ -10,4 +10,4 @@ invariant_of-result c =
       c.new-2.ensures.empty,
       c.new-3.ensures,
       c.new-4.ensures.empty,
-    ) builtin_is
+    ) (builtin_is 1)

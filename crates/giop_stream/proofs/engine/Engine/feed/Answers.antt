@@ -16,7 +16,7 @@ use Rattle.giop_stream.proofs.StreamLines.MoreOctets.{added_both}
 use Rattle.giop_stream.proofs.CodeSteps.HeaderEndSteps.{list_notified}
 use Rattle.giop_stream.proofs.engine.Engine.feed.Goals as goal
 
--- a correspondent that is never due lets all octets be taken
+-- if a correspondent is never due, all octets are taken
 all_taken : (n : ℕ) (piece : List ℕ) → (n < length piece → false ≡ true) → take n piece ≡ piece
 all_taken n piece f = go (cases_lt n (length piece))
   where
@@ -24,7 +24,7 @@ all_taken n piece f = go (cases_lt n (length piece))
     go (inl less) = absurd (false≢true (f less))
     go (inr most) = take_all n piece most
 
--- a front of more
+-- a front of what was due is a front of more
 stop_front : (A B : Type 0) (e : Stop) (a b : OutLog) (x y : List ℕ) →
     StopWrites {A = A} (Err e) a b x → StopWrites {A = B} (Err e) a b (x ++ y)
 stop_front A B (stop.Out f) a b x y w = front-append a b x y w

@@ -162,8 +162,8 @@ returns-in-Ok-clause-told g c a p h agrees =
     rw (← c.self.view_is) (c.in-Ok.ensures.told a (state_of R p) reached held.shows
     (rw (← c.self.view_is) at agrees))
 
--- By answers that agree with the correspondent, and with those by which the stream was read, as
--- there always are.
+-- The clause holds by answers that agree with the correspondent, and with the answers by which the
+-- stream was read. There are always such answers.
 pub returns-in-Ok-clause-cause : goal.returns-in-Ok-clause-cause
 returns-in-Ok-clause-cause g c a p h =
     let held = rw (← c.self.view_is) at h in

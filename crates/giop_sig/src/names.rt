@@ -1,0 +1,111 @@
+//! Numbers with a mark that have names: the ids of service contexts, the tags of profiles, code sets and minor codes.
+
+ghost use Rattle.std.specs.Prelude.{◌≡◌, ◌≤◌, ◌/◌, length, map, slice_get, IfSome};
+ghost use Rattle.std.specs.Option.{option_map};
+ghost use Rattle.giop_sig.specs.Names.{code_set_name, context_names, marked_name, minor_name, name_text, profile_names, vendor_name};
+
+/// The name of a number: a word, or the word of a vendor and the code that the vendor gave it.
+#[derive(Clone, Copy, Debug, PartialEq, Eq)]
+pub struct NumberName {
+    /// The word; of a minor code its vendor.
+    pub word: &'static [u8],
+    /// The vendor's code, from 0 to 4095; None of another number.
+    pub code: Option<u16>,
+}
+
+/// The names of the ids of service contexts, from 0 on (IOP, Standard Service Contexts).
+static CONTEXTS: [&[u8]; 18] = [
+    b"TransactionService",
+    b"CodeSets",
+    b"ChainBypassCheck",
+    b"ChainBypassInfo",
+    b"LogicalThreadId",
+    b"BI_DIR_IIOP",
+    b"SendingContextRunTime",
+    b"INVOCATION_POLICIES",
+    b"FORWARDED_IDENTITY",
+    b"UnknownExceptionInfo",
+    b"RTCorbaPriority",
+    b"RTCorbaPriorityRange",
+    b"FT_GROUP_VERSION",
+    b"FT_REQUEST",
+    b"ExceptionDetailMessage",
+    b"SecurityAttributeService",
+    b"ActivityService",
+    b"RMICustomMaxStreamFormat",
+];
+
+/// The names of the tags of profiles, from 0 on (IOP, Standard IOR Profiles).
+static PROFILES: [&[u8]; 4] = [
+    b"TAG_INTERNET_IOP",
+    b"TAG_MULTIPLE_COMPONENTS",
+    b"TAG_SCCP_IOP",
+    b"TAG_UIPMC",
+];
+
+/// The name of a number with this mark, if it has one: of 3 it is the id of a service context, of 4 the tag of a profile,
+/// of 5 a code set and of 6 a minor code. Numbers with another mark have none.
+#[tactic(auto, unfolding(crate::specs::Names::marked_name))]
+pub fn number_name(mark: u32, n: u32) -> Option<NumberName>
+    ensures name { option_map name_text result ≡ marked_name mark n }
+    ensures short { IfSome result (λ name. length name.word.now ≤ 64) }
+{
+    match mark {
+        3 => without_code(CONTEXTS.get(n as usize).copied()),
+        4 => without_code(PROFILES.get(n as usize).copied()),
+        5 => without_code(code_set(n)),
+        6 => minor(n),
+        _ => None,
+    }
+}
+
+/// The name that is this word, if there is one.
+fn without_code(word: Option<&'static [u8]>) -> Option<NumberName>
+    ensures name { option_map name_text result ≡ option_map (λ word. word.now) word.entry }
+    ensures short { IfSome word.entry (λ word. length word.now ≤ 64) →
+        IfSome result (λ name. length name.word.now ≤ 64) }
+{
+    let word = word?;
+    Some(NumberName { word, code: None })
+}
+
+/// The name of a minor code: its vendor, and the lower 12 bits.
+fn minor(n: u32) -> Option<NumberName>
+    ensures name { option_map name_text result ≡ minor_name n }
+    ensures short { IfSome result (λ name. length name.word.now ≤ 64) }
+{
+    let word = vendor(n / 4096)?;
+    let code = Some((n % 4096) as u16);
+    Some(NumberName { word, code })
+}
+
+/// The name of a code set.
+#[tactic(auto, unfolding(crate::specs::Names::code_set_name))]
+fn code_set(n: u32) -> Option<&'static [u8]>
+    ensures word { option_map (λ word. word.now) result ≡ code_set_name n }
+    ensures short { IfSome result (λ word. length word.now ≤ 64) }
+{
+    match n {
+        0x0001_0001 => Some(b"ISO_8859_1"),
+        0x0001_0020 => Some(b"ISO_646"),
+        0x0001_0100 => Some(b"UCS_2"),
+        0x0001_0106 => Some(b"UCS_4"),
+        0x0001_0109 => Some(b"UTF_16"),
+        0x0501_0001 => Some(b"UTF_8"),
+        _ => None,
+    }
+}
+
+/// The vendor that has these upper 20 bits of minor codes.
+#[tactic(auto, unfolding(crate::specs::Names::vendor_name))]
+fn vendor(n: u32) -> Option<&'static [u8]>
+    ensures word { option_map (λ word. word.now) result ≡ vendor_name n }
+    ensures short { IfSome result (λ word. length word.now ≤ 64) }
+{
+    match n {
+        0x4f4d0 => Some(b"OMG"),
+        0x41540 => Some(b"omniORB"),
+        0x54410 => Some(b"TAO"),
+        _ => None,
+    }
+}
