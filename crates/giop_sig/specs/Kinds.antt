@@ -2,8 +2,8 @@
 -- Types, TypeCode; meaning).
 use Rattle.std.specs.Prelude.{ℕ, ◌==◌, ◌||◌, Bool, cond, codes, List, [], ◌∷◌, Option, Some, None, slice_get}
 
--- What a mark says of a number: a kind that is heard is 0, the bound of a sequence 1, and a kind
--- that isn't heard 2.
+-- Whether a number with a mark is a kind. The marks are: 0 a kind that is heard, 1 the bound of a
+-- sequence, 2 a kind that isn't heard, 3 to 6 a number that may have a name (Names).
 abbrev pub is_kind : ℕ → Bool
 is_kind mark = (mark == 0) || (mark == 2)
 
@@ -25,6 +25,6 @@ kind_words =
 abbrev pub kind_word : ℕ → Option (List ℕ)
 kind_word n = cond (n == 4294967295) (Some (codes "indirection")) (slice_get kind_words n)
 
--- the word of a number with a mark: a bound has none
+-- the word of a number with a mark: a number that is no kind has none
 abbrev pub marked_word : ℕ → ℕ → Option (List ℕ)
 marked_word mark n = cond (is_kind mark) (kind_word n) None

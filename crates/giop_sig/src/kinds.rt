@@ -48,15 +48,15 @@ const WORDS: [&[u8]; 37] = [
     b"tk_event",
 ];
 
-/// Whether a number with this mark is a kind: of 0 it is one that is heard, of 2 one that isn't. Of 1 it is the bound of a
-/// sequence.
+/// Whether a number with this mark is a kind: with 0 it is one that is heard, with 2 one that isn't. With 1 it is the bound
+/// of a sequence, and with 3 to 6 a number that may have a name.
 pub fn is_kind(mark: u32) -> bool
     ensures { result ≡ is_kind mark }
 {
     mark == 0 || mark == 2
 }
 
-/// The word of a number with this mark, where that is a kind that has one; None for a bound.
+/// The word of a number with this mark, if it is a kind that has one; None of a number that is no kind.
 pub fn kind_word(mark: u32, n: u32) -> Option<&'static [u8]>
     ensures word { option_map (λ x. x.now) result ≡ marked_word mark n }
     ensures short { IfSome result (λ x. length x.now ≤ 64) }

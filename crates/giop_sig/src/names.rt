@@ -4,6 +4,8 @@ ghost use Rattle.std.specs.Prelude.{◌≡◌, ◌≤◌, ◌/◌, length, map, 
 ghost use Rattle.std.specs.Option.{option_map};
 ghost use Rattle.giop_sig.specs.Names.{code_set_name, context_names, marked_name, minor_name, name_text, profile_names, vendor_name};
 
+use crate::numbers::{CODE_SET_MARK, CONTEXT_ID_MARK, MINOR_MARK, PROFILE_TAG_MARK};
+
 /// The name of a number: a word, or the word of a vendor and the code that the vendor gave it.
 #[derive(Clone, Copy, Debug, PartialEq, Eq)]
 pub struct NumberName {
@@ -51,10 +53,10 @@ pub fn number_name(mark: u32, n: u32) -> Option<NumberName>
     ensures short { IfSome result (λ name. length name.word.now ≤ 64) }
 {
     match mark {
-        3 => without_code(CONTEXTS.get(n as usize).copied()),
-        4 => without_code(PROFILES.get(n as usize).copied()),
-        5 => without_code(code_set(n)),
-        6 => minor(n),
+        CONTEXT_ID_MARK => without_code(CONTEXTS.get(n as usize).copied()),
+        PROFILE_TAG_MARK => without_code(PROFILES.get(n as usize).copied()),
+        CODE_SET_MARK => without_code(code_set(n)),
+        MINOR_MARK => minor(n),
         _ => None,
     }
 }
