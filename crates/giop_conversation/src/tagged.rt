@@ -203,6 +203,8 @@ impl<O: Out> Out for Tagged<O> {
         Ok(())
     }
 
+    // It is called for each line, and as a function of its own it would save registers for what is rare.
+    #[inline(always)]
     fn put_line(&mut self, line: &mut Line) -> Result<(), OutFault>
         ensures does { Writes result (tagging_log self.old) (tagging_log self.new)
             (line_text line.old) }

@@ -1,4 +1,4 @@
--- The definitions of connections, a case at a time.
+-- The definitions of connections, case by case.
 use Rattle.std.proofs.Common.{◌≡◌, ℕ, zero, suc, ◌+◌, ◌-◌, ◌<◌, ◌≤◌, Bool, true, false, cond, nat_lt, List, length, set, get_or, Option, Some, None, refl, sym, ◌∙◌, ap, arith, add-one}
 use Rattle.std.proofs.lemmas.Bool.{cond-true, cond-false, lt-ltb, le-ltb}
 use Rattle.std.proofs.lemmas.List.{set-get_or}
@@ -62,7 +62,7 @@ pub forgot_some : (w : State) (id : ℕ) (cause : CloseCause) (s : FlowState) �
 unfolding flow_forgotten
 forgot_some w id cause s e = rw (e, flow_forgotten) refl
 
--- where nothing waits, a packet says nothing of what is missing
+-- if nothing waits, a packet says nothing of what is missing
 none_missed : (F : Reader) (f : Flow) (h : Heard) → length f.held ≡ 0 →
     flow_step F f (Hears h) ≡ f
 unfolding flow_step
@@ -236,7 +236,7 @@ step_known F w s place e k a =
     (cond (is_anew (syn_at v (room_at v place)) id s) there (known_taken F v place s)) k
     ∙ cond-false (is_anew (syn_at v (room_at v place)) id s) there (known_taken F v place s) a)
 
--- what a segment of a known connection does, one after the other
+-- what a segment of a known connection does, step by step
 pub known_is : (F : Reader) (w : State) (place : ℕ) (s : Segment) (room : ℕ) (side : Side)
     (id other : ℕ) → room ≡ room_at w place → side ≡ (pair_of s.flow).1 → id ≡ flow_id room side →
     other ≡ flow_id room (opposite side)
@@ -254,7 +254,7 @@ known_is F w place s room side id other e f g h =
     ∙ ap (λ (d : Side). K room d (flow_id room d) (flow_id room (opposite d))) f
     ∙ ap (λ (r : ℕ). K r here (flow_id r here) (flow_id r (opposite here))) e)
 
--- ---- What a flow holds is gone on with.
+-- ---- Gaps in a flow until it holds nothing.
 
 pub at_none : (F : Reader) (count : ℕ) (w : State) (id : ℕ) → count ≤ 0 →
     gaps_at F count w id ≡ w

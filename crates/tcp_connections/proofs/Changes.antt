@@ -1,4 +1,4 @@
--- The code has a state: what is noted of a segment, and of a connection that is known from now on.
+-- The code has a state after a segment was noted and after a connection became known.
 use Rattle.std.proofs.Common.{◌≡◌, ℕ, ◌+◌, ◌<◌, cond, nat_eq, List, [], ◌∷◌, ◌++◌, length, get_or, set, Bool, true, false, Option, Some, None, refl, sym, ◌∙◌, ap, subst, arith, length-set}
 use Rattle.std.specs.List.{insert}
 use Rattle.tcp_segment.specs.declared.endpoint.Flow.{Flow as Endpoints}
@@ -13,16 +13,17 @@ use Rattle.tcp_streams.specs.Pairs.{flow_id, flow_from}
 use Rattle.tcp_connections.specs.declared.connections.Connections.{Connections}
 use Rattle.tcp_connections.specs.declared.syns.KeptSyn.{KeptSyn}
 use Rattle.tcp_connections.specs.Connections.{State, place_of, place_among, next_room, rest_of_rooms, made_known, syn_kept, with_segment}
-use Rattle.tcp_connections.specs.State.{IsSound, IsState, state_of, times}
+use Rattle.tcp_connections.specs.State.{AreRanked, IsSound, IsState, state_of, times}
+use Rattle.tcp_connections.proofs.Before.{still_ranked}
 use Rattle.tcp_connections.proofs.Sound.{sound_seen, known_sound}
 use Rattle.tcp_connections.proofs.Times.{next_is, rest_is, times_at, times_last, times_own}
 
 pub noted : (O : List Event → Type 0) (live : List ℕ) (c c' : Connections) (w : State)
     (room id : ℕ) → IsState O live c w
     → ((e : List Event) → state_of c' e ≡ with_segment (state_of c e) room id)
-    → c'.free.most ≡ c.free.most → c'.table.most ≡ c.table.most
+    → c'.free.most ≡ c.free.most → c'.table.most ≡ c.table.most → c'.givers ≡ c.givers
     → IsState O live c' (with_segment w room id)
-noted O live c c' w room id h same free table =
+noted O live c c' w room id h same free table givers =
     let long : length (set w.lasts room w.segments) ≡ length w.lasts =
     length-set w.lasts room w.segments in
     record {
@@ -36,16 +37,17 @@ noted O live c c' w room id h same free table =
       blocks = h.blocks;
       free = free ∙ h.free ∙ sym long;
       room = table ∙ h.room ∙ sym long;
+      ranked = still_ranked _ _ _ _ _ givers h.ranked;
     }
 
 -- a SYN is kept
 pub syn_noted : (O : List Event → Type 0) (live : List ℕ) (c c' : Connections) (w : State)
     (room id : ℕ) (s : Segment) → IsState O live c w
     → ((e : List Event) → state_of c' e ≡ syn_kept (state_of c e) room id s)
-    → c'.free.most ≡ c.free.most → c'.table.most ≡ c.table.most
+    → c'.free.most ≡ c.free.most → c'.table.most ≡ c.table.most → c'.givers ≡ c.givers
     → IsState O live c' (syn_kept w room id s)
 unfolding syn_kept
-syn_noted O live c c' w room id s h same free table =
+syn_noted O live c c' w room id s h same free table givers =
     let long : length (set w.lasts room w.segments) ≡ length w.lasts =
     length-set w.lasts room w.segments in
     record {
@@ -59,14 +61,15 @@ syn_noted O live c c' w room id s h same free table =
       blocks = h.blocks;
       free = free ∙ h.free ∙ sym long;
       room = table ∙ h.room ∙ sym long;
+      ranked = still_ranked _ _ _ _ _ givers h.ranked;
     }
 
 pub counted : (O : List Event → Type 0) (live : List ℕ) (c c' : Connections) (w : State) →
     IsState O live c w
     → ((e : List Event) → state_of c' e ≡ record (state_of c e) { segments = c.segments + 1 })
-    → c'.free.most ≡ c.free.most → c'.table.most ≡ c.table.most
+    → c'.free.most ≡ c.free.most → c'.table.most ≡ c.table.most → c'.givers ≡ c.givers
     → IsState O live c' (record w { segments = w.segments + 1 })
-counted O live c c' w h same free table =
+counted O live c c' w h same free table givers =
     record {
       observed = h.observed;
       live = h.live;
@@ -76,9 +79,10 @@ counted O live c c' w h same free table =
       blocks = h.blocks;
       free = free ∙ h.free;
       room = table ∙ h.room;
+      ranked = still_ranked _ _ _ _ _ givers h.ranked;
     }
 
--- of no flow of a room did a segment come
+-- no segment of the flows of a room has come
 abbrev pub came_none : List Bool → ℕ → List Bool
 came_none came room =
     set (set came (flow_id room FromLesser) false) (flow_id room FromGreater) false
@@ -150,9 +154,9 @@ pub made : (O O' : List Event → Type 0) (live live' : List ℕ) (c c' : Connec
       syns = set c.syns.kept.items room None;
       came = came_none c.flows.came.ids.items room;
     })
-    → c'.free.most ≡ c.free.most → c'.table.most ≡ c.table.most
+    → c'.free.most ≡ c.free.most → c'.table.most ≡ c.table.most → c'.givers ≡ c.givers
     → IsState O' live' c' (made_known w p)
-made O O' live live' c c' w p rest room h observed living free new state most table =
+made O O' live live' c c' w p rest room h observed living free new state most table givers =
     let long : length (set w.lasts room w.segments) ≡ length w.lasts =
     length-set w.lasts room w.segments in
     let had : w.free ≡ rest ++ room ∷ [] = sym (ap (λ (u : State). u.free) h.same) ∙ free in
@@ -182,6 +186,9 @@ made O O' live live' c c' w p rest room h observed living free new state most ta
       blocks = h.blocks;
       free = most ∙ h.free ∙ sym long;
       room = table ∙ h.room ∙ sym long;
+      ranked = subst (AreRanked c'.givers (length w.flows) w.held)
+          (sym (opened_lives room p w.events))
+          (still_ranked _ _ _ _ _ givers h.ranked);
     })
 
 -- ---- Which connections are known.
@@ -190,7 +197,7 @@ abbrev pub others_of : Connections → List Event → State
 others_of c es =
     record (state_of c es) { known = []; rooms = []; free = []; lasts = []; syns = []; came = [] }
 
--- only which connections are known has changed, and when
+-- only the known connections, and when they were seen, have changed
 pub entered : (c c' : Connections) (es : List Event) →
     ((e : List Event) → others_of c' e ≡ others_of c e) →
     (known : List EndpointPair) (rooms free lasts : List ℕ) (syns : List (Option KeptSyn))
@@ -268,7 +275,7 @@ entered c c' es others known rooms free lasts syns came k r f l y o =
       came = bs;
     }) o
 
--- the ids and flows that are told, by what they are
+-- the ids and flows that are told, after they were computed
 pub told_as : (P : List Event → Type 0) (es : List Event) (a b a' b' : ℕ) (x y x' y' : Endpoints) →
     a ≡ a' → x ≡ x' → b ≡ b' → y ≡ y'
     → P ((es ++ Opens a x ∷ []) ++ Opens b y ∷ []) →
@@ -279,14 +286,14 @@ told_as P es a b a' b' x y x' y' d e f g h =
     (subst (λ (z : Endpoints). P ((es ++ Opens a' z ∷ []) ++ Opens b y ∷ [])) e
     (subst (λ (n : ℕ). P ((es ++ Opens n x ∷ []) ++ Opens b y ∷ [])) d h))))
 
--- the room that is taken is one of those that there are
+-- the room that is taken is one of the rooms
 pub taken_below : (w : State) (rest : List ℕ) (room : ℕ) → IsSound w → w.free ≡ rest ++ room ∷ [] →
     room < length w.lasts
 taken_below w rest room h e =
     let own : ◌≡◌ {A = ℕ} (cond (nat_eq room room) 1 0) 1 = times_own room in
     h.below room (omega (arith, ap (times room) e, times_last room rest room, own))
 
--- and no connection has it
+-- no connection has the room that is taken
 pub taken_free : (w : State) (rest : List ℕ) (room : ℕ) → IsSound w → w.free ≡ rest ++ room ∷ [] →
     (place : ℕ) → place < length w.rooms → get_or w.rooms place 0 ≡ room → ⊥
 taken_free w rest room h e place l is =

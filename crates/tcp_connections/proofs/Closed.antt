@@ -1,5 +1,5 @@
--- What follows payloads to the end of a capture has closed there: a flow of which something is due is
--- told to have a stream.
+-- Streams that follow payloads have closed at the end of a capture: a flow in which a number is due
+-- is one that was told to have a stream.
 use Rattle.std.proofs.Common.{◌≡◌, ℕ, zero, suc, ◌<◌, ◌≤◌, true, false, not, List, [], ◌∷◌, length, get_or, Option, Some, None, is_some, refl, sym, ◌∙◌, ap, subst, arith, inl, inr, true≢false}
 use Rattle.std.proofs.lemmas.Bool.{and_left, cases_Bool, cases_lt, cond-false}
 use Rattle.tcp_flow.specs.declared.flow.FlowState.{FlowState}
@@ -13,7 +13,7 @@ use Rattle.tcp_connections.proofs.Closing.{all_quiet}
 use Rattle.tcp_connections.proofs.Following.{some_same, due_in, Follow, closes_follow}
 use Rattle.tcp_connections.proofs.Living.{times_ended, begun_own, begun_beside}
 
--- where a stream of a flow lives, by what is due, it is told
+-- a flow in which a number is due was told to have a stream
 abbrev Agrees : ℕ → Option ℕ → List ℕ → Type 0
 Agrees id due live = is_some due ≡ true → 0 < times id live
 
@@ -41,7 +41,7 @@ own_agrees payloads id (Some n) None live (Closes flow cause) small h own t = λ
 own_agrees payloads id before due live (OfCapture event) small h own t =
     absurd (true≢false (sym (ap is_some own)))
 
--- how often a flow stands there, after an event of another
+-- how often a flow is among those with streams, after an event of another
 beside_times : (id : ℕ) (live : List ℕ) (event : Event) → (flow_of event ≡ Some id → ⊥) →
     times id (behind live event) ≡ times id live
 unfolding behind
@@ -75,7 +75,7 @@ over [] i d l = refl
 over (x ∷ xs) zero d l = absurd (omega (arith, l))
 over (x ∷ xs) (suc i) d l = over xs i d (omega (arith, l))
 
--- a flow of which something is due is told
+-- a flow in which a number is due was told to have a stream
 pub due_told : (payloads : List Payload) (w : State) (id : ℕ) → Follow payloads w →
     Agrees id (due_in (flow_at w id)) (lives w.events)
 unfolding times
@@ -87,12 +87,12 @@ due_told payloads w id h =
           (over w.flows id None (omega (arith, g, h.few)))))
     ]
 
--- of a flow that is out of step nothing is due
+-- no number is due in a flow that is out of step
 idle_due : (s : FlowState) → s.live ≡ None → due_in (Some s) ≡ None
 idle_due s e = cond-false (has_stream s.live s.waits) (Some s.next) None
     (and_left (is_some s.live) (not s.waits) (ap is_some e))
 
--- where all live streams have closed, each is followed to its close
+-- after all live streams have closed, each follows the payloads up to its close
 pub all_closed_follow : (payloads : List Payload) (w : State) → Follow payloads w → (flow : ℕ) →
     AllFollow payloads flow None (all_closed (lives w.events) w).events None
 all_closed_follow payloads w h flow =

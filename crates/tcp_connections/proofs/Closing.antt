@@ -1,4 +1,4 @@
--- Where all streams have closed, no flow has one, or waits for one.
+-- After all streams have closed, no flow has a live stream or waits for one.
 use Rattle.std.proofs.Common.{◌≡◌, ◌⊎◌, ℕ, suc, ◌+◌, ◌<◌, Bool, true, false, cond, nat_eq, List, [], ◌∷◌, length, drop, get_or, Option, Some, None, is_some, refl, sym, ◌∙◌, ap, subst, arith, inl, inr, true≢false, add-one, get_or-set_same, get_or-set_other}
 use Rattle.std.proofs.Math.Seq.{drop-cons}
 use Rattle.std.specs.Prelude.{Result, Ok, Err, OnOk}
@@ -22,7 +22,7 @@ none_is : (o : Option ℕ) → is_some o ≡ false → o ≡ None
 none_is None e = refl
 none_is (Some n) e = absurd (true≢false e)
 
--- ---- What is so of each flow that is out of step, and of each that there is not, is so of all in
+-- ---- What is true of flows that are out of step and of those that don't exist is true of all at
 -- the end.
 
 module _ (Q : Option FlowState → Type 0) (none : Q None)
@@ -43,7 +43,7 @@ module _ (Q : Option FlowState → Type 0) (none : Q None)
           (gives (flow_state g)
           (none_is g.live (closed_dead (state s w.held w.events) cause))))
 
-  -- others stay
+  -- other flows stay
   beside_quiet : (w : State) (id j : ℕ) (cause : CloseCause) → (j ≡ id → ⊥) → Q (flow_at w j) →
       Q (flow_at (closed_at w id cause) j)
   unfolding with_flow
@@ -77,7 +77,7 @@ module _ (Q : Option FlowState → Type 0) (none : Q None)
 
 -- ---- The end of a capture.
 
--- a stream that closes there keeps its place in the order
+-- a stream that closes at the end keeps its place in the order
 keeps_place : (w : State) (id : ℕ) (s : FlowState) (cause : CloseCause) → flow_at w id ≡ Some s →
     ((xs : List ℕ) → ended s.id cause xs ≡ xs)
     → lives (closed (state s w.held w.events) cause).events ≡ lives w.events
@@ -109,7 +109,7 @@ end_lives w id = by (flow_at w id) refl
         ∙ ap (λ (v : State). lives v.events) (closed_some w id (end_cause (Some s)) s e)
         ∙ keeps_place w id s (end_cause (Some s)) e (λ xs. end_keeps (is_some s.fin) s.id xs)
 
--- one more of those that close
+-- one more stream closes
 pub closes_next : (xs : List ℕ) (i : ℕ) (w : State) → i < length xs →
     all_closed (drop i xs) w ≡ all_closed (drop (i + 1) xs)
     (closed_at w (get_or xs i 0) (end_cause (flow_at w (get_or xs i 0))))

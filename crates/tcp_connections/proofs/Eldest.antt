@@ -11,7 +11,7 @@ use Rattle.tcp_connections.proofs.Sound.{room_below}
 use Rattle.tcp_connections.proofs.Times.{times_both}
 use Rattle.tcp_connections.proofs.Unknown.{eldest_within}
 
--- whether one goes before another, by their classes and when they were seen
+-- whether one goes before another, by their classes and by when they were seen
 abbrev before : (a b m n : ℕ) → Bool
 before a b m n = nat_lt a b || nat_eq a b && nat_lt m n
 
@@ -53,7 +53,7 @@ not_before_itself a n = not_true (before a a n n) (λ h. by (before_is a a n n h
     by (inl l) = omega (arith, l)
     by (inr (e, l)) = omega (arith, l)
 
--- none of those that were looked at goes before it
+-- none of those that were looked at goes before the eldest
 none_before : (w : State) (n k : ℕ) → k < n → goes_before w k (eldest w n) ≡ false
 unfolding eldest
 none_before w zero k l = absurd (omega (arith, l))
@@ -80,7 +80,7 @@ none_before w (suc n) k l =
           ])
     ]
 
--- the one that goes before each other is the eldest
+-- the connection that goes before all others is the eldest
 pub only_eldest : (w : State) (place : ℕ) → IsSound w → place < length w.known →
     IsBeforeAll w.flows w.came w.lasts (room_at w place) → place ≡ eldest w (length w.known)
 only_eldest w place h l first =
@@ -97,7 +97,7 @@ only_eldest w place h l first =
           ∙ none_before w (length w.known) place l))
     ]
 
--- a class by whether a stream is live, and whether segments of both flows came
+-- a class, from whether a stream is live and whether segments of both flows came
 abbrev class : Bool → Bool → ℕ
 class live both = cond live (cond both 2 1) 0
 

@@ -26,7 +26,7 @@ use Rattle.tcp_connections.proofs.Living.{lives_ids}
 use Rattle.tcp_connections.proofs.Sound.{count_beside, count_gone, some_within}
 use Rattle.tcp_connections.proofs.States.{small_id}
 
--- where a number stands
+-- the index of a number that is in a list
 times_index : (n : ℕ) (xs : List ℕ) → 0 < times n xs → (r : ℕ)
     × ((r < length xs) × (get_or xs r 0 ≡ n))
 unfolding times
@@ -40,7 +40,7 @@ times_index n (x ∷ xs) l =
           (suc i.0, (omega (arith, i.1.0), i.1.1)))
     ]
 
--- those before one that is taken away stay where they are
+-- the elements before one that is taken away stay at their indices
 differs : (x n k : ℕ) (xs : List ℕ) → IsDistinct eqb (x ∷ xs) → k < length xs → get_or xs k 0 ≡ n →
     nat_eq x n ≡ false
 differs x n k xs d l e = subst (λ (m : ℕ). nat_eq x m ≡ false) e
@@ -89,10 +89,9 @@ unfolding without
 without_last n [] h = search (arith, cond-true, nat_eq, eq-eqb)
 without_last n (x ∷ xs) h = search (arith, cond-false, nat_eq, not_own, without_last n xs h.1)
 
--- ---- A gap of a flow: it stands where it stood, or is the last from then on, or stands there no
--- longer.
+-- ---- A gap in a flow: the flow stays at its place in the order, becomes the last, or goes.
 
--- where the flow of an id stands, of flows that stood so
+-- a flow stayed at its place, became the last, or went
 abbrev StandsSo : ℕ → List ℕ → List ℕ → Type 0
 StandsSo id all xs = (xs ≡ all) ⊎ ((xs ≡ without id all) ⊎ (xs ≡ without id all ++ id ∷ []))
 
@@ -100,7 +99,7 @@ record IsTail (id : ℕ) (all : List ℕ) (g : Flow) : Type 0 where
   pub same : g.id ≡ id
   pub tail : StandsSo id all (lives g.events)
 
--- the id is none of the others
+-- the id isn't among the others
 record IsOther (id : ℕ) (others : List ℕ) : Type 0 where
   pub small : id < most_ids
   pub none : AllByRecursion (λ y. eqb id y ≡ false) others
@@ -109,7 +108,7 @@ either : {X : Type 0} (P : X → Type 0) (b : Bool) (x y : X) → P x → P y �
 either P true x y p q = p
 either P false x y p q = q
 
--- it is taken away
+-- the flow goes
 gone_so : (id : ℕ) (all xs : List ℕ) → IsOther id (without id all) → StandsSo id all xs →
     StandsSo id all (without id xs)
 gone_so id all xs o (inl e) = inr (inl (ap (without id) e))
@@ -152,7 +151,7 @@ delivered_tail : (F : Reader) (id : ℕ) (all : List ℕ) (g : Flow) (p : Payloa
 unfolding delivered with_event behind
 delivered_tail F id all g p o t = search (arith, lives_more, checked_tail)
 
--- a stream of it begins: it is the last
+-- a stream of the flow begins, and the flow becomes the last
 begun_so : (id : ℕ) (all xs : List ℕ) → IsOther id (without id all) → StandsSo id all xs →
     StandsSo id all (begun id xs)
 unfolding begun
@@ -217,8 +216,8 @@ gap_tail F id f l same =
     gap_keeps F (IsTail id (lives f.events)) (tail_keeps F id (lives f.events) o) f
     (record { same = same; tail = inl refl })
 
--- ---- What the gaps have come to: the flows before a rank hold nothing, and the gaps to come
--- suffice for the rest.
+-- ---- After some gaps, the flows before a rank hold nothing, and the gaps that are left suffice
+-- for the rest.
 
 pub record SoFar (left rank : ℕ) (w : State) : Type 0 where
   pub reach : rank ≤ length (lives w.events)
@@ -252,7 +251,7 @@ next_so_far left rank w h some l e t = search (
   ltb-false,
 )
 
--- a gap of the flow at the rank
+-- a gap in the flow at the rank
 by_gap : (left rank : ℕ) (w : State) (g : Flow) (id : ℕ) → id ≡ get_or (lives w.events) rank 0 →
     0 < left → rank < length (lives w.events)
     → length g.held < length w.held → held_by_others id g.held ≡ held_by_others id w.held →
@@ -346,7 +345,7 @@ empty_by (p ∷ ps) h = absurd (let own : nat_eq p.flow p.flow ≡ true = eq-eqb
     let one : ◌≡◌ {A = ℕ} (cond (nat_eq p.flow p.flow) 1 0) 1 = rw own refl in
     omega (arith, h p.flow, one))
 
--- where all flows in step hold nothing, nothing is held
+-- if no flow in step holds anything, nothing is held
 pub all_so_far : (left rank : ℕ) (w : State) → IsSound w →
     ((id : ℕ) → is_some (live_at w id) ≡ true → 0 < times id (lives w.events)) →
     length (lives w.events) ≤ rank → SoFar left rank w → w.held ≡ []
@@ -357,7 +356,7 @@ all_so_far left rank w h told over so = empty_by w.held (λ id. by id (flow_at w
     by id None a = h.vacant id a
     by id (Some s) a = search (arith, cases_Bool, is_some, holds_live, times_index, none_held)
 
--- where no gap is left to come, nothing is held
+-- if no gap is left, nothing is held
 pub none_so_far : (left rank : ℕ) (w : State) → left ≤ 0 → SoFar left rank w → w.held ≡ []
 none_so_far left rank w none so = nothing w.held (omega (arith, so.enough, so.reach, none))
   where

@@ -1,5 +1,5 @@
 -- The flows of a state follow payloads: what each delivers is of them, whatever comes for a flow,
--- and where the capture ends.
+-- and at the end of the capture.
 use Rattle.std.proofs.Common.{◌≡◌, ℕ, ◌<◌, ◌≤◌, ◌^◌, cond, List, [], ◌∷◌, ◌++◌, length, set, get_or, Option, Some, None, is_some, unwrap_or, refl, sym, ◌∙◌, ap, subst, arith, inl, inr, true≢false, length-set, get_or-set_same, get_or-set_other}
 use Rattle.std.proofs.lemmas.Bool.{cases_eq}
 use Rattle.tcp_waiting.specs.Payload.{Payload, payload}
@@ -26,9 +26,9 @@ use Rattle.tcp_connections.proofs.States.{beside_own}
 pub some_same : {X : Type 0} (x y : X) → Some x ≡ Some y → x ≡ y
 some_same {X = X} x y e = ap (λ (o : Option X). unwrap_or o x) e
 
--- ---- A flow among all.
+-- ---- One flow among all.
 
--- the number that is due where a flow's stream lives
+-- the number that is due in a flow, if its stream is live
 abbrev pub due_in : Option FlowState → Option ℕ
 due_in None = None
 due_in (Some s) = cond (has_stream s.live s.waits) (Some s.next) None
@@ -42,14 +42,14 @@ pub record Follow (payloads : List Payload) (w : State) : Type 0 where
       IsTailOf (IsPartOf payloads id) t
   pub few : length w.flows ≤ most_ids
 
--- what a flow does is nothing to another
+-- what a flow does changes nothing of another
 pub others_kept : (payloads : List Payload) (id other : ℕ) (due : Option ℕ) → (other ≡ id → ⊥) →
     IsKept (λ es. AllFollow payloads other None es due) id
 others_kept payloads id other due apart es e of t =
     runs_more payloads other None due due es e t
     (inr (λ o. apart (of other o), refl))
 
--- one of them, before it does anything
+-- a flow of a state, before it does anything
 pub flow_before : (payloads : List Payload) (w : State) (id : ℕ) (s : FlowState) →
     Follow payloads w → flow_at w id ≡ Some s → IsGapless payloads (state s w.held w.events)
 flow_before payloads w id s h e =
@@ -65,7 +65,7 @@ flow_before payloads w id s h e =
           (h.events id));
     }
 
--- and after it
+-- a flow of a state, after it has done something
 flow_behind : (payloads : List Payload) (w : State) (id : ℕ) (f : Flow) → Follow payloads w →
     id < length w.flows → f.id ≡ id → IsGapless payloads f
     → ((other : ℕ) → (other ≡ id → ⊥) → AllFollow payloads other None f.events
@@ -124,7 +124,7 @@ step_settled F f (Octets n octets arrival) t l = came_settled F f
 step_settled F f (End n) t l = fin_settled F f n t l
 step_settled F f (Hears h) t l = heard_settled F (length f.held) h f t l
 
--- what comes for a flow that has these payloads leaves it with those
+-- what comes for a flow that follows the first payloads leaves it following the second ones
 unfoldable pub Goes : List Payload → List Payload → Reader → State → ℕ → Arrival → Type 0
 Goes payloads more F w id a = (f : Flow) → f.id ≡ id → IsGapless payloads f →
     IsGapless more (flow_step F f a)
@@ -195,7 +195,7 @@ began_both payloads F w id n octets small h t u e within apart =
           (record { same = refl; told = u.events other })).told),
     )
 
--- one more payload comes
+-- after one more payload came
 pub follow_grown : (payloads : List Payload) (p : Payload) (w : State) → Follow payloads w →
     Follow (payloads ++ p ∷ []) w
 follow_grown payloads p w t =

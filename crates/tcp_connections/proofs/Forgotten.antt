@@ -1,4 +1,4 @@
--- What forgetting a flow, and then both of a connection, leaves.
+-- What is left after one flow was forgotten, and after both flows of a connection were.
 use Rattle.std.proofs.Common.{◌≡◌, ℕ, ◌+◌, ◌*◌, ◌<◌, List, length, set, get_or, Option, Some, None, refl, sym, ◌∙◌, ap, subst, arith, length-set, get_or-set_same}
 use Rattle.std.specs.List.{remove}
 use Rattle.tcp_flow.specs.declared.flow.CloseCause.{CloseCause}
@@ -93,7 +93,7 @@ both_gone w room FromGreater cause l =
           (gone w (2 * room + 1) cause l),
     )
 
--- a connection that is forgotten
+-- after a connection was forgotten
 pub forgotten_sound : (w : State) (place : ℕ) (side : Side) (cause : CloseCause) → IsSound w →
     IsSound (both_forgotten w (room_at w place) side cause) → place < length w.known →
     2 * room_at w place + 1 < length w.flows

@@ -1,4 +1,4 @@
--- Streams are without a gap, whatever segments come.
+-- Streams have no gaps, whatever segments come.
 use Rattle.std.proofs.Common.{◌≡◌, ℕ, suc, ◌+◌, ◌*◌, ◌/◌, ◌<◌, ◌≤◌, false, nat_lt, List, [], ◌∷◌, ◌++◌, length, set, get_or, Bool, true, Option, Some, None, is_some, is_eq, refl, sym, ◌∙◌, ap, subst, arith, inl, inr, true≢false, length-set, append_assoc, append-nil}
 use Rattle.std.specs.Prelude.{slice_get}
 use Rattle.std.specs.List.{AllByRecursion}
@@ -192,7 +192,7 @@ all_of_more : (segments : List Segment) (s : Segment) (ps : List Payload) →
 all_of_more segments s [] h = tt
 all_of_more segments s (p ∷ ps) h = search (arith, slice_more, all_of_more segments s ps h.1)
 
--- one segment more
+-- one more segment
 pub step_at : (segments : List Segment) (F : Reader) (w : State) (s : Segment) → At segments w →
     At (segments ++ s ∷ []) (step F w s)
 unfolding IsIn
@@ -216,7 +216,7 @@ after_at before (s ∷ ss) F w h =
     (append_assoc before (s ∷ []) ss) (after_at (before ++ s ∷ []) ss F (step F w s)
     (step_at before F w s h))
 
--- one packet more is read
+-- one more packet is read
 pub packet_at : (segments : List Segment) (w : State) (time : Option ℕ) → At segments w →
     At segments (with_packet w time)
 packet_at segments w time h = search (arith, seen_at)
@@ -248,7 +248,7 @@ start_at ports blocks most some few =
       owns = none_owns ports blocks most;
     }
 
--- ---- Streams are without a gap.
+-- ---- Streams have no gaps.
 
 gapless_by : (segments : List Segment) (payloads : List Payload) (w : State) →
     AllByRecursion (IsOfSegment segments) payloads → Follow payloads w →

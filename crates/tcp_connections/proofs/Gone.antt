@@ -1,4 +1,4 @@
--- By what a connection is forgotten.
+-- What makes a connection be forgotten.
 use Rattle.std.proofs.Common.{◌≡◌, ℕ, zero, suc, ◌+◌, ◌<◌, ◌≤◌, Bool, true, false, cond, List, [], ◌∷◌, ◌++◌, length, set, get_or, Option, Some, None, is_some, is_eq, unwrap_or, refl, sym, ◌∙◌, ap, arith, inl, inr, true≢false}
 use Rattle.std.specs.List.{insert, remove}
 use Rattle.std.specs.Option.{option_map}
@@ -27,7 +27,7 @@ use Rattle.tcp_connections.proofs.Sound.{sound_seen}
 
 -- ---- Which pairs are known.
 
--- the pair at a place, which is another's or this one
+-- the pair at a place, which is this one if it isn't known after its removal
 at_place : (p : EndpointPair) (ps : List EndpointPair) (i : ℕ) → i < length ps →
     is_some (place_of p ps) ≡ true → place_of p (remove ps i) ≡ None → get_or ps i p ≡ p
 unfolding place_of
@@ -62,7 +62,7 @@ at_place p (q ∷ qs) (suc i) l k e =
     unmapped None h = refl
     unmapped (Some n) h = absurd (true≢false (ap is_some h))
 
--- who isn't known after one more wasn't before
+-- a pair that isn't known after an insertion wasn't known before
 none_before_insert : (p x : EndpointPair) (ps : List EndpointPair) (i : ℕ) →
     place_of p (insert ps i x) ≡ None → place_of p ps ≡ None
 unfolding place_of
@@ -92,7 +92,7 @@ both p k e = true≢false (sym k ∙ ap is_some e)
 
 -- ---- What a segment does.
 
--- of a connection that isn't known
+-- a segment of a connection that isn't known
 unknown_gone : (F : Reader) (w : State) (s : Segment) (p : EndpointPair) →
     1 ≤ length w.lasts → place_of (pair_of s.flow).0 w.known ≡ None →
     is_some (place_of p w.known) ≡ true
@@ -136,7 +136,7 @@ unknown_gone F w s p some new k e =
           ])
     ]
 
--- the pair that stands at a place
+-- the pair at its place
 at_own : (q d : EndpointPair) (ps : List EndpointPair) (i : ℕ) → place_of q ps ≡ Some i →
     get_or ps i d ≡ q
 unfolding place_of
@@ -161,7 +161,7 @@ at_own q d (x ∷ xs) i e =
     further None i f r = search (arith, true≢false, is_some)
     further (Some k) i f r = search (arith, get_or, some_number)
 
--- the connection of the segment goes
+-- the connection of the segment is forgotten
 own_gone : (q p : EndpointPair) (ps : List EndpointPair) (place : ℕ) → place < length ps →
     place_of q ps ≡ Some place → is_some (place_of p ps) ≡ true
     → place_of p (remove ps place) ≡ None → q ≡ p
@@ -175,7 +175,7 @@ unfolding is_near_due
 reset_of None s a = search (arith, true≢false)
 reset_of (Some f) s a = search (arith, both, true≢false)
 
--- of a connection that is known
+-- a segment of a connection that is known
 known_gone : (F : Reader) (w : State) (place : ℕ) (s : Segment) (p : EndpointPair) →
     place < length w.known → place_of (pair_of s.flow).0 w.known ≡ Some place
     → is_some (place_of p w.known) ≡ true → place_of p (known_taken F w place s).known ≡ None
@@ -204,7 +204,7 @@ anew_of : (w : State) (s : Segment) (place : ℕ) →
 unfolding is_anew
 anew_of w s place a = search (arith, true≢false)
 
--- of one that begins anew
+-- a segment that begins its connection anew
 anew_gone : (F : Reader) (w : State) (place : ℕ) (side : Side) (s : Segment) (p : EndpointPair) →
     IsSound w → place < length w.known → place_of (pair_of s.flow).0 w.known ≡ Some place
     → is_some (place_of p w.known) ≡ true

@@ -1,4 +1,4 @@
--- The flow that gives up if the pool is short holds something: as much as any other.
+-- The flow that gives up if the pool is short holds something: no flow holds more.
 use Rattle.std.proofs.Common.{◌≡◌, ℕ, zero, suc, ◌+◌, ◌/◌, ◌<◌, ◌≤◌, Bool, true, false, cond, nat_eq, nat_lt, List, [], ◌∷◌, length, get_or, Option, Some, None, is_some, refl, ◌∙◌, ap, subst, arith, inl, inr}
 use Rattle.std.proofs.lemmas.Bool.{cases_Bool, cases_lt, eqb-true, eq-eqb, ltb-true, ltb-false}
 use Rattle.tcp_waiting.specs.Payload.{Payload, first, blocks_of, count_of, load_of}
@@ -8,6 +8,7 @@ use Rattle.tcp_connections.specs.Connections.{State, flow_at, live_of, live_at, 
 use Rattle.tcp_connections.specs.Heaviest.{IsHeaviest}
 use Rattle.tcp_connections.specs.State.{IsSound, times}
 use Rattle.tcp_connections.proofs.Ending.{idle, none_held, holds_live}
+use Rattle.tcp_connections.proofs.Sound.{some_within}
 
 -- ---- What flows hold.
 
@@ -22,7 +23,7 @@ unfolding count_of load_of
 none_counted id [] h = refl
 none_counted id (p ∷ ps) h = grind (arith, h, none_counted id ps)
 
--- where blocks are held, a flow holds some
+-- if blocks are taken, a flow holds some
 some_load : (ps : List Payload) → 0 < blocks_of ps → (id : ℕ) × (0 < load_of id ps)
 unfolding blocks_of load_of
 some_load [] l = absurd (omega (arith, l))
@@ -71,7 +72,7 @@ from_each held id (x ∷ xs) other l =
           from_each held (heavier held id x) xs other (omega (arith, l, none)))
     ]
 
--- the first of the most of several, after one before them
+-- the first of several flows that holds the most, after one before them
 record IsFrom (held : List Payload) (id : ℕ) (ids : List ℕ) (best : ℕ) : Type 0 where
   rank : ℕ
   within : rank < length (id ∷ ids)
@@ -80,7 +81,7 @@ record IsFrom (held : List Payload) (id : ℕ) (ids : List ℕ) (best : ℕ) : T
       load_of (get_or (id ∷ ids) k 0) held ≤ load_of best held
   first : (k : ℕ) → k < rank → load_of (get_or (id ∷ ids) k 0) held < load_of best held
 
--- one more is in front, which holds less
+-- one more flow before the others, which holds less
 from_less : (held : List Payload) (id x : ℕ) (xs : List ℕ) (best : ℕ) →
     load_of id held < load_of x held → IsFrom held x xs best → IsFrom held id (x ∷ xs) best
 from_less held id x xs best less h =
@@ -103,7 +104,7 @@ from_less held id x xs best less h =
     before zero l = omega (arith, less, h.most 0 (omega arith))
     before (suc k) l = h.first k (omega (arith, l))
 
--- one more is second, which holds no more than the first
+-- one more flow in the second place, which holds no more than the first
 from_more : (held : List Payload) (id x : ℕ) (xs : List ℕ) (best : ℕ) →
     load_of x held ≤ load_of id held → IsFrom held id xs best → IsFrom held id (x ∷ xs) best
 from_more held id x xs best less h = by h.rank h.within h.is h.first
@@ -156,7 +157,7 @@ from_is held id (x ∷ xs) =
           (ltb-false (load_of id held) (load_of x held) e) (from_is held id xs))
     ]
 
--- the first of the most of several
+-- the first of several flows that holds the most
 pub heaviest_first : (held : List Payload) (ids : List ℕ) → 0 < length ids →
     IsHeaviest held ids (heaviest_from held (get_or ids 0 0) ids)
 unfolding heaviest_from
@@ -176,10 +177,18 @@ heaviest_first held (x ∷ xs) some =
     either true = refl
     either false = refl
 
--- ---- It is one of those whose streams were told.
+-- ---- It is one of those that were told to have streams.
 
--- a flow that holds blocks is one of them
-loaded_told : (w : State) (id : ℕ) → IsSound w →
+-- a flow that holds blocks has begun
+pub loaded_within : (w : State) (id : ℕ) → IsSound w → 0 < load_of id w.held → id < length w.flows
+loaded_within w id h l = by (flow_at w id) refl
+  where
+    by : (o : Option FlowState) → flow_at w id ≡ o → id < length w.flows
+    by None e = absurd (omega (arith, l, none_counted id w.held (h.vacant id e)))
+    by (Some s) e = some_within w.flows id s e
+
+-- a flow that holds blocks is one of those
+pub loaded_told : (w : State) (id : ℕ) → IsSound w →
     ((j : ℕ) → is_some (live_at w j) ≡ true → 0 < times j (lives w.events))
     → 0 < load_of id w.held → 0 < times id (lives w.events)
 unfolding live_of

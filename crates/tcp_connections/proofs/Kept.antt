@@ -1,4 +1,4 @@
--- What a flow's step leaves: which connections are known, in which rooms.
+-- A step of a flow leaves which connections are known, and their rooms.
 use Rattle.std.proofs.Common.{◌≡◌, ℕ, ◌/◌, Bool, true, false, cond, nat_lt, List, length, Option, Some, None, refl, sym, ◌∙◌, subst, arith, length-set}
 use Rattle.tcp_segment.specs.Segments.{Segment}
 use Rattle.tcp_flow.specs.declared.flow.FlowState.{FlowState}
@@ -122,7 +122,7 @@ unfolding fin_taken
 fin_kept F w id s = either w s.fin (arrived F w id (End (number_behind s))) w
     (arrived_kept F w id (End (number_behind s))) (kept_self w)
 
--- an id tells the room
+-- the room of an id
 pub half : (room : ℕ) (side : Side) → flow_id room side / 2 ≡ room
 half room FromLesser = omega arith
 half room FromGreater = omega arith

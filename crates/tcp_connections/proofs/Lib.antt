@@ -1,3 +1,4 @@
+pub mod Before
 pub mod Cases
 pub mod Changes
 pub mod Closed
@@ -9,14 +10,15 @@ pub mod Following
 pub mod Forgotten
 pub mod Gapless
 pub mod Gone
+pub mod Heavier
 pub mod Heaviest
 pub mod Kept
 pub mod Living
+pub mod OwnFlows
 pub mod Owners
 pub mod OwnersEnd
 pub mod OwnersGrown
 pub mod OwnersKnown
-pub mod OwnFlows
 pub mod Ranked
 pub mod Repeated
 pub mod Rooms

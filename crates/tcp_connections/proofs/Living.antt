@@ -1,4 +1,4 @@
--- A flow whose stream lives is one of those of whose streams the listener was told that they live.
+-- A flow with a live stream is one of those that the listener was told to have live streams.
 use Rattle.std.proofs.Common.{◌≡◌, ℕ, ◌+◌, ◌<◌, Bool, true, false, cond, nat_eq, nat_lt, not, ◌&&◌, ◌||◌, List, [], ◌∷◌, ◌++◌, length, Option, Some, None, is_some, refl, sym, ◌∙◌, ap, subst, arith, inl, inr, true≢false}
 use Rattle.std.specs.List.{remove}
 use Rattle.std.proofs.lemmas.Bool.{and_parts, cases_Bool, cond-true, cond-false, eqb-true, ne_eqb, lt-ltb}
@@ -16,9 +16,10 @@ use Rattle.tcp_streams.specs.Lives.{lives, lives_from, behind, begun, ended, wit
 use Rattle.tcp_streams.proofs.Ids.{none_ids, begun_ids, ended_ids}
 use Rattle.tcp_streams.proofs.Order.{lives_more}
 use Rattle.tcp_connections.specs.State.{times}
+use Rattle.tcp_connections.proofs.Before.{IsOrdered, order_begun, order_ended}
 use Rattle.tcp_connections.proofs.Times.{times_last, times_own}
 
--- ---- The streams that live stand there once each.
+-- ---- Each live stream is told once.
 
 pub behind_ids : (live : List ℕ) (e : Event) → AreIds live → AreIds (behind live e)
 unfolding behind
@@ -36,7 +37,7 @@ from_ids live (e ∷ es) h = from_ids (behind live e) es (behind_ids live e h)
 pub lives_ids : (es : List Event) → AreIds (lives es)
 lives_ids es = from_ids [] es none_ids
 
--- ---- How often a flow stands there, after an event.
+-- ---- How often a flow is among those with streams, after an event.
 
 without_by : (n j x : ℕ) (xs : List ℕ) (b : Bool) → nat_eq x n ≡ b → (j ≡ n → ⊥) →
     times j (without n xs) ≡ times j xs → times j (cond b xs (x ∷ without n xs))
@@ -71,22 +72,23 @@ begun_beside id j xs apart =
       | inr e ↦ ap (times j) (cond-false (nat_lt id most_ids) (without id xs ++ id ∷ []) xs e)
     ]
 
--- a flow that is in step is told, if it is so often
+-- a flow in step is among those that were told to have streams, if it is there n times
 abbrev pub IsTold : Bool → ℕ → Type 0
 IsTold live n = live ≡ true → 0 < n
 
--- what a flow of this id has done since: its stream is told where it lives, and those of others
--- stay
+-- what a flow of this id has done since: its stream is told if it lives, and the streams of others
+-- stay, in their order
 pub record IsTurn (id : ℕ) (es : List Event) (g : Flow) : Type 0 where
   pub same : g.id ≡ id
   pub own : IsTold (is_some g.live) (times id (lives g.events))
   pub beside : (j : ℕ) → (j ≡ id → ⊥) → times j (lives g.events) ≡ times j (lives es)
+  pub order : IsOrdered id (lives es) (lives g.events)
 
 either : {X : Type 0} (P : X → Type 0) (b : Bool) (x y : X) → P x → P y → P (cond b x y)
 either P true x y p q = p
 either P false x y p q = q
 
--- a close leaves how often other flows stand there
+-- after a close, other flows are there as often as before
 pub times_ended : (n j : ℕ) (cause : CloseCause) (xs : List ℕ) → (j ≡ n → ⊥) →
     times j (ended n cause xs) ≡ times j xs
 times_ended n j Gap xs apart = refl
@@ -106,6 +108,10 @@ closing_turn id es g n cause t =
       own = λ e. absurd (true≢false (sym e));
       beside = λ j n. ap (times j) (lives_more [] g.events (Closes g.id cause))
           ∙ times_ended g.id j cause (lives g.events) (λ o. n (o ∙ t.same)) ∙ t.beside j n;
+      order = subst (IsOrdered id (lives es))
+          (sym (lives_more [] g.events (Closes g.id cause)
+          ∙ ap (λ (k : ℕ). ended k cause (lives g.events)) t.same))
+          (order_ended id cause (lives es) (lives g.events) (lives_ids g.events) t.order);
     }
 
 pub closed_turn : (id : ℕ) (es : List Event) (g : Flow) (cause : CloseCause) →
@@ -114,9 +120,14 @@ unfolding closed
 closed_turn id es g cause t =
     either (IsTurn id es) (has_stream g.live g.waits) (stopped g g.next cause) (out_of_step g)
     (closing_turn id es g g.next cause t)
-    (record { same = t.same; own = λ e. absurd (true≢false (sym e)); beside = t.beside })
+    (record {
+      same = t.same;
+      own = λ e. absurd (true≢false (sym e));
+      beside = t.beside;
+      order = t.order;
+    })
 
--- a flow whose stream a gap closes may wait, since it keeps its place
+-- a flow may wait after a gap closed its stream, since it keeps its place
 awaiting_turn : (id : ℕ) (es : List Event) (g : Flow) (count : ℕ) →
     has_stream g.live g.waits ≡ true → IsTurn id es g → IsTurn id es (awaiting g count)
 unfolding closed with_event behind
@@ -130,6 +141,7 @@ awaiting_turn id es g count live t =
       own = λ e. subst (λ (xs : List ℕ). 0 < times id xs) (sym more)
           (t.own (and_parts (is_some g.live) (not g.waits) live).0);
       beside = λ j n. ap (times j) more ∙ t.beside j n;
+      order = subst (IsOrdered id (lives es)) (sym more) t.order;
     })
 
 checked_turn : (id : ℕ) (es : List Event) (g : Flow) (r : Option ℕ) →
@@ -147,6 +159,7 @@ capture_turn id es g e t =
       same = t.same;
       own = subst (λ (xs : List ℕ). IsTold (is_some g.live) (times id xs)) (sym more) t.own;
       beside = λ j n. ap (times j) more ∙ t.beside j n;
+      order = subst (IsOrdered id (lives es)) (sym more) t.order;
     }
 
 delivered_turn : (F : Reader) (id : ℕ) (es : List Event) (g : Flow) (p : Payload) →
@@ -161,6 +174,7 @@ delivered_turn F id es g p t =
       same = t.same;
       own = subst (λ (xs : List ℕ). IsTold (is_some g.live) (times id xs)) (sym more) t.own;
       beside = λ j n. ap (times j) more ∙ t.beside j n;
+      order = subst (IsOrdered id (lives es)) (sym more) t.order;
     } in
     checked_turn id es d (F.faulted d.events) u
 
@@ -176,6 +190,9 @@ started_turn id es g n l t =
           (begun_own id (lives g.events) l);
       beside = λ j k. ap (times j) more ∙ begun_beside g.id j (lives g.events) (λ o. k (o ∙ t.same))
           ∙ t.beside j k;
+      order = subst (IsOrdered id (lives es))
+          (sym (more ∙ ap (λ (k : ℕ). begun k (lives g.events)) t.same))
+          (order_begun id (lives es) (lives g.events) l t.order);
     }
 
 resumed_turn : (id : ℕ) (es : List Event) (g : Flow) → id < most_ids → IsTurn id es g →
@@ -190,7 +207,7 @@ looked_turn F id es g q o l t =
     looked_by F (IsTurn id es) (λ g p t. delivered_turn F id es g p t)
     (λ g n t. started_turn id es g n l t)
     (λ g u xs t. capture_turn id es (record g { tail = u }) (Passes xs)
-    (record { same = t.same; own = t.own; beside = t.beside })) g q o t
+    (record { same = t.same; own = t.own; beside = t.beside; order = t.order })) g q o t
 
 from_turn : (id : ℕ) (es : List Event) (g : Flow) (p : Payload) →
     IsTurn id es g → IsTurn id es (told_from g p)
@@ -218,10 +235,10 @@ pub turn_keeps : (F : Reader) (id : ℕ) (es : List Event) → id < most_ids →
 turn_keeps F id es l =
     record {
       takes = λ f i e d t. taken_turn F id es (record f { held = remove f.held i }) (at f i) l
-          (record { same = t.same; own = t.own; beside = t.beside });
+          (record { same = t.same; own = t.own; beside = t.beside; order = t.order });
       closes = λ f cause t. closed_turn id es f cause t;
       waits = λ f count live t. awaiting_turn id es f count live t;
-      fins = λ f n t. record { same = t.same; own = t.own; beside = t.beside };
+      fins = λ f n t. record { same = t.same; own = t.own; beside = t.beside; order = t.order };
     }
 
 came_turn : (F : Reader) (id : ℕ) (es : List Event) (f : Flow) (p : Payload) →
@@ -237,7 +254,7 @@ came_turn F id es f p l t =
     (within_window F (length f.held + 1) (gone_on F h)) t
     (window_keeps F (IsTurn id es) k (length f.held + 1) (gone_on F h)
     (gone_on_keeps F (IsTurn id es) k h
-    (record { same = t.same; own = t.own; beside = t.beside })))
+    (record { same = t.same; own = t.own; beside = t.beside; order = t.order })))
 
 fin_turn : (F : Reader) (id : ℕ) (es : List Event) (f : Flow) (n : ℕ) →
     id < most_ids →
@@ -248,7 +265,7 @@ fin_turn F id es f n l t =
     either (IsTurn id es) (is_some f.live && nat_eq (age f.next n) 0)
     (gone_on F (record f { fin = Some n })) f
     (gone_on_keeps F (IsTurn id es) k (record f { fin = Some n })
-    (record { same = t.same; own = t.own; beside = t.beside })) t
+    (record { same = t.same; own = t.own; beside = t.beside; order = t.order })) t
 
 pub step_turn : (F : Reader) (id : ℕ) (es : List Event) (f : Flow) (a : Arrival) →
     id < most_ids →
@@ -271,9 +288,15 @@ pub first_turn : (F : Reader) (id n : ℕ) (octets : List ℕ) (arrival : origin
 unfolding first_payload
 first_turn F id n octets arrival held es l =
     came_turn F id es (fresh id n held es) (payload id n octets arrival) l
-    (record { same = refl; own = λ e. absurd (true≢false (sym e)); beside = λ j k. refl })
+    (record {
+      same = refl;
+      own = λ e. absurd (true≢false (sym e));
+      beside = λ j k. refl;
+      order = λ a b s. inl s;
+    })
 
--- what a flow has done so far is nothing yet
+-- a flow has done nothing yet
 pub no_turn : (id : ℕ) (f : Flow) → f.id ≡ id →
     IsTold (is_some f.live) (times id (lives f.events)) → IsTurn id f.events f
-no_turn id f same own = record { same = same; own = own; beside = λ j n. refl }
+no_turn id f same own =
+    record { same = same; own = own; beside = λ j n. refl; order = λ a b s. inl s }

@@ -37,19 +37,19 @@ come_more segments id s [] e h m = (m, tt)
 come_more segments id s (x ∷ es) e h m =
     (h.0, come_more segments id (cond (is_of id x) (behind s x) s) es e h.1 m)
 
--- where an id stands after events, all of which may have come
+-- what an id stands for after events, all of which might come
 pub record Stands (segments : List Segment) (id : ℕ) (es : List Event) (s : Standing)
     : Type 0 where
   pub come : AllMayCome segments id Unopened es
   pub is : standing id Unopened es ≡ s
 
--- one of its own
+-- one more event of the id's flow
 pub own_more : (segments : List Segment) (id : ℕ) (es : List Event) (s : Standing) (e : Event) →
     is_of id e ≡ true → MayCome segments s e → Stands segments id es s →
     Stands segments id (es ++ e ∷ []) (behind s e)
 own_more segments id es s e own may t = search (arith, come_more, standing_more, cond-true)
 
--- one of another
+-- one more event of another flow
 pub other_more : (segments : List Segment) (id : ℕ) (es : List Event) (s : Standing) (e : Event) →
     is_of id e ≡ false → Stands segments id es s → Stands segments id (es ++ e ∷ []) s
 other_more segments id es s e other t = search (
@@ -98,7 +98,7 @@ due_left next live p small l h = search (
 some_endpoints : (x y : Endpoints) → Some x ≡ Some y → x ≡ y
 some_endpoints x y e = search (arith, unwrap_or)
 
--- the payloads that are held, of whichever flows, are parts of segments of their flows
+-- a held payload, of whichever flow, is part of a segment of its flow
 abbrev pub IsPartOfOwn : List Segment → (ℕ → Option Endpoints) → Payload → Type 0
 IsPartOfOwn segments owners p =
     (o : Endpoints) → owners p.flow ≡ Some o → IsPartOf segments o p.number p.octets
@@ -106,7 +106,7 @@ IsPartOfOwn segments owners p =
 abbrev pub stand_of : Endpoints → Bool → ℕ → Standing
 stand_of o live next = cond live (Live o next) (Idle o)
 
--- a tail is of segments of the flow
+-- a tail consists of parts of segments of the flow
 abbrev pub HasOwnTail : List Segment → Endpoints → Option Tail → Type 0
 HasOwnTail segments o tail = (t : Tail) → tail ≡ Some t → IsTailOf (IsPartOf segments o) t
 
@@ -157,7 +157,7 @@ module _ (segments : List Segment) (owners : ℕ → Option Endpoints) (id : ℕ
   unfolding with_event
   capture_own g e t = search (arith, other_more)
 
-  -- a flow that isn't live is as well out of step
+  -- a flow without a live stream may as well be out of step
   idle_own : (g : Flow) → lives g.live g.waits ≡ false → IsOwn segments owners id o g →
       IsOwn segments owners id o (out_of_step g)
   idle_own g dead t = search (arith, cond-false)
@@ -167,7 +167,7 @@ module _ (segments : List Segment) (owners : ℕ → Option Endpoints) (id : ℕ
   unfolding closed
   closed_own g cause t = search (arith, cases_Bool, cond-true, closing_own, cond-false, idle_own)
 
-  -- a flow that waits stands idle
+  -- the id of a flow that waits stands for one without a live stream
   awaiting_own : (g : Flow) (count : ℕ) → IsOwn segments owners id o g →
       IsOwn segments owners id o (awaiting g count)
   awaiting_own g count t =
@@ -363,7 +363,7 @@ module _ (segments : List Segment) (owners : ℕ → Option Endpoints) (id : ℕ
       (gone_on_keeps F (IsOwn segments owners id o) k (record f { fin = Some n })
       (k.fins f (Some n) t)) t
 
-  -- what comes is, where it is octets, part of a segment of the flow
+  -- if what comes is octets, they are part of a segment of the flow
   pub step_own : (F : Reader) (f : Flow) (a : Arrival) →
       ((n : ℕ) (octets : List ℕ) (arrival : origin.Arrival) → a ≡ Octets n octets arrival →
       IsPartOf segments o n octets) →

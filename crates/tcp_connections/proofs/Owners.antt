@@ -1,4 +1,4 @@
--- Which flows are whose, after each change of a state.
+-- Which flow each id stands for, after each change of a state.
 use Rattle.std.proofs.Common.{◌≡◌, ℕ, ◌+◌, ◌*◌, ◌^◌, ◌<◌, ◌≤◌, Bool, true, false, List, [], ◌∷◌, length, set, get_or, Option, Some, None, is_some, unwrap_or, refl, sym, ◌∙◌, ap, subst, inl, inr, true≢false, get_or-set_same, get_or-set_other}
 use Rattle.std.specs.List.{AllByRecursion}
 use Rattle.std.proofs.lemmas.Bool.{cases_eq, ne_eqb}
@@ -29,32 +29,32 @@ not_of j id (Delivers flow octets) of n = ne_eqb flow j (λ o. n (sym o ∙ of f
 not_of j id (Closes flow cause) of n = ne_eqb flow j (λ o. n (sym o ∙ of flow refl))
 not_of j id (OfCapture event) of n = refl
 
--- what a flow does is nothing to where another stands
+-- what a flow does changes nothing of what the id of another stands for
 pub others_stand : (segments : List Segment) (j id : ℕ) (s : Standing) → (j ≡ id → ⊥) →
     IsKept (λ es. Stands segments j es s) id
 others_stand segments j id s n es e of t = other_more segments j es s e (not_of j id e of n) t
 
--- ---- What is so of a state.
+-- ---- What is true of a state.
 
--- what an id stands for, and whose it is
+-- what an id stands for after these events
 abbrev pub stands_for : List Event → ℕ → Standing
 stands_for es id = standing id Unopened es
 
 abbrev pub owner_of : List Event → ℕ → Option Endpoints
 owner_of es id = owner (stands_for es id)
 
--- no stream of it lives
+-- no stream of the flow is live
 abbrev pub IsQuiet : Standing → Type 0
 IsQuiet s = (o : Endpoints) (n : ℕ) → s ≡ Live o n → ⊥
 
--- a flow stands where its id does, and its tail is of its own segments
+-- a flow is what its id stands for, and its tail is of its own segments
 abbrev pub StandsAs : List Segment → Standing → Option FlowState → Type 0
 StandsAs segments s None = IsQuiet s
 StandsAs segments s (Some f) =
     (o : Endpoints)
     × ((s ≡ stand_of o (has_stream f.live f.waits) f.next) × HasOwnTail segments o f.tail)
 
--- the flows of the connections that are known are theirs
+-- the ids of the flows of known connections stand for those flows
 abbrev pub AreTheirs : (ℕ → Option Endpoints) → List EndpointPair → List ℕ → Type 0
 AreTheirs owners [] rooms = Unit {0}
 AreTheirs owners (p ∷ ps) [] = Unit {0}
@@ -74,7 +74,7 @@ pub all_map : (P Q : Payload → Type 0) (ps : List Payload) → ((p : Payload) 
 all_map P Q [] f h = tt
 all_map P Q (p ∷ ps) f h = (f p h.0, all_map P Q ps f h.1)
 
--- the owners of some are as they were
+-- the flows that ids stand for stay the same
 pub held_same : (segments : List Segment) (owners owners' : ℕ → Option Endpoints)
     (ps : List Payload) →
     ((j : ℕ) → owners' j ≡ owners j) → AllByRecursion (IsPartOfOwn segments owners) ps →
@@ -141,7 +141,7 @@ owned_flow segments w id o f h l own t others =
       beyond = λ j many. same j ∙ h.beyond j many;
     }
 
--- a flow that there is, before it does anything
+-- a flow of a state, before it does anything
 pub own_before : (segments : List Segment) (w : State) (id : ℕ) (s : FlowState) (o : Endpoints) →
     Owns segments w → s.id ≡ id → s.next < 2 ^ 32 →
     stands_for w.events id ≡ stand_of o (has_stream s.live s.waits) s.next →

@@ -1,4 +1,4 @@
--- Whose flows are, where the capture ends.
+-- Which flow each id stands for at the end of the capture.
 use Rattle.std.proofs.Common.{ℕ, ◌+◌, List, length}
 use Rattle.tcp_segment.specs.Segments.{Segment}
 use Rattle.tcp_waiting.specs.Payload.{Payload}

@@ -1,4 +1,4 @@
--- Whose flows are, where no connection is known, and where one segment more has come.
+-- Which flow each id stands for if no connection is known, and after one more segment.
 use Rattle.std.proofs.Common.{◌≡◌, ℕ, zero, suc, ◌*◌, Bool, true, false, cond, List, [], ◌∷◌, ◌++◌, Option, Some, None, is_some, refl, sym, ap, subst, true≢false}
 use Rattle.std.specs.Prelude.{slice_get}
 use Rattle.tcp_segment.specs.declared.endpoint.Flow.{Flow as Endpoints}

@@ -1,4 +1,4 @@
--- Whose flows are, where connections are forgotten and become known.
+-- Which flow each id stands for after connections were forgotten or became known.
 use Rattle.std.proofs.Common.{◌≡◌, ℕ, zero, suc, ◌+◌, ◌*◌, ◌<◌, Bool, true, false, cond, nat_eq, List, [], ◌∷◌, ◌++◌, length, set, get_or, Option, Some, None, is_some, unwrap_or, is_eq, refl, sym, ◌∙◌, ap, subst, arith, inl, inr, true≢false, length-set, Ordering, Less, Equal, Greater, get_or-set_same, get_or-set_other}
 use Rattle.std.specs.List.{AllByRecursion, insert, remove}
 use Rattle.std.specs.Option.{option_map}
@@ -95,7 +95,7 @@ forgot_owns segments w id cause numbers h =
       beyond = λ j many. there j ∙ h.beyond j many;
     })
 
--- of the connections that are known one goes
+-- after one of the known connections was forgotten
 pub theirs_without : (owners : ℕ → Option Endpoints) (ps : List EndpointPair) (rs : List ℕ)
     (i : ℕ) → AreTheirs owners ps rs → AreTheirs owners (remove ps i) (remove rs i)
 theirs_without owners [] rs i h = none (remove rs i)
@@ -156,14 +156,14 @@ all_beside P Q id (p ∷ ps) none f h = search (
       (omega (arith, none)) f h.1,
 )
 
--- what is so but for which connections are known
+-- what is true apart from which connections are known
 pub record OwnsFlows (segments : List Segment) (kept : List (Option FlowState))
     (waiting : List Payload) (events : List Event) : Type 0 where
   pub come : (id : ℕ) → AllMayCome segments id Unopened events
   pub flows : (id : ℕ) → StandsAs segments (stands_for events id) (get_or kept id None)
   pub held : AllByRecursion (IsPartOfOwn segments (owner_of events)) waiting
 
--- an id opens, of which nothing is held, and the others stand as they did
+-- an id opens, and the others stand for what they did
 pub record HasOpened (events events' : List Event) (id : ℕ) (o : Endpoints) : Type 0 where
   pub own : owner_of events' id ≡ Some o
   pub others : (j : ℕ) → (j ≡ id → ⊥) → owner_of events' j ≡ owner_of events j
@@ -207,7 +207,7 @@ opens_owns segments flows held events id o e none h =
       record { own = ap owner here.is; others = λ j n. ap owner (there j n).is },
     )
 
--- those of other rooms are as they were
+-- the ids of other rooms stand for what they did
 theirs_kept : (owners owners' : ℕ → Option Endpoints) (room : ℕ) (ps : List EndpointPair)
     (rs : List ℕ) → times room rs ≡ 0
     → ((j : ℕ) → (j ≡ 2 * room → ⊥) → (j ≡ 2 * room + 1 → ⊥) → owners' j ≡ owners j)
@@ -223,7 +223,7 @@ theirs_kept owners owners' room (q ∷ ps) (r ∷ rs) none same h = search (
   theirs_kept owners owners' room ps rs (omega (arith, none)) same h.2,
 )
 
--- a room's flows are theirs from now on
+-- the ids of a room stand for its flows from now on
 pub theirs_with : (owners owners' : ℕ → Option Endpoints) (p : EndpointPair) (room : ℕ)
     (ps : List EndpointPair) (rs : List ℕ) (i : ℕ) → times room rs ≡ 0
     → owners' (2 * room) ≡ Some (flow_from p FromLesser) →
@@ -249,7 +249,7 @@ theirs_with owners owners' p room (q ∷ ps) (r ∷ rs) (suc i) none a b same l 
       (omega (arith, l)) h.2,
 )
 
--- ---- Whose a segment is.
+-- ---- Which flow a segment is of.
 
 pub equal_of : (r : Ordering) → is_eq r ≡ true → r ≡ Equal
 equal_of Less e = absurd (true≢false (sym e))
@@ -291,7 +291,7 @@ theirs_at owners p (q ∷ ps) (r ∷ rs) i side l e h =
     further None i f d = search (arith, true≢false, is_some)
     further (Some k) i f d = search (arith, get_or, some_number)
 
--- a flow is that of its pair and side
+-- a flow is the one of its pair and side
 pub flow_of_pair : (flow : Endpoints) → flow_from (pair_of flow).0 (pair_of flow).1 ≡ flow
 flow_of_pair flow = search (arith)
 

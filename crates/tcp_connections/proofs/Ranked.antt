@@ -1,4 +1,4 @@
--- The ranks of rooms have the order in which connections make room, and which rise.
+-- The ranks of rooms have the order in which connections make room, and they only rise.
 use Rattle.std.proofs.Common.{◌≡◌, ℕ, zero, suc, ◌+◌, ◌*◌, ◌^◌, ◌<◌, ◌≤◌, Bool, true, false, cond, nat_eq, nat_lt, ◌&&◌, ◌||◌, List, [], ◌∷◌, length, get_or, set, replicate, Option, Some, None, is_some, refl, sym, ap, ◌∙◌, arith, inl, inr, true≢false}
 use Rattle.std.proofs.lemmas.Bool.{cases_eq, cases_lt, lt-ltb, le-ltb, eq-eqb, ne_eqb, or_cases, or_left, or_right, or_from, and_from, and_left, and_right, and_parts}
 use Rattle.tcp_flow.specs.declared.flow.FlowState.{FlowState}
@@ -8,7 +8,7 @@ use Rattle.tcp_connections.specs.Ranks.{AreAtMost, IsBeforeAll, rank_among, clas
 
 -- ---- The order.
 
--- by their classes, then by their last segments, whose numbers are less than 2^64
+-- ranks compare by the classes and then by the last segments, whose numbers are less than 2^64
 pub ranks_before : (a b m n : ℕ) → m < 2 ^ 64 → n < 2 ^ 64 →
     nat_lt (a * 2 ^ 64 + m) (b * 2 ^ 64 + n) ≡ (nat_lt a b || nat_eq a b && nat_lt m n)
 ranks_before a b m n k l =
@@ -30,7 +30,7 @@ ranks_before a b m n k l =
       ]
     ]
 
--- the room of the least rank that is noted makes room before each other, if the rank is its own
+-- the room of the least noted rank makes room before all others, if that is its true rank
 pub first_before : (rooms : ℕ) (nodes : List ℕ) (flows : List (Option FlowState))
     (came : List Bool) (lasts : List ℕ) (room : ℕ) → IsFirst rooms nodes room →
     AreAtMost rooms nodes flows came lasts →
@@ -69,7 +69,7 @@ class_up true true false true h k = omega arith
 class_up true true true false h k = absurd (true≢false (sym (k refl)))
 class_up true true true true h k = omega arith
 
--- a class is as late at least, where what is live stays so, and what has come
+-- a class doesn't fall if live streams stay live, and segments that came have come
 class_rises : (flows flows' : List (Option FlowState)) (came came' : List Bool) (room : ℕ)
     → ((k : ℕ) → has_live (get_or flows k None) ≡ true → has_live (get_or flows' k None) ≡ true)
     → ((k : ℕ) → has_come_among flows came k ≡ true → has_come_among flows' came' k ≡ true)
@@ -109,7 +109,7 @@ some_set (f ∷ fs) zero (suc k) o some h = h
 some_set (f ∷ fs) (suc id) zero o some h = h
 some_set (f ∷ fs) (suc id) (suc k) o some h = some_set fs id k o some h
 
--- a flow is set, and lives
+-- a flow with a live stream is set
 pub set_at_most : (rooms : ℕ) (nodes : List ℕ) (flows : List (Option FlowState))
     (came : List Bool) (lasts : List ℕ) (id : ℕ) (o : Option FlowState) → has_live o ≡ true →
     AreAtMost rooms nodes flows came lasts → AreAtMost rooms nodes (set flows id o) came lasts

@@ -1,4 +1,4 @@
--- What each gap keeps, and each close, all of them keep.
+-- What each gap and each close keeps, all of them keep.
 use Rattle.std.proofs.Common.{ℕ, zero, suc, Bool, true, false, nat_lt, List, [], ◌∷◌, length, get_or}
 use Rattle.tcp_flow.specs.declared.flow.CloseCause.{CloseCause}
 use Rattle.tcp_flow.specs.Flow.{Reader}
@@ -6,7 +6,7 @@ use Rattle.tcp_waiting.specs.Payload.{blocks_of}
 use Rattle.tcp_streams.specs.Lives.{lives}
 use Rattle.tcp_connections.specs.Connections.{State, flow_at, heaviest, relieved, gapped, gaps_at, is_holding, gaps_from, closed_at, end_cause, all_closed}
 
--- gaps of one flow
+-- gaps in one flow
 pub own_keep : (F : Reader) (P : State → Type 0) (id : ℕ) → ((w : State) → P w → P (gapped F w id))
     → (count : ℕ) (w : State) → P w → P (gaps_at F count w id)
 unfolding gaps_at
@@ -17,7 +17,7 @@ own_keep F P id k (suc count) w h =
       | false ↦ w
     ])) [ true ↦ own_keep F P id k count (gapped F w id) (k w h) | false ↦ h ]
 
--- those while the pool is short
+-- gaps while the pool is short
 pub relieved_keep : (F : Reader) (P : State → Type 0) →
     ((w : State) (id : ℕ) → P w → P (gapped F w id)) → (count : ℕ) (w : State) → P w →
     P (relieved F count w)
@@ -32,7 +32,7 @@ relieved_keep F P k (suc count) w h =
       | false ↦ h
     ]
 
--- those of the end of the capture
+-- gaps at the end of the capture
 pub gaps_keep : (F : Reader) (P : State → Type 0) →
     ((w : State) (id : ℕ) → P w → P (gapped F w id)) → (count rank : ℕ) (w : State) → P w →
     P (gaps_from F count rank w)

@@ -1,5 +1,5 @@
--- A room that isn't free is that of a connection that is known.
-use Rattle.std.proofs.Common.{◌≡◌, ℕ, Bool, zero, suc, ◌+◌, ◌*◌, ◌<◌, ◌≤◌, true, false, cond, nat_eq, List, [], ◌∷◌, ◌++◌, length, get_or, ◌||◌, Option, Some, None, is_some, unwrap_or, refl, sym, ◌∙◌, ap, subst, arith, inl, inr, length-append}
+-- A room that isn't free is that of a known connection.
+use Rattle.std.proofs.Common.{◌≡◌, ℕ, Bool, zero, suc, ◌+◌, ◌*◌, ◌<◌, ◌≤◌, true, cond, nat_eq, List, [], ◌∷◌, ◌++◌, length, get_or, ◌||◌, Option, Some, None, is_some, unwrap_or, refl, sym, ◌∙◌, ap, subst, arith, inl, inr, length-append}
 use Rattle.std.proofs.lemmas.Bool.{cases_Bool, cases_eq, cases_lt, eqb-true, eq-eqb, or_cases, true≢false}
 use Rattle.std.proofs.lemmas.List.{get_or_past}
 use Rattle.tcp_flow.specs.declared.flow.FlowState.{FlowState}
@@ -16,7 +16,7 @@ use Rattle.tcp_connections.proofs.Kept.{acknowledgement_kept, payload_kept, fin_
 use Rattle.tcp_connections.proofs.Living.{times_without}
 use Rattle.tcp_connections.proofs.Search.{found, same_pair}
 
--- ---- Numbers that stand in a list once each.
+-- ---- Lists in which each number is once.
 
 gone_once : (n : ℕ) (xs : List ℕ) → times n xs ≤ 1 → times n (without n xs) ≡ 0
 unfolding times without
@@ -28,7 +28,7 @@ unfolding without
 one_less n [] = omega arith
 one_less n (x ∷ xs) = grind (arith, one_less n xs)
 
--- below a number there are no more
+-- of numbers below n there are at most n
 few : (n : ℕ) (xs : List ℕ) → ((x : ℕ) → times x xs ≤ 1) → ((x : ℕ) → 0 < times x xs → x < n) →
     length xs ≤ n
 unfolding times
@@ -59,7 +59,7 @@ unfolding times
 times_all n [] ys = omega arith
 times_all n (x ∷ xs) ys = omega (arith, times_all n xs ys)
 
--- where one stands that does
+-- the index of a number that is in a list
 stands : (n : ℕ) (xs : List ℕ) → 0 < times n xs →
     (i : ℕ) × ((i < length xs) × (get_or xs i 0 ≡ n))
 unfolding times
@@ -75,7 +75,7 @@ stands n (x ∷ xs) l =
 
 -- ---- Rooms.
 
--- one of all rooms is free or taken
+-- each room is free or taken
 crowded : (w : State) (room : ℕ) → IsSound w → room < length w.lasts → times room w.free ≡ 0 →
     times room w.rooms ≡ 0 → ⊥
 unfolding times
@@ -104,7 +104,7 @@ crowded w room h l free rooms =
           h.below x (omega (arith, t, none, times_all x w.rooms w.free)))
     ]
 
--- one that isn't free is taken
+-- a room that isn't free is taken
 taken : (w : State) (room : ℕ) → IsSound w → room < length w.lasts →
     (0 < times room w.free → ⊥) → 0 < times room w.rooms
 taken w room h l free =
@@ -117,7 +117,7 @@ taken w room h l free =
       | inr over ↦ absurd (crowded w room h l none (omega (arith, over)))
     ]
 
--- a place that is some
+-- places are equal if `Some` of them are
 pub same_place : (m n : ℕ) → Some m ≡ Some n → m ≡ n
 same_place m n e = ap (λ (o : Option ℕ). unwrap_or o m) e
 
@@ -129,7 +129,7 @@ inside flows id e =
       | inr g ↦ absurd (true≢false (sym e ∙ ap is_some (get_or_past flows id None g)))
     ]
 
--- a flow has begun, and so the room is that of a connection, whose pair the room had last
+-- a flow of a room has begun, so the room is that of a connection, whose pair had it last
 pub known_room : (w : State) (pair : EndpointPair) (room : ℕ) → IsSound w →
     (is_some (flow_at w (2 * room)) || is_some (flow_at w (2 * room + 1))) ≡ true →
     ((place : ℕ) (d : EndpointPair) → place < length w.rooms → get_or w.rooms place 0 ≡ room →
@@ -158,7 +158,7 @@ known_room w pair room h begun last =
       },
     )
 
--- ---- The connections stay while a segment of one is taken, up to its RST.
+-- ---- The connections stay while a segment of one of them is taken, up to its RST.
 
 pub known_on : (known known' : List EndpointPair) (rooms rooms' : List ℕ) (pair : EndpointPair)
     (room place : ℕ) → known' ≡ known → rooms' ≡ rooms → IsKnown known rooms pair room place →

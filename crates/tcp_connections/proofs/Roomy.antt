@@ -1,4 +1,4 @@
--- How many rooms there are stays, and each event is in a flow of one of them.
+-- The number of rooms stays, and each event is in a flow of one of them.
 use Rattle.std.proofs.Common.{◌≡◌, ℕ, ◌+◌, ◌*◌, ◌/◌, ◌≤◌, Bool, true, false, cond, List, [], ◌∷◌, length, Option, Some, None, is_some, unwrap_or, refl, sym, ◌∙◌, ap, inl, inr, arith, true≢false, length-set}
 use Rattle.std.specs.List.{AllByRecursion}
 use Rattle.std.proofs.lemmas.Bool.{cases_Bool, cases_lt, eq-eqb}
@@ -21,7 +21,7 @@ use Rattle.tcp_connections.proofs.Owners.{Owns}
 use Rattle.tcp_connections.proofs.Repeated.{gaps_keep, closes_keep}
 use Rattle.tcp_connections.proofs.Shown.{shown_lasts}
 
--- ---- As many rooms as before.
+-- ---- There are as many rooms as before.
 
 -- how many rooms there are
 abbrev pub rooms_in : State → ℕ
@@ -144,9 +144,9 @@ ended_rooms F w =
     closes_keep P (λ u id cause o. closed_rooms u id cause ∙ o) (lives v.events) v
     (gaps_keep F P (λ u id o. gapped_rooms F u id ∙ o) many 0 w refl)
 
--- ---- No event is in a flow beyond them.
+-- ---- No event is in a flow beyond the rooms.
 
--- what stands for no flow in the end stood for none before
+-- an id that stands for no flow at the end never stood for one
 unopened_before : (id : ℕ) (s : Standing) (es : List Event) → owner (standing id s es) ≡ None →
     owner s ≡ None
 unfolding standing
@@ -169,7 +169,7 @@ unopened_before id s (e ∷ es) none =
     back true (Live o n) (Closes k cause) h = absurd (true≢false (ap is_some h))
     back true (Live o n) (OfCapture event) h = absurd (true≢false (ap is_some h))
 
--- so no event is of it
+-- no event is in the flow of such an id
 none_of : (segments : List Segment) (id : ℕ) (es : List Event) →
     AllMayCome segments id Unopened es → owner (standing id Unopened es) ≡ None →
     AllByRecursion (λ e. is_of id e ≡ false) es

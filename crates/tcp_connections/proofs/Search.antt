@@ -1,4 +1,4 @@
--- What a search by halves answers among pairs in their order, and that they stay so.
+-- What a binary search among sorted pairs answers, and that pairs stay sorted.
 use Rattle.std.proofs.Common.{◌≡◌, ◌⊎◌, ℕ, zero, suc, ◌<◌, ◌≤◌, Bool, true, false, cond, List, [], ◌∷◌, length, get_or, Option, Some, None, is_some, refl, sym, ◌∙◌, ap, subst, arith, inl, inr, ⊎_elim, Ordering, Less, Equal, Greater, is_eq, is_lt, unwrap_or, true≢false}
 use Rattle.std.specs.Prelude.{Ok, Err}
 use Rattle.std.specs.Option.{option_map}
@@ -38,7 +38,7 @@ sorted_at (x ∷ xs) zero (suc j) d h l m = all_at (λ y. C x y ≡ Less) xs j d
 sorted_at (x ∷ xs) (suc i) (suc j) d h l m =
     sorted_at xs i j d h.1 (omega (arith, l)) (omega (arith, m))
 
--- an element that is the same stands where the search says
+-- an element that compares as equal is at the place that is found
 pub found : (p : EndpointPair) (xs : List EndpointPair) (i : ℕ) → IsStrictlySortedBy C xs →
     i < length xs → ((d : EndpointPair) → C (get_or xs i d) p ≡ Equal) → place_of p xs ≡ Some i
 unfolding IsStrictlySortedBy place_of
@@ -64,7 +64,7 @@ absent p (x ∷ xs) h =
     let e : is_eq (C x p) ≡ false = not_eq (C x p) (h 0 p (omega arith)) in
     rw e (ap (option_map suc) (absent p xs (λ k d l. h (suc k) d (omega (arith, l)))))
 
--- and the other way round
+-- if no place is found, no element compares as equal
 pub none_same : (p : EndpointPair) (xs : List EndpointPair) → place_of p xs ≡ None →
     (k : ℕ) (d : EndpointPair) → k < length xs → C (get_or xs k d) p ≡ Equal → ⊥
 unfolding place_of
@@ -79,7 +79,7 @@ none_same p (x ∷ xs) h (suc k) d l e = none_same p xs (none_under (is_eq (C x 
     none_under false None h = refl
     none_under false (Some i) h = absurd (true≢false (ap is_some h))
 
--- where what is less ends, there a pair stands
+-- the place of a pair is where the lesser elements end
 pub parted : (p : EndpointPair) (xs : List EndpointPair) (i : ℕ) → i ≤ length xs →
     ((k : ℕ) (d : EndpointPair) → k < i → C (get_or xs k d) p ≡ Less) →
     ((k : ℕ) (d : EndpointPair) → i ≤ k → k < length xs → C (get_or xs k d) p ≡ Greater) →
@@ -114,7 +114,7 @@ rises p xs s i j d le l =
           (λ e. sym (alike_right order (get_or xs j d) p (get_or xs i d) e) ∙ less))
     ]
 
--- what a search by halves answers of pairs in their order
+-- the answer of a binary search among sorted pairs
 pub searched : (p : EndpointPair) (xs : List EndpointPair) (i : ℕ) → IsStrictlySortedBy C xs →
     IsBinarySearchResult (λ y. C y p) xs (Ok i) → IsSearchInRange (Ok i) (length xs) →
     place_of p xs ≡ Some i
@@ -140,7 +140,7 @@ unfound p xs i s h l =
     below_or : (k i : ℕ) → (k < i) ⊎ (i ≤ k)
     below_or k i = cases_lt k i
 
--- ---- They stay in their order.
+-- ---- Pairs stay sorted.
 
 all_insert : (P : EndpointPair → Type 0) (xs : List EndpointPair) (i : ℕ) (y : EndpointPair) →
     AllByRecursion P xs → P y → AllByRecursion P (insert xs i y)
@@ -172,7 +172,7 @@ all_after p x (y ∷ ys) e h = (order.trans p x y e h.0, all_after p x ys e h.1)
 turned : (p x : EndpointPair) → C x p ≡ Greater → C p x ≡ Less
 turned p x e = order.antisymm p x ∙ ap ordering_reverse e
 
--- a pair that isn't known, put where it belongs
+-- after a pair that isn't known was inserted at its place
 pub sorted_insert : (p : EndpointPair) (xs : List EndpointPair) → IsStrictlySortedBy C xs →
     place_of p xs ≡ None → IsStrictlySortedBy C (insert xs (place_among p xs) p)
 unfolding IsStrictlySortedBy place_among
@@ -189,7 +189,7 @@ sorted_insert p (x ∷ xs) h n =
       | Greater ↦ (λ e. ((turned p x e, all_after p x xs (turned p x e) h.0), h))
     ] refl
 
--- a pair that isn't known isn't where another is forgotten
+-- a pair that isn't known isn't so after another was removed
 pub unknown_remove : (p : EndpointPair) (xs : List EndpointPair) (i : ℕ) → place_of p xs ≡ None →
     place_of p (remove xs i) ≡ None
 unfolding place_of
@@ -218,7 +218,7 @@ eq_is Less e = absurd (true≢false (sym e))
 eq_is Equal e = refl
 eq_is Greater e = absurd (true≢false (sym e))
 
--- a pair that is forgotten isn't known
+-- a pair that was removed isn't known
 pub forgotten_unknown : (p : EndpointPair) (xs : List EndpointPair) (i : ℕ) →
     IsStrictlySortedBy C xs → place_of p xs ≡ Some i → place_of p (remove xs i) ≡ None
 unfolding IsStrictlySortedBy place_of

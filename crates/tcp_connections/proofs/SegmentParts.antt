@@ -1,5 +1,5 @@
--- What is so of a state after segments is so after each part of what one more does: what comes
--- for a flow, a connection is forgotten, one becomes known.
+-- What is true of a state after some segments stays true after each part of what one more does:
+-- something comes for a flow, a connection is forgotten, or one becomes known.
 use Rattle.std.proofs.Common.{◌≡◌, ℕ, zero, suc, ◌+◌, ◌*◌, ◌<◌, ◌^◌, Bool, true, false, cond, nat_eq, List, [], ◌∷◌, ◌++◌, length, take, set, get_or, Option, Some, None, is_some, unwrap_or, refl, sym, ◌∙◌, ap, subst, arith, inl, inr, true≢false, length-set, get_or-set_same, get_or-set_other}
 use Rattle.std.specs.Prelude.{slice_get}
 use Rattle.std.specs.List.{AllByRecursion}
@@ -38,7 +38,7 @@ use Rattle.tcp_connections.proofs.Shown.{shown_kept, shown_keeps}
 use Rattle.tcp_connections.proofs.Sound.{IsApart, some_none, some_within, room_below, sound_seen, forgot_sound, known_sound}
 use Rattle.tcp_connections.proofs.Unknown.{eldest_within, next_free, next_below}
 
--- ---- What is so of a state, after these segments.
+-- ---- What is true of a state after these segments.
 
 pub record At (segments : List Segment) (w : State) : Type 0 where
   pub sound : IsSound w
@@ -55,7 +55,7 @@ is_octets (Octets n octets arrival) = true
 is_octets (End n) = false
 is_octets (Hears h) = false
 
--- a segment's payload is that of its flow
+-- a segment's payload is one of its flow
 own_part : (segments : List Segment) (w : State) (id : ℕ) (s : Segment) → IsIn segments s →
     owner_of w.events id ≡ Some s.flow → (o : Endpoints) → owner_of w.events id ≡ Some o → (n : ℕ)
     (octets : List ℕ) (arrival : origin.Arrival) →
@@ -98,7 +98,7 @@ heard_at segments F w id acknowledged answers h =
           (λ o own k octets arrival e. absurd (true≢false (sym (ap is_octets e)))) h.owns;
     }
 
--- the payload of a segment, for a flow
+-- the payloads with that of a segment, for a flow
 with_payload : List Payload → ℕ → Segment → origin.Arrival → List Payload
 with_payload payloads id s arrival =
     payloads ++ payload id (first_number s) s.payload arrival ∷ []
@@ -178,7 +178,7 @@ capture_at segments w event h =
       owns = told_owns segments w event h.owns;
     }
 
--- of octets in which no stream begins
+-- after octets in which no stream begins
 pub looked_at : (segments : List Segment) (w : State) (s : Segment) → At segments w →
     At segments (looked_through w s)
 unfolding looked_through
@@ -325,7 +325,7 @@ forgotten_at segments w place side cause l h =
       };
     }
 
--- what it holds is shown before
+-- after what a connection holds was shown
 pub shown_at : (segments : List Segment) (F : Reader) (w : State) (place room : ℕ)
     (side other : Side) (cause : CloseCause) → place < length w.known → At segments w →
     At segments (forgotten (shown F w room side) place other cause)

@@ -1,4 +1,4 @@
--- What the flows of a connection hold is shown, before it is forgotten: what that leaves as it is.
+-- What stays if the flows of a connection show what they hold before it is forgotten.
 use Rattle.std.proofs.Common.{◌≡◌, ℕ, ◌<◌, ◌≤◌, true, List, [], ◌∷◌, length, Option, Some, None, refl, sym, ◌∙◌, ap, subst, arith, true≢false}
 use Rattle.std.specs.List.{remove}
 use Rattle.tcp_waiting.specs.Payload.{Payload, count_of}
@@ -44,12 +44,12 @@ unfolding count_of
 none_counts id [] l = refl
 none_counts id (p ∷ ps) l = absurd (omega (arith, l))
 
--- which connections are known stays
+-- the known connections stay
 pub shown_kept : (F : Reader) (w : State) (room : ℕ) (side : Side) → IsKept w (shown F w room side)
 shown_kept F w room side = shown_keeps F (IsKept w) (λ v id h. gapped_kept F w v id h) w room side
     (kept_self w)
 
--- and its connection is forgotten then
+-- the connection is forgotten afterwards
 pub shown_known : (F : Reader) (w : State) (place room : ℕ) (side other : Side)
     (cause : CloseCause) → (forgotten (shown F w room side) place other cause).known
     ≡ remove w.known place

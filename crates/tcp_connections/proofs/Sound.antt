@@ -1,4 +1,4 @@
--- What is so of a state is so after each change of it.
+-- A state is sound after each change of it.
 use Rattle.std.proofs.Common.{◌≡◌, ℕ, zero, suc, ◌+◌, ◌*◌, ◌/◌, ◌<◌, ◌≤◌, Bool, true, false, cond, nat_eq, List, [], ◌∷◌, ◌++◌, length, set, get_or, Option, Some, None, is_some, unwrap_or, is_lt, refl, sym, ◌∙◌, ap, subst, arith, inl, inr, length-append, true≢false, length-set, get_or-set_same, get_or-set_other}
 use Rattle.std.specs.List.{insert, remove}
 use Rattle.std.proofs.lemmas.Bool.{cases_eq, cases_Bool, eqb-true, ne_eqb}
@@ -145,7 +145,7 @@ pub none_stays : (w : State) (id j : ℕ) → id < length w.flows → flow_at w 
 none_stays w id j l e = elim (cases_eq j id)
     [ inl y ↦ own_flow w id j None l y | inr n ↦ other_flow w id j None n ∙ e ]
 
--- a flow is forgotten
+-- after a flow was forgotten
 pub forgot_sound : (w : State) (id : ℕ) (events : List Event) → IsSound w → id < length w.flows →
     IsSound (record w {
       flows = set w.flows id None;
@@ -192,8 +192,8 @@ forgot_sound w id events h l =
           ];
     }
 
--- what has happened, when, which SYN is kept, of which flows and how many segments came, and which
--- packet is read, is no part of it
+-- a state is sound whatever has happened and when, whichever SYNs are kept, segments came and
+-- packet is read
 pub sound_seen : (w : State) (lasts : List ℕ) (syns : List (Option KeptSyn)) (came : List Bool)
     (segments : ℕ) (events : List Event) (arrival : origin.Arrival) →
     length lasts ≡ length w.lasts → IsSound w →
@@ -233,7 +233,7 @@ among_most p (x ∷ xs) = most_by (is_lt (compare_pairs x p)) (place_among p xs)
     most_by true m n h = omega (arith, h)
     most_by false m n h = omega arith
 
--- a connection is known from now on, in the room that was free
+-- after a connection became known, in a room that was free
 pub known_sound : (w : State) (p : EndpointPair) (rest : List ℕ) (room : ℕ) (lasts : List ℕ)
     (syns : List (Option KeptSyn)) (came : List Bool) (events : List Event) → IsSound w →
     w.free ≡ rest ++ room ∷ [] → place_of p w.known ≡ None →
@@ -275,7 +275,7 @@ known_sound w p rest room lasts syns came events h free new e =
       vacant = h.vacant;
     }
 
--- a connection whose flows were forgotten is known no longer, and its room is free
+-- after a connection whose flows were forgotten is no longer known, and its room is free
 pub unknown_sound : (w : State) (place room : ℕ) → IsSound w → place < length w.known →
     get_or w.rooms place 0 ≡ room → flow_at w (2 * room) ≡ None → flow_at w (2 * room + 1) ≡ None
     → IsSound (record w {
@@ -326,13 +326,13 @@ unknown_sound w place room h l at lesser greater =
       vacant = h.vacant;
     }
 
--- the room of a connection is one of those that there are
+-- the room of a connection is one of the rooms
 pub room_below : (w : State) (place : ℕ) → IsSound w → place < length w.known →
     get_or w.rooms place 0 < length w.lasts
 room_below w place h l = h.below (get_or w.rooms place 0)
     (omega (arith, times_at w.rooms place (omega (arith, l, h.pairs))))
 
--- a flow is one of those that there are
+-- the id of a flow is one of the ids
 pub some_within : (flows : List (Option FlowState)) (id : ℕ) (s : FlowState) →
     get_or flows id None ≡ Some s → id < length flows
 some_within [] zero s e = absurd (true≢false (sym (ap is_some e)))

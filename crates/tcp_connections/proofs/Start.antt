@@ -1,4 +1,4 @@
--- Where no connection is known, all is so.
+-- A state without connections is sound.
 use Rattle.std.proofs.Common.{◌≡◌, ℕ, ◌+◌, ◌*◌, ◌≤◌, List, [], length, replicate, get_or, Bool, false, Option, None, refl, arith}
 use Rattle.std.proofs.lemmas.List.{length-replicate}
 use Rattle.std.specs.List.Sorted.{IsStrictlySortedBy}

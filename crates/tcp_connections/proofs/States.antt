@@ -1,10 +1,10 @@
 -- The code has a state: what a step of one flow, and each other change, leaves.
-use Rattle.std.proofs.Common.{◌≡◌, ℕ, zero, suc, true, cond, ◌+◌, ◌*◌, ◌<◌, ◌≤◌, List, [], ◌∷◌, ◌++◌, length, set, get_or, Option, Some, None, is_some, refl, sym, ◌∙◌, ap, subst, arith, true≢false, get_or-set_same, get_or-set_other}
+use Rattle.std.proofs.Common.{◌≡◌, ℕ, zero, suc, true, cond, ◌+◌, ◌*◌, ◌<◌, ◌≤◌, List, [], ◌∷◌, ◌++◌, length, set, get_or, Option, Some, None, is_some, refl, sym, ◌∙◌, ap, subst, arith, true≢false, get_or-set_same, get_or-set_other, length-set}
 use Rattle.std.proofs.lemmas.Bool.{cases_eq}
 use Rattle.std.proofs.lemmas.List.{length-replicate}
-use Rattle.std.specs.List.{remove}
+use Rattle.std.specs.List.{remove, last_or}
 use Rattle.std.specs.Prelude.{Result, Ok, Err, OnOk}
-use Rattle.tcp_waiting.specs.Payload.{Payload, blocks_of}
+use Rattle.tcp_waiting.specs.Payload.{Payload, blocks_of, load_of}
 use Rattle.tcp_flow.specs.declared.flow.CloseCause.{CloseCause}
 use Rattle.tcp_flow.specs.declared.flow.FlowState.{FlowState}
 use Rattle.tcp_flow.specs.declared.flow.ListenerFault.{ListenerFault}
@@ -15,19 +15,22 @@ use Rattle.tcp_flow.proofs.Others.{others_blocks}
 use Rattle.tcp_connections.specs.declared.came.Came.{Came}
 use Rattle.tcp_connections.specs.declared.connections.Connections.{Connections}
 use Rattle.tcp_connections.specs.declared.flows.Flows.{Flows}
+use Rattle.tcp_connections.specs.declared.givers.Givers.{Givers}
 use Rattle.tcp_rooms.specs.declared.stamps.Stamps.{Stamps}
 use Rattle.tcp_waiting.specs.declared.pool.Pool.{Pool}
 use Rattle.tcp_streams.specs.declared.pair.Side.{Side}
 use Rattle.tcp_streams.specs.Lives.{lives, behind, most_ids}
 use Rattle.tcp_streams.proofs.Order.{lives_more}
 use Rattle.tcp_connections.specs.Connections.{State, none_known, flow_at, live_at, live_of, with_flow, with_packet, with_capture_event, room_at, flow_forgotten, forgotten, eldest}
-use Rattle.tcp_connections.specs.State.{IsSound, IsStateOver, IsState, IsAt, state_of, times}
-use Rattle.tcp_connections.proofs.Living.{IsTold, IsTurn, no_turn}
+use Rattle.tcp_connections.specs.Givers.{IsNoted}
+use Rattle.tcp_connections.specs.State.{AreRanked, IsSound, IsStateOver, IsState, IsAt, state_of, times}
+use Rattle.tcp_connections.proofs.Before.{IsOrdered, noted_ranked, others_twice, still_ranked}
+use Rattle.tcp_connections.proofs.Living.{IsTold, IsTurn, lives_ids, no_turn}
 use Rattle.tcp_connections.proofs.Forgotten.{both_forgotten, forgotten_sound}
-use Rattle.tcp_connections.proofs.Times.{none_there}
+use Rattle.tcp_connections.proofs.Times.{no_flow, none_there}
 use Rattle.tcp_connections.proofs.Sound.{IsApart, room_below, some_within, apart_some, with_flow_sound, forgot_sound, sound_seen}
 
--- what is so of the code's state, whatever has happened, is so of each that it has
+-- what is true of the code's state, whatever has happened, is true of each state that it has
 pub by_state : {over : ℕ} (P : State → Type 0) (O : List Event → Type 0) (live : List ℕ)
     (c : Connections)
     (w : State) → IsStateOver over O live c w
@@ -39,35 +42,36 @@ pub moved_ok : {X : Type 0} (r : Result X ListenerFault) (O : List Event → Typ
     OnOk r (IsState O live c v)
 moved_ok r O live c v w e h = search (arith)
 
--- how many segments came, by the state that the code has
+-- how many segments came in the code's state
 pub segments_of : {X : Type 0} (r : Result X ListenerFault) (O : List Event → Type 0)
     (live : List ℕ) (c : Connections) (w : State) (n : ℕ) → w.segments ≡ n →
     OnOk r (IsState O live c w) → OnOk r (c.segments ≡ n)
 segments_of (Ok x) O live c w n e h = search (arith)
 segments_of (Err x) O live c w n e h = tt
 
--- no event is part of what is so of a state
+-- whether a state is sound doesn't depend on what has happened
 pub sound_any : (c : Connections) (es fs : List Event) → IsSound (state_of c es) →
     IsSound (state_of c fs)
 sound_any c es fs h = search (arith, sound_seen)
 
--- what is no flow's
+-- the state without what flows have
 abbrev pub rest_of : Connections → List Event → State
 rest_of c es = record (state_of c es) { flows = []; blocks = 0; held = [] }
 
--- a flow is set, and what waits has changed
-pub set_rest : (c : Connections) (f : Flows) (p : Pool) → f.came ≡ c.flows.came →
+-- a flow was set, and what waits has changed
+pub set_rest : (c : Connections) (f : Flows) (p : Pool) (g : Givers) → f.came ≡ c.flows.came →
     f.stamps ≡ c.flows.stamps → (e : List Event) →
-    rest_of (record c { flows = f; pool = p }) e ≡ rest_of c e
-set_rest c f p came stamps e =
+    rest_of (record c { flows = f; pool = p; givers = g }) e ≡ rest_of c e
+set_rest c f p g came stamps e =
     ap (λ (k : Came). record (rest_of c e) { came = k.ids.items; lasts = f.stamps.last.items }) came
     ∙ ap (λ (s : Stamps). record (rest_of c e) { lasts = s.last.items }) stamps
 
--- a state is kept where it is the same whatever has happened
+-- a state is kept if it is the same whatever has happened
 pub kept : (O : List Event → Type 0) (live : List ℕ) (c c' : Connections) (w : State)
     → ((es : List Event) → state_of c' es ≡ state_of c es) → c'.free.most ≡ c.free.most →
-    c'.table.most ≡ c.table.most → IsState O live c w → IsState O live c' w
-kept O live c c' w same free room h = record {
+    c'.table.most ≡ c.table.most → c'.givers ≡ c.givers → IsState O live c w →
+    IsState O live c' w
+kept O live c c' w same free room givers h = record {
   observed = h.observed;
   live = h.live;
   same = same w.events ∙ h.same;
@@ -76,9 +80,10 @@ kept O live c c' w same free room h = record {
   blocks = h.blocks;
   free = free ∙ h.free;
   room = room ∙ h.room;
+  ranked = still_ranked _ _ _ _ _ givers h.ranked;
 }
 
--- fewer blocks are too few
+-- if fewer blocks are missing
 pub enough : {over rest : ℕ} (O : List Event → Type 0) (live : List ℕ) (c : Connections)
     (w : State) → IsStateOver over O live c w → blocks_of w.held ≤ w.blocks + rest →
     IsStateOver rest O live c w
@@ -91,9 +96,10 @@ enough O live c w h blocks = record {
   blocks = blocks;
   free = h.free;
   room = h.room;
+  ranked = h.ranked;
 }
 
--- only flows, and what they hold, have changed
+-- only flows and what they hold have changed
 pub changed : (c c' : Connections) (es : List Event) →
     ((e : List Event) → rest_of c' e ≡ rest_of c e) →
     (flows : List (Option FlowState)) (held : List Payload)
@@ -111,7 +117,7 @@ changed c c' es rest flows held f b h =
     ∙ ap (λ (n : ℕ). record (state_of c es) { flows = flows; blocks = n; held = c'.pool.held }) b
     ∙ ap (λ (ps : List Payload). record (state_of c es) { flows = flows; held = ps }) h
 
--- on Ok, by what has happened
+-- from the case of what has happened to any state
 pub makes_by : {over rest : ℕ} (O O' : List Event → Type 0) (live live' : List ℕ)
     (c c' : Connections)
     (f : State → State)
@@ -130,7 +136,7 @@ pub beside_own : (id own : ℕ) (held held' : List Payload) → own ≡ id →
     held_by_others id held' ≡ held_by_others id held
 beside_own id own held held' e h = search (arith)
 
--- the streams that live are told, where a flow is another, and so is what has happened
+-- the live streams are told after one flow and what has happened have changed
 pub told_flow : (w : State) (id : ℕ) (o : Option FlowState) (events : List Event) →
     ((j : ℕ) → IsTold (is_some (live_at w j)) (times j (lives w.events)))
     → id < length w.flows → IsTold (is_some (live_of o)) (times id (lives events)) →
@@ -147,7 +153,7 @@ told_flow w id o events told l own beside j = search (
   get_or-set_other,
 )
 
--- a flow that the code has, before it does anything
+-- a flow of the code before it does anything
 pub turn_start : {over : ℕ} (O : List Event → Type 0) (live : List ℕ) (c : Connections)
     (es : List Event)
     (id : ℕ) (s : FlowState) → IsStateOver over O live c (state_of c es) →
@@ -159,7 +165,22 @@ turn_start O live c es id s h e = search (arith, no_turn, is_some)
 pub small_id : (w : State) (id : ℕ) → IsSound w → id < length w.flows → id < most_ids
 small_id w id h l = search (arith)
 
--- a flow's step, beside all others
+-- the ranks after a step of a flow
+stepped_ranked : {over : ℕ} (O : List Event → Type 0) (live : List ℕ) (c : Connections)
+    (es : List Event) (id : ℕ) (flows : List (Option FlowState)) (g : Givers) (live' : List ℕ)
+    (held : List Payload) (events : List Event) → IsStateOver over O live c (state_of c es)
+    → id < length c.flows.states.items → length flows ≡ length c.flows.states.items
+    → live' ≡ lives events → IsNoted c.givers g id (load_of id held) (last_or None live')
+    → held_by_others id held ≡ held_by_others id c.pool.held
+    → IsOrdered id (lives es) (lives events) → AreRanked g (length flows) held (lives events)
+stepped_ranked O live c es id flows g live' held events h l many lived noted beside order =
+    subst (λ (n : ℕ). AreRanked g n held (lives events)) (sym many)
+    (noted_ranked c.givers g id (length c.flows.states.items) c.pool.held held (lives es)
+    (lives events) h.ranked l
+    (subst (λ (xs : List ℕ). IsNoted c.givers g id (load_of id held) (last_or None xs)) lived noted)
+    beside order (lives_ids events).1)
+
+-- a step of a flow, with all others
 pub flow_done : {over rest : ℕ} (O O' : List Event → Type 0) (live live' : List ℕ)
     (c c' : Connections)
     (es : List Event) (id : ℕ) (s' : FlowState) (f : Flow)
@@ -171,11 +192,12 @@ pub flow_done : {over rest : ℕ} (O O' : List Event → Type 0) (live live' : L
     → ((e : List Event) → rest_of c' e ≡ rest_of c e) →
     c'.flows.states.items ≡ set c.flows.states.items id (Some s') → c'.pool.blocks ≡ c.pool.blocks
     → c'.free.most ≡ c.free.most → c'.table.most ≡ c.table.most
+    → IsNoted c.givers c'.givers id (load_of id c'.pool.held) (last_or None live')
     → IsStateOver rest O' live' c' (with_flow (state_of c es) id f)
 unfolding with_flow live_of
 flow_done {rest = most} O O' live live' c c' es id s' f h l n own beside blocks settled apart turn
     rest flows pool
-    free room =
+    free room noted =
     subst (λ (g : Flow). IsStateOver most O' live' c' (with_flow (state_of c es) id g)) n.same
     (record {
       observed = n.observed.0;
@@ -189,6 +211,9 @@ flow_done {rest = most} O O' live live' c c' es id s' f h l n own beside blocks 
       blocks = blocks;
       free = free ∙ h.free;
       room = room ∙ h.room;
+      ranked = stepped_ranked O live c es id (set c.flows.states.items id (Some s')) c'.givers live'
+          c'.pool.held f.events h l (length-set c.flows.states.items id (Some s')) n.observed.1
+          noted beside turn.order;
     })
 
 -- what the code has of a flow, before it does anything
@@ -198,7 +223,7 @@ pub flow_start : {over : ℕ} (O : List Event → Type 0) (live : List ℕ) (c :
     IsFlow (λ e. O e × (live ≡ lives e)) s c.pool.held (state s c.pool.held es)
 flow_start O live c es s h = search (arith)
 
--- a step of a flow that the code has, by what it leaves
+-- a step of a flow of the code, from what it leaves
 pub flow_turned : {over rest : ℕ} (O O' : List Event → Type 0) (live live' : List ℕ)
     (c c' : Connections)
     (es : List Event) (id : ℕ) (s s' : FlowState) (f : Flow) →
@@ -210,6 +235,7 @@ pub flow_turned : {over rest : ℕ} (O O' : List Event → Type 0) (live live' :
     → ((e : List Event) → rest_of c' e ≡ rest_of c e) →
     c'.flows.states.items ≡ set c.flows.states.items id (Some s') → c'.pool.blocks ≡ c.pool.blocks
     → c'.free.most ≡ c.free.most → c'.table.most ≡ c.table.most
+    → IsNoted c.givers c'.givers id (load_of id c'.pool.held) (last_or None live')
     → IsStateOver rest O' live' c' (with_flow (state_of c es) id f)
 flow_turned O O' live live' c c' es id s s' f h e n own beside blocks settled turn =
     let same : s.id ≡ id = h.sound.ids id s e in
@@ -219,7 +245,7 @@ flow_turned O O' live live' c c' es id s s' f h e n own beside blocks settled tu
     (apart_some (state_of c es) id s h.sound e)
     (turn (small_id (state_of c es) id h.sound within) (turn_start O live c es id s h e))
 
--- a flow that is forgotten, beside all others
+-- a flow was forgotten, with all others
 pub forgot_done : (O O' : List Event → Type 0) (live live' : List ℕ) (c c' : Connections)
     (es : List Event) (id : ℕ) (s' : FlowState) (f : Flow)
     → IsState O live c (state_of c es) → id < length c.flows.states.items
@@ -229,6 +255,7 @@ pub forgot_done : (O O' : List Event → Type 0) (live live' : List ℕ) (c c' :
     c'.flows.states.items ≡ set c.flows.states.items id None →
     c'.pool.blocks ≡ c.pool.blocks → c'.pool.held ≡ held_by_others id c.pool.held
     → c'.free.most ≡ c.free.most → c'.table.most ≡ c.table.most
+    → IsNoted c.givers c'.givers id (load_of id c'.pool.held) (last_or None live')
     → IsState O' live' c' (record (state_of c es) {
       flows = set c.flows.states.items id None;
       held =
@@ -236,7 +263,7 @@ pub forgot_done : (O O' : List Event → Type 0) (live live' : List ℕ) (c c' :
       events = f.events;
     })
 unfolding live_of
-forgot_done O O' live live' c c' es id s' f h l n turn rest flows pool held free room =
+forgot_done O O' live live' c c' es id s' f h l n turn rest flows pool held free room noted =
     record {
       observed = n.observed.0;
       live = n.observed.1;
@@ -249,19 +276,25 @@ forgot_done O O' live live' c c' es id s' f h l n turn rest flows pool held free
       blocks = omega (arith, h.blocks, others_blocks id c.pool.held);
       free = free ∙ h.free;
       room = room ∙ h.room;
+      ranked = stepped_ranked O live c es id (set c.flows.states.items id None) c'.givers live'
+          (held_by_others id c.pool.held) f.events h l (length-set c.flows.states.items id None)
+          n.observed.1
+          (subst (λ (ps : List Payload).
+          IsNoted c.givers c'.givers id (load_of id ps) (last_or None live')) held noted)
+          (others_twice id c.pool.held) turn.order;
     }
 
 pub sound_of : (O : List Event → Type 0) (live : List ℕ) (c : Connections) (w : State) →
     IsState O live c w → IsSound (state_of c [])
 sound_of O live c w h = search (arith, sound_any)
 
--- the room of a place is one of at most 65,536
+-- the room at a place is below 65,536
 pub small_room : (O : List Event → Type 0) (live : List ℕ) (c : Connections) (w : State)
     (place : ℕ) → IsState O live c w → place < length c.table.keys →
     get_or c.table.rooms place 0 < 65536
 small_room O live c w place h l = search (arith, sound_of, room_below)
 
--- nor of which connection makes room
+-- which connection makes room doesn't depend on what has happened either
 pub eldest_any : (c : Connections) (es fs : List Event) (n : ℕ) →
     eldest (state_of c es) n ≡ eldest (state_of c fs) n
 unfolding eldest
@@ -285,10 +318,10 @@ pub connection_forgotten : (O' : List Event → Type 0) (live' : List ℕ) (c c'
       free =
           c.free.free.items ++ room_at w place ∷ [];
     })
-    → c'.free.most ≡ c.free.most → c'.table.most ≡ c.table.most
+    → c'.free.most ≡ c.free.most → c'.table.most ≡ c.table.most → c'.givers ≡ c.givers
     → IsState O' live' c' (forgotten w place side cause)
 unfolding forgotten
-connection_forgotten O' live' c c' w place side cause sound h l m same free room =
+connection_forgotten O' live' c c' w place side cause sound h l m same free room givers =
     let v : State = both_forgotten w (room_at w place) side cause in
     record {
       observed = h.observed;
@@ -305,9 +338,10 @@ connection_forgotten O' live' c c' w place side cause sound h l m same free room
       blocks = h.blocks;
       free = free ∙ h.free;
       room = room ∙ h.room;
+      ranked = still_ranked _ _ _ _ _ givers h.ranked;
     }
 
--- how many rooms are free, where a place is that of a connection
+-- there are fewer free rooms than rooms if a connection is known
 pub some_known : (O : List Event → Type 0) (live : List ℕ) (c : Connections) (w : State)
     (place : ℕ) → IsState O live c w → place < length w.known →
     length c.free.free.items < c.free.most
@@ -351,20 +385,21 @@ close_done O' live' c c' es id s' f n rest flows pool held =
           c.pool.held flows pool held;
     })
 
--- ---- No connection is known so far.
+-- ---- No connection is known yet.
 
 none_live : (ports : List ℕ) (blocks most : ℕ) (events : List Event) (id : ℕ) →
     is_some (live_at (none_known ports blocks most events) id) ≡ true → 0 < times id (lives events)
 unfolding live_of
 none_live ports blocks most events id e = search (arith, true≢false, is_some, none_there)
 
--- what `new` makes, beside a listener that has observed these events
+-- the state that `new` makes, for a listener that has observed these events
 pub starts : (O : List Event → Type 0) (live : List ℕ) (c : Connections) (ports : List ℕ)
     (blocks most : ℕ) (events : List Event) → O events → live ≡ lives events
     → state_of c events ≡ none_known ports blocks most events → IsSound (state_of c []) →
-    c.free.most ≡ most → c.table.most ≡ most → IsState O live c (state_of c events)
+    c.free.most ≡ most → c.table.most ≡ most
+    → ((xs : List ℕ) → AreRanked c.givers (2 * most) [] xs) → IsState O live c (state_of c events)
 unfolding blocks_of
-starts O live c ports blocks most events o lived same sound free room =
+starts O live c ports blocks most events o lived same sound free room ranked =
     let many : length (state_of c events).lasts ≡ most =
     ap (λ (w : State). length w.lasts) same ∙ length-replicate most 0 in
     record {
@@ -377,15 +412,19 @@ starts O live c ports blocks most events o lived same sound free room =
       blocks = omega (arith, ap (λ (w : State). blocks_of w.held) same);
       free = free ∙ sym many;
       room = room ∙ sym many;
+      ranked = subst (λ (w : State). AreRanked c.givers (length w.flows) w.held (lives w.events))
+          (sym same)
+          (subst (λ (n : ℕ). AreRanked c.givers n [] (lives events))
+          (sym (length-replicate (2 * most) no_flow)) (ranked (lives events)));
     }
 
--- ---- A packet more is read.
+-- ---- One more packet is read.
 
 pub packet_read : (O : List Event → Type 0) (live : List ℕ) (c c' : Connections) (w : State)
     (time : Option ℕ) → ((e : List Event) → state_of c' e ≡ with_packet (state_of c e) time)
-    → c'.free.most ≡ c.free.most → c'.table.most ≡ c.table.most → IsState O live c w
-    → IsState O live c' (with_packet w time)
-packet_read O live c c' w time same free table h =
+    → c'.free.most ≡ c.free.most → c'.table.most ≡ c.table.most → c'.givers ≡ c.givers
+    → IsState O live c w → IsState O live c' (with_packet w time)
+packet_read O live c c' w time same free table givers h =
     let a = (with_packet w time).arrival in
     record {
       observed = h.observed;
@@ -396,6 +435,7 @@ packet_read O live c c' w time same free table h =
       blocks = h.blocks;
       free = free ∙ h.free;
       room = table ∙ h.room;
+      ranked = still_ranked _ _ _ _ _ givers h.ranked;
     }
 
 -- ---- The listener is told of the capture.

@@ -1,4 +1,4 @@
--- How often a room stands in a list, after each change of the list.
+-- How often a room is in a list, after each change of the list.
 use Rattle.std.proofs.Common.{◌≡◌, ℕ, zero, suc, ◌+◌, ◌-◌, ◌<◌, ◌≤◌, cond, nat_eq, List, [], ◌∷◌, ◌++◌, length, take, get_or, replicate, Option, None, true, refl, ap, subst, arith, inl, inr, length-append}
 use Rattle.std.specs.List.{insert, remove}
 use Rattle.std.proofs.lemmas.Bool.{cases_Bool, cases_lt, eqb-true, eq-eqb}
@@ -37,7 +37,7 @@ times_at [] i l = absurd (omega (arith, l))
 times_at (x ∷ xs) zero l = omega (arith, times_own x)
 times_at (x ∷ xs) (suc i) l = omega (arith, times_at xs i (omega (arith, l)))
 
--- what stands at two places stands there twice
+-- what is at two places of a list is there twice
 pub times_both : (xs : List ℕ) (i j : ℕ) → i < length xs → j < length xs → (i ≡ j → ⊥) →
     get_or xs i 0 ≡ get_or xs j 0 → 2 ≤ times (get_or xs j 0) xs
 unfolding times
@@ -76,7 +76,7 @@ pub rest_is : (xs : List ℕ) (x : ℕ) → rest_of_rooms (xs ++ x ∷ []) ≡ x
 unfolding rest_of_rooms
 rest_is xs x = rw (one_less xs x) (take_all_but xs x)
 
--- where all rooms are free
+-- if all rooms are free
 
 pub all_below : (m n : ℕ) → (times n (rooms_below m) ≤ 1) × (0 < times n (rooms_below m) → n < m)
 unfolding times rooms_below

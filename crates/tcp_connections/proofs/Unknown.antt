@@ -1,4 +1,4 @@
--- A connection that becomes known: there is room for it, and its flows are none so far.
+-- A connection becomes known: there is room for it, and it has no flows yet.
 use Rattle.std.proofs.Common.{◌≡◌, ℕ, zero, suc, ◌+◌, ◌-◌, ◌<◌, Bool, true, false, cond, nat_eq, length, None, refl, sym, ◌∙◌, ap, subst, arith, inl, inr}
 use Rattle.std.specs.List.{remove}
 use Rattle.std.proofs.lemmas.Bool.{cases_lt}
@@ -32,7 +32,7 @@ pub eldest_within : (w : State) (n : ℕ) → 0 < n → eldest w n < n
 eldest_within w zero l = absurd (omega (arith, l))
 eldest_within w (suc n) l = eldest_below w n
 
--- after making room there is some, and who isn't known isn't
+-- after room was made there is some, and a pair that wasn't known still isn't
 pub room_enough : (F : Reader) (w : State) (p : EndpointPair) → IsSound w →
     place_of p w.known ≡ None
     → (place_of p (with_room F w).known ≡ None)

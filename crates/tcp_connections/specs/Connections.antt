@@ -22,11 +22,13 @@ use Rattle.tcp_streams.specs.declared.pair.Side.TheVariants.{FromLesser, FromGre
 use Rattle.tcp_streams.specs.Pairs.{compare_pairs, pair_of, opposite, flow_id, flow_from}
 use Rattle.tcp_streams.specs.Lives.{lives, elder_side}
 
--- the ports that are chosen and the blocks of the pool; the pairs that are known, in their order,
--- and the room of each; the rooms that are free, the next one last; of each room the number of its
--- last segment, and the SYN that is kept; of each id whether a segment came after the one that made
--- its connection known, and the flow, from its first stream on; what is held, what has happened,
--- how many segments came, and the packet that is read
+-- `ports` are the chosen ports, and `blocks` is how many the pool has. `known` are the pairs that
+-- are known, in order, and `rooms` the room of each. `free` are the rooms that are free; the last
+-- one is taken next. For each room, `lasts` has the number of its last segment, and `syns` the SYN
+-- that is kept. For each id, `came` says whether a segment came after the one that made its
+-- connection known, and `flows` has the flow, from its first stream on. `held` is what waits,
+-- `events` what has happened, `segments` how many segments came, and `arrival` the packet that is
+-- read.
 pub record State : Type 0 where
   pub ports : List ℕ
   pub blocks : ℕ
@@ -42,7 +44,7 @@ pub record State : Type 0 where
   pub segments : ℕ
   pub arrival : origin.Arrival
 
--- no connection is known: there are so many rooms
+-- no connection is known, and there are `most` rooms
 abbrev pub none_known : List ℕ → ℕ → ℕ → List Event → State
 none_known ports blocks most events = record {
   ports = ports;
@@ -60,13 +62,13 @@ none_known ports blocks most events = record {
   arrival = record { time = None; packet = 0 };
 }
 
--- the listener is told of what happens in the capture, and nothing else changes
+-- the listener is told of what happens in the capture; nothing else changes
 abbrev pub with_capture_event : State → CaptureEvent → State
 with_capture_event w event = record w { events = w.events ++ OfCapture event ∷ [] }
 
 -- ---- One flow.
 
--- a flow from its first stream on, by its id
+-- the flow of an id, from its first stream on
 abbrev pub flow_at : State → ℕ → Option FlowState
 flow_at w id = get_or w.flows id None
 
@@ -84,12 +86,12 @@ flow_state f = record {
   tail = f.tail;
 }
 
--- a flow is so from now on
+-- the state after a flow was set
 unfoldable pub with_flow : State → ℕ → Flow → State
 with_flow w id f =
     record w { flows = set w.flows id (Some (flow_state f)); held = f.held; events = f.events }
 
--- something comes for a flow: nothing happens before its first payload
+-- something comes for a flow; nothing happens before its first payload
 unfoldable pub arrived : Reader → State → ℕ → Arrival → State
 arrived F w id arrival =
     elim (flow_at w id) [
@@ -97,12 +99,12 @@ arrived F w id arrival =
       | Some s ↦ with_flow w id (flow_step F (state s w.held w.events) arrival)
     ]
 
--- the first payload comes for a flow
+-- the first payload of a flow comes
 unfoldable pub began : Reader → State → ℕ → ℕ → List ℕ → State
 began F w id number octets =
     with_flow w id (first_payload F id number octets w.arrival w.held w.events)
 
--- a gap of a flow
+-- a gap in a flow
 unfoldable pub gapped : Reader → State → ℕ → State
 gapped F w id =
     elim (flow_at w id) [
@@ -115,7 +117,7 @@ unfoldable pub is_holding : List Payload → Option FlowState → Bool
 is_holding held None = false
 is_holding held (Some s) = is_some (first s.id s.next held)
 
--- while a flow holds something, a gap of it: at most so many
+-- gaps in a flow while it holds something, at most `count`
 unfoldable pub gaps_at : Reader → ℕ → State → ℕ → State
 gaps_at F zero w id = w
 gaps_at F (suc count) w id =
@@ -124,26 +126,27 @@ gaps_at F (suc count) w id =
       | false ↦ w
     ]
 
--- what a flow holds is gone on with: each gap leaves less of it
+-- gaps in a flow until it holds nothing: each leaves less
 abbrev pub emptied : Reader → State → ℕ → State
 emptied F w id = gaps_at F (length w.held) w id
 
--- of two flows the one that gives up if the pool is short: the one that holds more blocks, or the
--- first, if both hold as many
+-- the one of two flows that gives up if the pool is short: the one that holds more blocks, or the
+-- first if both hold as many
 abbrev pub heavier : List Payload → ℕ → ℕ → ℕ
 heavier held a b = cond (nat_lt (load_of a held) (load_of b held)) b a
 
--- of a flow and others after it the one that does
+-- the one that gives up of a flow and others after it
 unfoldable pub heaviest_from : List Payload → ℕ → List ℕ → ℕ
 heaviest_from held id [] = id
 heaviest_from held id (other ∷ ids) = heaviest_from held (heavier held id other) ids
 
--- the flow that gives up if the pool is short: the one that holds the most blocks, of several that
--- of the oldest stream
+-- the flow that gives up if the pool is short: the one that holds the most blocks; of several, the
+-- one whose stream is the oldest
 abbrev pub heaviest : State → ℕ
 heaviest w = heaviest_from w.held (get_or (lives w.events) 0 0) (lives w.events)
 
--- while the pool has too few blocks for what is held, a gap of the flow that gives up: at most so many
+-- gaps in the flow that gives up while the pool has too few blocks for what is held, at most
+-- `count`
 unfoldable pub relieved : Reader → ℕ → State → State
 relieved F zero w = w
 relieved F (suc count) w =
@@ -152,7 +155,7 @@ relieved F (suc count) w =
       | false ↦ w
     ]
 
--- the pool has blocks enough for what is held: each gap leaves less of it
+-- gaps until the pool has enough blocks for what is held: each leaves less
 abbrev pub within_pool : Reader → State → State
 within_pool F w = relieved F (length w.held) w
 
@@ -164,7 +167,7 @@ closed_at w id cause =
       | Some s ↦ with_flow w id (closed (state s w.held w.events) cause)
     ]
 
--- a flow is forgotten: its live stream closes, and what it holds falls away
+-- a flow is forgotten: its live stream closes, and what it holds is removed
 unfoldable pub flow_forgotten : State → ℕ → CloseCause → State
 flow_forgotten w id cause =
     elim (flow_at w id) [
@@ -176,23 +179,23 @@ flow_forgotten w id cause =
       })
     ]
 
--- the number that the stream of a flow in step begins with, one that is live or waited for
+-- the number that the stream of a flow begins with, if it is live or waited for
 unfoldable pub live_of : Option FlowState → Option ℕ
 live_of None = None
 live_of (Some s) = s.live
 
--- the same by the flow's id
+-- the same for the flow of an id
 abbrev pub live_at : State → ℕ → Option ℕ
 live_at w id = live_of (flow_at w id)
 
 -- ---- Which connections are known.
 
--- where a pair stands, or would stand, among those that are known
+-- the place of a pair among those that are known, or at which it would be inserted
 unfoldable pub place_among : EndpointPair → List EndpointPair → ℕ
 place_among p [] = 0
 place_among p (q ∷ qs) = cond (is_lt (compare_pairs q p)) (suc (place_among p qs)) 0
 
--- where a pair stands among those that are known
+-- the place of a pair among those that are known
 unfoldable pub place_of : EndpointPair → List EndpointPair → Option ℕ
 place_of p [] = None
 place_of p (q ∷ qs) = cond (is_eq (compare_pairs q p)) (Some 0) (option_map suc (place_of p qs))
@@ -214,8 +217,8 @@ forgotten w place side cause =
       free = v.free ++ room ∷ [];
     }
 
--- what the flows of a room hold is shown, before its connection is forgotten: first that of the flow
--- of one side
+-- what the flows of a room hold is shown, before its connection is forgotten: first that of the
+-- flow of one side
 unfoldable pub shown : Reader → State → ℕ → Side → State
 shown F w room side = emptied F (emptied F w (flow_id room side)) (flow_id room (opposite side))
 
@@ -230,8 +233,8 @@ is_live w room =
     has_live (flow_at w (flow_id room FromLesser))
     || has_live (flow_at w (flow_id room FromGreater))
 
--- whether segments of a flow came since its connection is known: of the one that made it known its
--- first payload did
+-- whether segments of a flow came since its connection became known; in the flow that made it
+-- known, the first payload counts
 abbrev pub has_come : State → ℕ → Bool
 has_come w id = is_some (flow_at w id) || get_or w.came id false
 
@@ -240,8 +243,8 @@ abbrev pub is_both : State → ℕ → Bool
 is_both w room =
     has_come w (flow_id room FromLesser) && has_come w (flow_id room FromGreater)
 
--- how late a room's connection makes room: first one without a live stream, then one of which
--- segments of one flow alone came, then any other
+-- how late a room's connection makes room: 0 without a live stream, 1 if segments of one flow alone
+-- came, and 2 for any other
 abbrev pub class_of : State → ℕ → ℕ
 class_of w room = cond (is_live w room) (cond (is_both w room) 2 1) 0
 
@@ -250,30 +253,30 @@ abbrev pub is_older : State → ℕ → ℕ → Bool
 is_older w a b =
     nat_lt (get_or w.lasts (room_at w a) 0) (get_or w.lasts (room_at w b) 0)
 
--- whether the connection at one place makes room rather than that at another: by their classes,
--- then by their last segments
+-- whether the connection at one place makes room before that at another: by their classes, then by
+-- their last segments
 abbrev pub goes_before : State → ℕ → ℕ → Bool
 goes_before w a b =
     nat_lt (class_of w (room_at w a)) (class_of w (room_at w b))
     || nat_eq (class_of w (room_at w a)) (class_of w (room_at w b)) && is_older w a b
 
--- of the first so many connections, the place of the one that makes room
+-- the place of the connection that makes room, among the first n
 unfoldable pub eldest : State → ℕ → ℕ
 eldest w zero = 0
 eldest w (suc n) = cond (goes_before w n (eldest w n)) n (eldest w n)
 
--- what the connection of a room holds is shown, first that of the stream that began first
+-- what the connection of a room holds is shown, first that of the flow whose stream began first
 abbrev pub shown_by_age : Reader → State → ℕ → State
 shown_by_age F w room = shown F w room (elder_side room (lives w.events))
 
--- the connection at a place makes room: it shows what it holds, and the stream that began first
--- closes first
+-- the connection at a place makes room: what it holds is shown, and then the stream that began
+-- first closes first
 abbrev pub cleared : Reader → State → ℕ → State
 cleared F w place =
     let v : State = shown_by_age F w (room_at w place) in
     forgotten v place (elder_side (room_at w place) (lives v.events)) Room
 
--- where as many connections as may be are known, the one that goes first makes room
+-- if no more connections may be known, one makes room
 unfoldable pub with_room : Reader → State → State
 with_room F w =
     cond (nat_lt (length w.known) (length w.lasts)) w (cleared F w (eldest w (length w.known)))
@@ -282,16 +285,16 @@ with_room F w =
 unfoldable pub next_room : List ℕ → ℕ
 next_room free = get_or free (length free - 1) 0
 
--- the rooms that are free after it
+-- the rooms that are free after that one was taken
 unfoldable pub rest_of_rooms : List ℕ → List ℕ
 rest_of_rooms free = take (length free - 1) free
 
--- a segment of a flow came, of the connection of a room
+-- a segment of a flow of the connection of a room came
 abbrev pub with_segment : State → ℕ → ℕ → State
 with_segment w room id =
     record w { lasts = set w.lasts room w.segments; came = set w.came id true }
 
--- a connection is known from now on
+-- a connection becomes known
 unfoldable pub made_known : State → EndpointPair → State
 made_known w p =
     let room : ℕ = next_room w.free in
@@ -309,7 +312,7 @@ made_known w p =
 
 -- ---- A segment.
 
--- the number of the first octet: SYN has one of its own
+-- the number of the first octet; a SYN has a number of its own
 abbrev pub first_number : Segment → ℕ
 first_number s = onward s.sequence (cond s.syn 1 0)
 
@@ -317,36 +320,38 @@ first_number s = onward s.sequence (cond s.syn 1 0)
 abbrev pub number_behind : Segment → ℕ
 number_behind s = onward (first_number s) (length s.payload)
 
--- whether one of a flow's ports is chosen, as each is where none is named
+-- whether one of a flow's ports is chosen; if none is named, all are
 abbrev pub is_chosen : List ℕ → endpoints.Flow → Bool
 is_chosen ports flow =
     nat_eq (length ports) 0 || list_any (λ port. port == flow.from.port) ports
     || list_any (λ port. port == flow.to.port) ports
 
--- whether a segment's payload is the first of its flow, of which nothing came: a stream begins in
--- it, or it is a beginning of the six octets
+-- whether a segment's payload is the first of its flow, for which nothing has come: the segment has
+-- no RST, one of its ports is chosen, and a stream begins in the payload or it is a beginning of
+-- the six octets
 abbrev pub is_first : List ℕ → Segment → Bool
 is_first ports s =
     not s.reset && is_chosen ports s.flow
     && (is_some (stream_at s.payload) || is_beginning s.payload)
 
--- whether a segment's payload is looked through where nothing of its flow came
+-- whether a segment's payload is looked through, if nothing has come for its flow
 abbrev pub is_looked_through : List ℕ → Segment → Bool
 is_looked_through ports s = not s.reset && is_chosen ports s.flow && nat_lt 0 (length s.payload)
 
--- no stream begins in it
+-- no stream begins in the payload of a segment
 unfoldable pub looked_through : State → Segment → State
 looked_through w s =
     cond (is_looked_through w.ports s) (with_capture_event w (Passes s.payload)) w
 
 -- ---- A SYN of a known connection.
 
--- whether a number is near the one that is due in a flow, of which something began
+-- whether a number is near the one that is due in a flow that has begun
 unfoldable pub is_near_due : Option FlowState → ℕ → Bool
 is_near_due None number = false
 is_near_due (Some f) number = is_near f.next number
 
--- whether a number is the flow's own: near the one that is due, or its live stream's first
+-- whether a number is the flow's own: it is near the one that is due, or the stream begins with it
+-- that is live or waited for
 abbrev pub is_own : Option FlowState → ℕ → Bool
 is_own flow number =
     is_near_due flow number
@@ -358,7 +363,7 @@ abbrev pub is_kept : Option FlowState → Segment → Bool
 is_kept flow s =
     s.syn && not (is_some s.acknowledgement) && not (is_own flow (onward s.sequence 1))
 
--- it is kept, in place of an older one, and the segment does nothing more
+-- a SYN is kept, in place of an older one, and the segment does nothing more
 unfoldable pub syn_kept : State → ℕ → ℕ → Segment → State
 syn_kept w room id s =
     record (with_segment w room id) {
@@ -369,13 +374,14 @@ syn_kept w room id s =
 abbrev pub syn_at : State → ℕ → Option KeptSyn
 syn_at w room = get_or w.syns room None
 
--- whether a segment of an id answers a SYN: SYN and ACK of the opposite flow, which acknowledges it
+-- whether a segment of an id answers a SYN: it is of the opposite flow, has SYN and ACK, and
+-- acknowledges the SYN
 abbrev pub is_answer : KeptSyn → ℕ → Segment → Bool
 is_answer k id s =
     not (nat_eq k.flow id) && s.syn
     && elim s.acknowledgement [ None ↦ false | Some number ↦ nat_eq number k.number ]
 
--- whether it follows it: the payload after it, in its flow
+-- whether a segment of an id follows a SYN: it has the payload after the SYN, in the same flow
 abbrev pub is_following : KeptSyn → ℕ → Segment → Bool
 is_following k id s =
     nat_eq k.flow id && nat_eq s.sequence k.number && nat_lt 0 (length s.payload) && not s.syn
@@ -386,9 +392,9 @@ unfoldable pub is_anew : Option KeptSyn → ℕ → Segment → Bool
 is_anew None id s = false
 is_anew (Some k) id s = is_answer k id s || is_following k id s
 
--- ---- What comes of a segment.
+-- ---- What a segment does.
 
--- a FIN
+-- the FIN of a segment, if it has one
 unfoldable pub fin_taken : Reader → State → ℕ → Segment → State
 fin_taken F w id s = cond s.fin (arrived F w id (End (number_behind s))) w
 
@@ -401,7 +407,7 @@ unknown_taken F w s =
     (fin_taken F (began F (made_known v (pair_of s.flow).0) id (first_number s) s.payload) id s)
     (looked_through w s)
 
--- the packet that is read says what it acknowledges of a flow, and whether it has octets of the
+-- the packet that is read tells a flow what it acknowledges of it, and whether it has octets of the
 -- opposite flow
 unfoldable pub heard : Reader → State → ℕ → Option ℕ → Bool → State
 heard F w id acknowledged answers = arrived F w id (Hears (record {
@@ -410,12 +416,11 @@ heard F w id acknowledged answers = arrived F w id (Hears (record {
   arrival = w.arrival;
 }))
 
--- it says so of what the opposite flow sent
+-- a segment tells this to the opposite flow
 abbrev pub acknowledgement_heard : Reader → State → ℕ → Segment → State
 acknowledgement_heard F w id s = heard F w id s.acknowledgement (nat_lt 0 (length s.payload))
 
--- a payload: the first of its flow, of which nothing is held, or a later one, after which the pool
--- may be short
+-- a payload: the first of its flow, or a later one, after which the pool may be short
 unfoldable pub payload_taken : Reader → State → ℕ → Segment → State
 payload_taken F w id s =
     elim (flow_at w id) [
@@ -433,11 +438,11 @@ is_reset flow s = s.reset && is_near_due flow s.sequence
 abbrev pub flow_of_side : State → ℕ → Side → Option FlowState
 flow_of_side w place side = flow_at w (flow_id (room_at w place) side)
 
--- a connection shows what it holds and is forgotten, by a segment of one side
+-- what a connection holds is shown, and it is forgotten, because of a segment of one side
 abbrev pub ended_by : Reader → State → ℕ → Side → CloseCause → State
 ended_by F w place side cause = forgotten (shown F w (room_at w place) side) place side cause
 
--- a RST
+-- the RST of a segment, if it counts
 unfoldable pub reset_taken : Reader → State → ℕ → Side → Segment → State
 reset_taken F w place side s =
     cond (is_reset (flow_of_side w place side) s) (ended_by F w place side Reset) w
@@ -452,14 +457,15 @@ before_reset F w place s =
     let told : State = acknowledgement_heard F seen (flow_id room (opposite side)) s in
     fin_taken F (payload_taken F told id s) id s
 
--- a segment of a known connection: at last what its own flow holds may be too old
+-- a segment of a known connection; at the end, its own flow is told of the packet, as what it holds
+-- may be too old
 unfoldable pub known_taken : Reader → State → ℕ → Segment → State
 known_taken F w place s =
     let side : Side = (pair_of s.flow).1 in
     heard F (reset_taken F (before_reset F w place s) place side s) (flow_id (room_at w place) side)
     None false
 
--- one segment more
+-- one more segment
 unfoldable pub step : Reader → State → Segment → State
 step F w s =
     let v : State = record w { segments = w.segments + 1 } in
@@ -473,14 +479,14 @@ step F w s =
           (unknown_taken F (ended_by F v place side Syn) s) (known_taken F v place s))
     ]
 
--- all segments, the first first
+-- all segments, in this order
 unfoldable pub after : Reader → State → List Segment → State
 after F w [] = w
 after F w (s ∷ ss) = after F (step F w s) ss
 
--- ---- What happens in the capture beside its segments.
+-- ---- What happens in the capture apart from its segments.
 
--- one packet more is read, which came at this time, if it has one
+-- one more packet is read, which came at this time, if it has one
 abbrev pub with_packet : State → Option ℕ → State
 with_packet w time = record w {
   arrival = record { time = time; packet = min (w.arrival.packet + 1) (2 ^ 64 - 1) };
@@ -488,8 +494,8 @@ with_packet w time = record w {
 
 -- ---- The end of the capture.
 
--- while flows hold something, a gap of the one whose last stream has the least number: those before
--- a rank hold nothing
+-- while flows hold something, gaps in the one of them whose last stream began first; those before a
+-- rank hold nothing
 unfoldable pub gaps_from : Reader → ℕ → ℕ → State → State
 gaps_from F zero rank w = w
 gaps_from F (suc count) rank w =
@@ -503,12 +509,12 @@ gaps_from F (suc count) rank w =
           ])
     ]
 
--- how a flow's live stream closes at the end
+-- how a flow's live stream closes at the end: for a gap if a FIN is kept
 unfoldable pub end_cause : Option FlowState → CloseCause
 end_cause None = CaptureEnd
 end_cause (Some s) = cond (is_some s.fin) Gap CaptureEnd
 
--- the live streams of these flows close, one after the other
+-- the live streams of these flows close, one after another
 unfoldable pub all_closed : List ℕ → State → State
 all_closed [] w = w
 all_closed (id ∷ ids) w = all_closed ids (closed_at w id (end_cause (flow_at w id)))

@@ -1,5 +1,5 @@
--- Which connections are forgotten: to make room for another, and else only by their own segments
--- (meaning).
+-- Which connections are forgotten: one to make room for another, and otherwise only by their own
+-- segments (meaning).
 use Rattle.std.specs.Prelude.{◌≡◌, ◌⊎◌, ℕ, ◌+◌, ◌<◌, ◌≤◌, true, length, get_or, Some, None}
 use Rattle.tcp_segment.specs.Segments.{Segment}
 use Rattle.tcp_streams.specs.declared.pair.EndpointPair.{EndpointPair}
@@ -13,8 +13,8 @@ use Rattle.tcp_connections.specs.Connections.{State, place_of, room_at, is_live,
 abbrev pub last_at : State → ℕ → ℕ
 last_at w place = get_or w.lasts (room_at w place) 0
 
--- a connection without a live stream, if there is one, else one of which segments of one flow alone
--- came, if there is one; and of those alike the one that was seen longest ago
+-- a connection without a live stream, if there is one; if not, one of which segments of one flow
+-- alone came, if there is one; of several like that, the one that was seen longest ago
 pub record IsEldest (w : State) (place : ℕ) : Type 0 where
   pub within : place < length w.known
   pub idle : is_live w (room_at w place) ≡ true → (other : ℕ) → other < length w.known →
@@ -25,13 +25,13 @@ pub record IsEldest (w : State) (place : ℕ) : Type 0 where
       class_of w (room_at w other) ≡ class_of w (room_at w place) →
       last_at w place ≤ last_at w other
 
--- it makes room: what it holds is shown, and it is forgotten
+-- the eldest connection makes room: what it holds is shown, and it is forgotten
 pub record MakesRoom (F : Reader) (w : State) : Type 0 where
   pub place : ℕ
   pub eldest : IsEldest w place
   pub cleared : with_room F w ≡ cleared F w place
 
--- it is the eldest of as many as may be known, where another becomes known
+-- another connection becomes known, no more may be, and the connection of this pair is the eldest
 pub record MakesWay (w : State) (s : Segment) (p : EndpointPair) : Type 0 where
   pub begins : is_first w.ports s ≡ true
   pub new : place_of (pair_of s.flow).0 w.known ≡ None
@@ -40,8 +40,8 @@ pub record MakesWay (w : State) (s : Segment) (p : EndpointPair) : Type 0 where
   pub eldest : IsEldest w place
   pub is : get_or w.known place p ≡ p
 
--- a segment of the connection at a place, after which one more came, counts as a RST: what was due
--- in its flow, once all else of the segment was taken, is at most W from its number
+-- a segment of the connection at a place has a RST that counts: after all else of the segment was
+-- taken, the number that is due in its flow is at most W from its own
 pub record IsReset (F : Reader) (w : State) (s : Segment) (place : ℕ) : Type 0 where
   pub flow : FlowState
   pub is : flow_of_side (before_reset F (record w { segments = w.segments + 1 }) place s) place
@@ -49,14 +49,14 @@ pub record IsReset (F : Reader) (w : State) (s : Segment) (place : ℕ) : Type 0
   pub reset : s.reset ≡ true
   pub near : is_near flow.next s.sequence ≡ true
 
--- it answers the SYN that the connection keeps, or follows it
+-- a segment of the connection at a place answers the SYN that is kept, or follows it
 pub record BeginsAnew (w : State) (s : Segment) (place : ℕ) : Type 0 where
   pub syn : KeptSyn
   pub kept : syn_at w (room_at w place) ≡ Some syn
   pub is : (is_answer syn (flow_id (room_at w place) (pair_of s.flow).1) s ≡ true)
       ⊎ (is_following syn (flow_id (room_at w place) (pair_of s.flow).1) s ≡ true)
 
--- by a segment of its own
+-- a connection is forgotten by a segment of its own
 pub record IsForgottenByOwn (F : Reader) (w : State) (s : Segment) (p : EndpointPair) : Type 0 where
   pub own : (pair_of s.flow).0 ≡ p
   pub place : ℕ

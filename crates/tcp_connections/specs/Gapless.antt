@@ -1,5 +1,5 @@
--- That streams are without a gap: the octets that are delivered between the beginning and the close
--- of one stand one after another (RFC 9293, Sequence Numbers; meaning).
+-- Streams have no gaps: the octets that are delivered between the beginning and the close of one
+-- follow one another (RFC 9293, Sequence Numbers; meaning).
 use Rattle.std.specs.Prelude.{◌≡◌, ℕ, ◌/◌, ◌<◌, List, Option, Some, None, slice_get}
 use Rattle.std.specs.List.{AllByRecursion}
 use Rattle.tcp_segment.specs.Segments.{Segment}
@@ -16,21 +16,21 @@ pub record IsOfSegment (segments : List Segment) (p : Payload) : Type 0 where
   pub number_is : p.number ≡ first_number segment
   pub octets_are : p.octets ≡ segment.payload
 
--- In each flow a stream begins where none lives, octets come and it closes only while it lives, and
--- octets are at the number that is due what a payload of the flow has there. Each payload is that
--- of a segment that came.
+-- In each flow a stream begins only if none is live, and octets come and it closes only while it is
+-- live. The octets are what a payload of the flow has from the number on that is due. Each payload
+-- is that of a segment that came.
 pub record AreGapless (segments : List Segment) (events : List Event) : Type 0 where
   pub payloads : List Payload
   pub came : AllByRecursion (IsOfSegment segments) payloads
   pub follow : (flow : ℕ) → (due : Option ℕ) × AllFollow payloads flow None events due
 
--- the same where each stream that began has closed
+-- the same, and each stream that began has closed
 pub record AreWhole (segments : List Segment) (events : List Event) : Type 0 where
   pub payloads : List Payload
   pub came : AllByRecursion (IsOfSegment segments) payloads
   pub follow : (flow : ℕ) → AllFollow payloads flow None events None
 
--- each event in a flow is in one of a connection that has a room, of so many
+-- each event in a flow is in one of a connection whose room is below `most`
 abbrev pub HaveRooms : ℕ → List Event → Type 0
 HaveRooms most events =
     AllByRecursion (λ e. (id : ℕ) → flow_of e ≡ Some id → id / 2 < most) events

@@ -2,8 +2,8 @@
 use Rattle.std.specs.Prelude.{◌≡◌, ℕ, ◌<◌, ◌≤◌, List, length, get_or}
 use Rattle.tcp_waiting.specs.Payload.{Payload, load_of}
 
--- of the flows of streams, in their order, one holds as many blocks as each other, and more than each
--- before it
+-- one of the flows, which are in the order of their streams, holds no fewer blocks than any other,
+-- and more than each before it
 pub record IsHeaviest (held : List Payload) (ids : List ℕ) (id : ℕ) : Type 0 where
   pub rank : ℕ
   pub within : rank < length ids

@@ -1,6 +1,7 @@
 pub mod Connections
 pub mod Forgetting
 pub mod Gapless
+pub mod Givers
 pub mod Heaviest
 pub mod Known
 pub mod Owned

@@ -1,5 +1,5 @@
--- That what is delivered is of the stream's own flow: the octets of a segment between the endpoints
--- that its id stands for (RFC 9293, Sequence Numbers; meaning).
+-- What is delivered is of the stream's own flow: octets of a segment between the endpoints that its
+-- id stands for (RFC 9293, Sequence Numbers; meaning).
 use Rattle.std.specs.Prelude.{◌≡◌, ℕ, Bool, true, false, cond, nat_eq, List, [], ◌∷◌, length, drop, Option, Some, None, slice_get}
 use Rattle.tcp_segment.specs.declared.endpoint.Flow as endpoints
 use Rattle.tcp_segment.specs.Segments.{Segment}
@@ -7,7 +7,7 @@ use Rattle.tcp_waiting.specs.Numbers.{onward}
 use Rattle.tcp_flow.specs.Flow.{Event, Opens, Begins, Delivers, Closes, OfCapture}
 use Rattle.tcp_connections.specs.Connections.{first_number}
 
--- octets are at a number what a segment of a flow has from there on
+-- from a number on, octets are those that a segment of a flow has from there up to its end
 pub record IsPartOf (segments : List Segment) (flow : endpoints.Flow) (number : ℕ)
     (octets : List ℕ) : Type 0 where
   pub index : ℕ
@@ -18,14 +18,14 @@ pub record IsPartOf (segments : List Segment) (flow : endpoints.Flow) (number : 
   pub number_is : number ≡ onward (first_number segment) skipped
   pub octets_are : octets ≡ drop skipped segment.payload
 
--- what an id stands for: no flow so far, or the flow between these endpoints, of which no stream
--- lives, or one for which this number is due
+-- what an id stands for: no flow so far; the flow between these endpoints, which has no live
+-- stream; or that flow with a live stream, in which this number is due
 pub data Standing : Type 0 where
   Unopened : Standing
   Idle : endpoints.Flow → Standing
   Live : endpoints.Flow → ℕ → Standing
 
--- which flow that is
+-- the flow that an id stands for
 abbrev pub owner : Standing → Option endpoints.Flow
 owner Unopened = None
 owner (Idle flow) = Some flow
@@ -39,7 +39,7 @@ is_of id (Delivers flow octets) = nat_eq flow id
 is_of id (Closes flow cause) = nat_eq flow id
 is_of id (OfCapture event) = false
 
--- the same after such an event: it opens, and stands for these endpoints then
+-- what an id stands for after an event of its flow: if it opens, it stands for these endpoints
 abbrev pub behind : Standing → Event → Standing
 behind s (Opens id flow) = Idle flow
 behind (Idle flow) (Begins id start) = Live flow start.number
@@ -47,8 +47,8 @@ behind (Live flow due) (Delivers id octets) = Live flow (onward due (length octe
 behind (Live flow due) (Closes id cause) = Idle flow
 behind s event = s
 
--- whether such an event may come: octets only while a stream lives, and then those at the number
--- that is due of a segment of the flow
+-- whether an event of the flow may come: octets come only while a stream is live, and are what a
+-- segment of the flow has from the number on that is due
 abbrev pub MayCome : List Segment → Standing → Event → Type 0
 MayCome segments Unopened (Opens id flow) = Unit {0}
 MayCome segments (Idle before) (Opens id flow) = Unit {0}
@@ -62,13 +62,13 @@ unfoldable pub standing : ℕ → Standing → List Event → Standing
 standing id s [] = s
 standing id s (e ∷ es) = standing id (cond (is_of id e) (behind s e) s) es
 
--- each event of it may come
+-- each event of the id's flow may come
 unfoldable pub AllMayCome : List Segment → ℕ → Standing → List Event → Type 0
 AllMayCome segments id s [] = Unit {0}
 AllMayCome segments id s (e ∷ es) =
     (is_of id e ≡ true → MayCome segments s e)
     × AllMayCome segments id (cond (is_of id e) (behind s e) s) es
 
--- so it is of each id
+-- this is true of each id
 abbrev pub AreOwned : List Segment → List Event → Type 0
 AreOwned segments events = (id : ℕ) → AllMayCome segments id Unopened events

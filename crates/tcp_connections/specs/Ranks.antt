@@ -1,12 +1,12 @@
 -- The order in which connections make room, by a rank for each room: first those without a live
--- stream, then those of which segments of one flow alone came, then all others; of those alike the
--- one that was seen longest ago (meaning).
+-- stream, then those of which segments of one flow alone came, then all others; of several like
+-- that, the one that was seen longest ago (meaning).
 use Rattle.std.specs.Prelude.{◌≡◌, ℕ, ◌+◌, ◌*◌, ◌^◌, ◌<◌, ◌≤◌, Bool, true, false, cond, nat_eq, nat_lt, ◌&&◌, ◌||◌, List, length, get_or, Option, None, is_some}
 use Rattle.tcp_flow.specs.declared.flow.FlowState.{FlowState}
 use Rattle.tcp_rooms.specs.Ranks.{rank_at}
 use Rattle.tcp_connections.specs.Connections.{has_live}
 
--- whether segments of the flow of an id came since its connection is known
+-- whether segments of the flow of an id came since its connection became known
 abbrev pub has_come_among : List (Option FlowState) → List Bool → ℕ → Bool
 has_come_among flows came id = is_some (get_or flows id None) || get_or came id false
 
@@ -15,36 +15,36 @@ abbrev pub is_live_among : List (Option FlowState) → ℕ → Bool
 is_live_among flows room =
     has_live (get_or flows (2 * room) None) || has_live (get_or flows (2 * room + 1) None)
 
--- whether segments of both of its flows came
+-- whether segments of both flows of a room's connection came
 abbrev pub is_both_among : List (Option FlowState) → List Bool → ℕ → Bool
 is_both_among flows came room =
     has_come_among flows came (2 * room) && has_come_among flows came (2 * room + 1)
 
--- how late it makes room
+-- how late the connection of a room makes room
 abbrev pub class_among : List (Option FlowState) → List Bool → ℕ → ℕ
 class_among flows came room =
     cond (is_live_among flows room) (cond (is_both_among flows came room) 2 1) 0
 
--- whether the connection of one room makes room rather than that of another: by their classes, then
--- by their last segments
+-- whether the connection of one room makes room before that of another: by their classes, then by
+-- their last segments
 abbrev pub is_before : List (Option FlowState) → List Bool → List ℕ → ℕ → ℕ → Bool
 is_before flows came lasts a b =
     nat_lt (class_among flows came a) (class_among flows came b)
     || nat_eq (class_among flows came a) (class_among flows came b)
     && nat_lt (get_or lasts a 0) (get_or lasts b 0)
 
--- whether it makes room before each other
+-- the connection of a room makes room before all others
 pub record IsBeforeAll (flows : List (Option FlowState)) (came : List Bool) (lasts : List ℕ)
     (room : ℕ) : Type 0 where
   pub within : room < length lasts
   pub before : (other : ℕ) → other < length lasts → (other ≡ room → ⊥) →
       is_before flows came lasts room other ≡ true
 
--- its rank: by its class, then by its last segment, whose number is less than 2^64
+-- the rank of a room: by its class, then by its last segment, whose number is less than 2^64
 abbrev pub rank_among : List (Option FlowState) → List Bool → List ℕ → ℕ → ℕ
 rank_among flows came lasts room = class_among flows came room * 2 ^ 64 + get_or lasts room 0
 
--- no room has more than its rank
+-- the noted rank of each room is at most its true one
 abbrev pub AreAtMost : ℕ → List ℕ → List (Option FlowState) → List Bool → List ℕ → Type 0
 AreAtMost rooms nodes flows came lasts =
     (room : ℕ) → room < rooms → rank_at rooms nodes room ≤ rank_among flows came lasts room

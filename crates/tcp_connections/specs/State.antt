@@ -1,24 +1,40 @@
--- The code's connections, with what has happened, and what is so of each.
-use Rattle.std.specs.Prelude.{◌≡◌, ℕ, cond, nat_eq, ◌+◌, ◌*◌, ◌<◌, ◌≤◌, true, List, [], ◌∷◌, length, Some, None, is_some, OnOk, Result}
+-- The code's connections together with what has happened, and what is true of them.
+use Rattle.std.specs.Prelude.{◌≡◌, ◌⊎◌, ℕ, cond, nat_eq, ◌+◌, ◌*◌, ◌^◌, ◌<◌, ◌≤◌, true, List, [], ◌∷◌, length, Some, None, is_some, OnOk, Result}
 use Rattle.std.specs.List.Sorted.{IsStrictlySortedBy}
-use Rattle.tcp_waiting.specs.Payload.{count_of, blocks_of}
+use Rattle.tcp_waiting.specs.Payload.{Payload, count_of, blocks_of, load_of}
 use Rattle.tcp_flow.specs.declared.flow.FlowState.{FlowState}
 use Rattle.tcp_flow.specs.declared.flow.ListenerFault.{ListenerFault}
 use Rattle.tcp_flow.specs.Flow.{Event}
 use Rattle.tcp_flow.specs.Laws.{IsSettled}
 use Rattle.tcp_flow.specs.State.{state}
 use Rattle.tcp_connections.specs.declared.connections.Connections.{Connections}
+use Rattle.tcp_connections.specs.declared.givers.Givers.{Givers}
 use Rattle.tcp_streams.specs.Pairs.{compare_pairs}
 use Rattle.tcp_streams.specs.Lives.{lives}
 use Rattle.tcp_connections.specs.Connections.{State, flow_at, live_at}
+use Rattle.tcp_connections.specs.Givers.{number_at, noted_at, rank_of}
 
--- how often a number stands in a list
+-- how often a number is in a list
 unfoldable pub times : ℕ → List ℕ → ℕ
 times n [] = 0
 times n (x ∷ xs) = cond (nat_eq x n) 1 0 + times n xs
 
--- a room is that of one connection, or it is free and has no flow; the pairs are in their order; what
--- is held is of flows that began and to come
+-- one number stands before another in a list
+unfoldable pub StandBefore : ℕ → ℕ → List ℕ → Type 0
+StandBefore a b [] = ⊥
+StandBefore a b (x ∷ xs) = ((x ≡ a) × (0 < times b xs)) ⊎ StandBefore a b xs
+
+-- Each flow has its rank. Of two flows, the one whose last stream began later has a number that is
+-- as great or greater.
+pub record AreRanked (g : Givers) (flows : ℕ) (held : List Payload) (live : List ℕ)
+    : Type 0 where
+  pub many : g.ranks.rooms ≡ flows
+  pub loads : (id : ℕ) → load_of id held < 2 ^ 64
+  pub ranks : (id : ℕ) → id < flows → noted_at g id ≡ rank_of (load_of id held) (number_at g id)
+  pub order : (a b : ℕ) → StandBefore a b live → number_at g a ≤ number_at g b
+
+-- Each room is that of one connection, or it is free and has no flows. The pairs are in order. Only
+-- flows that have begun hold something, and all of it is to come.
 pub record IsSound (w : State) : Type 0 where
   pub some : 1 ≤ length w.lasts
   pub most : length w.lasts ≤ 65536
@@ -36,7 +52,7 @@ pub record IsSound (w : State) : Type 0 where
       (id : ℕ) (s : FlowState) → flow_at w id ≡ Some s → IsSettled (state s w.held [])
   pub vacant : (id : ℕ) → flow_at w id ≡ None → count_of id w.held ≡ 0
 
--- what the code has, with what has happened
+-- what the code has, together with what has happened
 abbrev pub state_of : Connections → List Event → State
 state_of c events = record {
   ports = c.ports.items;
@@ -54,9 +70,9 @@ state_of c events = record {
   arrival = c.arrival;
 }
 
--- the code has a state: the listener has observed all that has happened, and the streams that live or
--- were closed by a gap are those; the last stream of each flow in step is one of them; what is held
--- takes so many blocks at most beyond those that there are
+-- The code has a state: the listener has observed all that has happened, and `streams` are the
+-- flows whose streams are live or were closed by a gap. Each flow in step is one of them. What is
+-- held takes at most `over` blocks more than there are. Each flow has its rank.
 pub record IsStateOver (over : ℕ) (O : List Event → Type 0) (streams : List ℕ) (c : Connections)
     (w : State) : Type 0 where
   pub observed : O w.events
@@ -67,19 +83,20 @@ pub record IsStateOver (over : ℕ) (O : List Event → Type 0) (streams : List 
   pub blocks : blocks_of w.held ≤ w.blocks + over
   pub free : c.free.most ≡ length w.lasts
   pub room : c.table.most ≡ length w.lasts
+  pub ranked : AreRanked c.givers (length w.flows) w.held (lives w.events)
 
--- the blocks suffice, as they do between segments
+-- the blocks are enough, as they are between segments
 abbrev pub IsState : (List Event → Type 0) → List ℕ → Connections → State → Type 0
 IsState = IsStateOver 0
 
--- the code is at a state, where flows may hold what is theirs no longer: the capture has ended
+-- the code has a state after the end of the capture, which needn't be sound
 pub record IsAt (O : List Event → Type 0) (streams : List ℕ) (c : Connections) (w : State)
     : Type 0 where
   pub observed : O w.events
   pub live : streams ≡ lives w.events
   pub same : state_of c w.events ≡ w
 
--- the code has a state, with so many blocks too few
+-- the code has a state in which at most `over` blocks are missing
 abbrev pub HasStateOver : ℕ → (List Event → Type 0) → List ℕ → Connections → Type 0
 HasStateOver over O live c = (w : State) × IsStateOver over O live c w
 
@@ -87,14 +104,15 @@ HasStateOver over O live c = (w : State) × IsStateOver over O live c w
 abbrev pub HasState : (List Event → Type 0) → List ℕ → Connections → Type 0
 HasState = HasStateOver 0
 
--- on Ok the code has the state that is made of each that it had, with so many blocks too few
+-- on Ok the code has the state that f makes of each that it had; at most `over` blocks were missing
+-- before, and `rest` are afterwards
 abbrev pub MakesOver : ℕ → ℕ → {X : Type 0} → Result X ListenerFault → (State → State)
     → (List Event → Type 0) → List ℕ → Connections
     → (List Event → Type 0) → List ℕ → Connections → Type 0
 MakesOver over rest r f O live c O' live' c' =
     (w : State) → IsStateOver over O live c w → OnOk r (IsStateOver rest O' live' c' (f w))
 
--- on Ok the code has the state that is made of each that it had
+-- on Ok the code has the state that f makes of each that it had
 abbrev pub Makes : {X : Type 0} → Result X ListenerFault → (State → State)
     → (List Event → Type 0) → List ℕ → Connections
     → (List Event → Type 0) → List ℕ → Connections → Type 0

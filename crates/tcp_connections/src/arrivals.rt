@@ -20,7 +20,8 @@ impl Connections {
     ghost use Rattle.tcp_flow.specs.Flow.{End, Octets};
     ghost use Rattle.tcp_connections.specs.State.{IsState, HasState, Makes, MakesOver, times};
 
-    /// A segment says what it acknowledges of the opposite flow, and whether it has octets.
+    /// Tells the opposite flow what a segment acknowledges of it, and whether the segment has
+    /// octets.
     pub(crate) fn acknowledgement<L: Listener + Drop>(
         &mut self,
         id: u32,
@@ -38,8 +39,9 @@ impl Connections {
         self.hear(id, segment.acknowledgement, answers, to)
     }
 
-    /// The packet that is read says what it acknowledges of a flow, and whether it has octets of the
-    /// opposite flow.
+    /// Tells a flow what the packet acknowledges of it, and whether it has octets of the opposite
+    /// flow.
+    #[inline]
     pub(crate) fn hear<L: Listener + Drop>(
         &mut self,
         id: u32,
@@ -53,10 +55,28 @@ impl Connections {
             (L.observed to.new.listener) to.new.live.items self.new }
         ensures cause { OnErr result (L.failed to.new.listener) }
     {
-        // If nothing waits, nothing is missing before it.
+        // If no payload waits, nothing is missing before one.
         if self.pool.len() == 0 {
             return Ok(());
         }
+        self.hear_of_flow(id, acknowledged, answers, to)
+    }
+
+    /// Does what `hear` does if a payload waits.
+    #[inline(never)]
+    fn hear_of_flow<L: Listener + Drop>(
+        &mut self,
+        id: u32,
+        acknowledged: Option<u32>,
+        answers: bool,
+        to: &mut Streams<L>,
+    ) -> Result<(), ListenerFault>
+        requires state { HasState (L.observed to.old.listener) to.old.live.items self.old }
+        ensures does { Makes result (λ w. heard L.reader w id acknowledged answers)
+            (L.observed to.old.listener) to.old.live.items self.old
+            (L.observed to.new.listener) to.new.live.items self.new }
+        ensures cause { OnErr result (L.failed to.new.listener) }
+    {
         let Some(mut flow) = self.flow(id) else {
             return Ok(());
         };
@@ -67,10 +87,11 @@ impl Connections {
         };
         flow.hear(packet, &mut self.pool, to)?;
         self.flows.set(id, Some(flow));
+        self.givers.note(id, &self.pool, to);
         Ok(())
     }
 
-    /// A payload comes: the first of its flow, or a later one.
+    /// Takes a payload: the first of its flow, or a later one.
     pub(crate) fn payload<L: Listener + Drop>(
         &mut self,
         id: u32,
@@ -96,7 +117,8 @@ impl Connections {
         self.relieve(to)
     }
 
-    /// A payload comes of a flow that has begun: what is held may take more blocks than there are.
+    /// Takes a payload of a flow that has begun. Afterwards what is held may take more blocks than
+    /// there are.
     #[inline]
     fn later_payload<L: Listener + Drop>(
         &mut self,
@@ -123,10 +145,11 @@ impl Connections {
             to,
         )?;
         self.flows.set(id, Some(flow));
+        self.givers.note(id, &self.pool, to);
         Ok(())
     }
 
-    /// A payload comes of a flow of which nothing came.
+    /// Takes a payload of a flow for which nothing has come.
     fn first_payload<L: Listener + Drop>(
         &mut self,
         id: u32,
@@ -150,8 +173,8 @@ impl Connections {
         self.begin(id, segment, to)
     }
 
-    /// No stream begins in a payload of a flow of which nothing came: that it was looked through is
-    /// told.
+    /// Tells that the payload of a segment was looked through and no stream begins in it, if it was
+    /// looked through.
     pub(crate) fn pass<L: Listener + Drop>(&self, segment: Segment<'_>, to: &mut Streams<L>)
         ensures { (w : State) → IsState (L.observed to.old.listener) to.old.live.items self.now w
             → IsState (L.observed to.new.listener) to.new.live.items self.now
@@ -162,14 +185,14 @@ impl Connections {
         }
     }
 
-    /// Whether a segment's payload is looked through where nothing of its flow came.
+    /// Whether a segment's payload is looked through if nothing has come for its flow.
     fn is_looked_through(&self, segment: Segment<'_>) -> bool
         ensures { result ≡ is_looked_through self.now.ports.items (segment_view segment.entry) }
     {
         !segment.reset && self.is_chosen(segment.flow) && !segment.payload.is_empty()
     }
 
-    /// The first payload of a flow comes.
+    /// Begins a flow with its first payload.
     pub(crate) fn begin<L: Listener + Drop>(
         &mut self,
         id: u32,
@@ -197,11 +220,13 @@ impl Connections {
             to,
         )?;
         self.flows.set(id, Some(flow));
+        self.givers.note(id, &self.pool, to);
         Ok(())
     }
 
-    /// Whether a segment's payload is the first of its flow, of which nothing came: a stream begins in it, or
-    /// it is a beginning of a header.
+    /// Whether a segment's payload is the first of its flow, for which nothing has come. The
+    /// segment has no RST, one of its ports is chosen, and a stream begins in the payload or it is
+    /// a beginning of a header.
     pub(crate) fn is_first(&self, segment: Segment<'_>) -> bool
         ensures { result ≡ is_first self.now.ports.items (segment_view segment.entry) }
     {
@@ -210,7 +235,7 @@ impl Connections {
             && (stream_at(segment.payload).is_some() || is_beginning(segment.payload))
     }
 
-    /// Whether one of a flow's ports is chosen.
+    /// Whether one of a flow's ports is chosen. If no ports are named, all are.
     fn is_chosen(&self, flow: Flow) -> bool
         ensures { result ≡ is_chosen self.now.ports.items flow }
     {
@@ -219,7 +244,7 @@ impl Connections {
             || self.ports.contains(&flow.to.port)
     }
 
-    /// A FIN comes, where the segment has one.
+    /// Takes the FIN of a segment, if it has one.
     #[inline]
     pub(crate) fn fin<L: Listener + Drop>(
         &mut self,
@@ -239,8 +264,8 @@ impl Connections {
         self.fin_of_flow(id, number_behind(segment), to)
     }
 
-    /// A FIN of a flow comes, with the number after the payload: nothing happens before its first
-    /// payload.
+    /// Takes a FIN of a flow. Its number is that after the payload. There is no effect before the
+    /// flow's first payload.
     #[inline(never)]
     fn fin_of_flow<L: Listener + Drop>(
         &mut self,
@@ -259,11 +284,12 @@ impl Connections {
         };
         flow.fin(number, &mut self.pool, to)?;
         self.flows.set(id, Some(flow));
+        self.givers.note(id, &self.pool, to);
         Ok(())
     }
 }
 
-/// The number of a segment's first octet: SYN has one of its own.
+/// The number of a segment's first octet. A SYN has a number of its own.
 fn first_number(segment: Segment<'_>) -> u32
     ensures { result ≡ spec_first_number (segment_view segment.entry) }
 {

@@ -1,4 +1,4 @@
-//! The end of a capture: gaps while flows hold something, and then their live streams close.
+//! The end of a capture: gaps while flows hold something, and then the live streams close.
 
 ghost use Rattle.std.specs.Prelude.{◌≡◌, ◌+◌, ℕ, [], length, get_or, OnOk, OnErr, None};
 
@@ -12,9 +12,9 @@ impl Connections {
     ghost use Rattle.tcp_connections.specs.Connections.{closed_at, gaps_from, all_closed, ended, live_of};
     ghost use Rattle.tcp_connections.specs.State.{IsState, IsAt, HasState, Makes, MakesOver, Ends};
 
-    /// The capture ends: while flows hold something, a gap of the one whose last stream has the
-    /// least number, until nothing is held; then the live streams close by their order. No flow has one
-    /// then, or waits for one.
+    /// Ends the capture. While flows hold something, the one of them whose last stream began first
+    /// has a gap. Then the live streams close in their order. Afterwards no flow has a live stream
+    /// or waits for one.
     pub fn end<L: Listener + Drop>(&mut self, to: &mut Streams<L>) -> Result<(), ListenerFault>
         requires state { HasState (L.observed to.old.listener) to.old.live.items self.old }
         ensures does { (w : State)
@@ -31,7 +31,7 @@ impl Connections {
         self.close_all(to)
     }
 
-    /// While flows hold something, a gap of the one whose last stream has the least number.
+    /// While flows hold something, makes a gap in the one of them whose last stream began first.
     fn end_gaps<L: Listener + Drop>(&mut self, to: &mut Streams<L>) -> Result<(), ListenerFault>
         requires state { HasState (L.observed to.old.listener) to.old.live.items self.old }
         ensures does { Makes result
@@ -68,7 +68,7 @@ impl Connections {
         }
     }
 
-    /// A gap of a flow.
+    /// Makes a gap in a flow.
     pub(crate) fn gap<L: Listener + Drop>(
         &mut self,
         id: u32,
@@ -84,10 +84,11 @@ impl Connections {
         };
         flow.gap(&mut self.pool, to)?;
         self.flows.set(id, Some(flow));
+        self.givers.note(id, &self.pool, to);
         Ok(())
     }
 
-    /// The live streams close by their order.
+    /// Closes the live streams in their order.
     fn close_all<L: Listener + Drop>(&mut self, to: &mut Streams<L>) -> Result<(), ListenerFault>
         ensures does { Ends result (λ w. all_closed (lives w.events) w)
             (L.observed to.old.listener) to.old.live.items self.old
@@ -107,7 +108,7 @@ impl Connections {
         Ok(())
     }
 
-    /// A flow's live stream closes.
+    /// Closes a flow's live stream.
     fn close<L: Listener + Drop>(
         &mut self,
         id: u32,
@@ -128,7 +129,7 @@ impl Connections {
         Ok(())
     }
 
-    /// How a flow's live stream closes at the end: where a FIN is kept, what is before it was never
+    /// How a flow's live stream closes at the end. If a FIN is kept, octets before it weren't
     /// captured.
     fn end_cause(&self, id: u32) -> CloseCause
         ensures { result ≡ end_cause (get_or self.now.flows.states.items id None) }

@@ -13,6 +13,7 @@ ghost use Rattle.tcp_connections.specs.Connections.{is_answer as spec_is_answer}
 ghost use Rattle.tcp_connections.specs.Connections.{is_following as spec_is_following};
 
 use crate::flows::Flows;
+use crate::givers::Givers;
 use crate::guesses::Guesses;
 use crate::syns::{KeptSyn, KeptSyns};
 use arrayvec::ArrayVec;
@@ -23,7 +24,8 @@ use tcp_segment::Segment;
 use tcp_streams::{EndpointPair, Side, Streams, flow_from, flow_id, other, pair_of};
 use tcp_waiting::{Arrival, Pool, onward};
 
-/// The connections of a capture. The flows of a connection have ids by the room that it has while it is known.
+/// The connections of a capture. The ids of a connection's flows depend on the room that it has
+/// while it is known.
 #[derive(Drop)]
 pub struct Connections {
     pub(crate) ports: ArrayVec<u16, 64>,
@@ -32,6 +34,7 @@ pub struct Connections {
     pub(crate) syns: KeptSyns,
     pub(crate) flows: Flows,
     pub(crate) pool: Pool,
+    pub(crate) givers: Givers,
     segments: u64,
     /// The packet that is read.
     pub(crate) arrival: Arrival,
@@ -39,7 +42,8 @@ pub struct Connections {
     guesses: Guesses,
 }
 
-/// How many slots there are for each connection that may be known, so that few share one.
+/// How many slots there are for each connection that may be known. The more slots, the fewer are
+/// shared.
 const SLOTS: usize = 8;
 
 impl Connections {
@@ -48,10 +52,11 @@ impl Connections {
     ghost use Rattle.tcp_connections.specs.Connections.{place_among, next_room, unknown_taken};
     ghost use Rattle.tcp_connections.specs.Connections.{known_taken, step, syn_kept, with_packet, with_segment};
     ghost use Rattle.tcp_connections.specs.Known.{IsKnown};
-    ghost use Rattle.tcp_connections.specs.State.{IsSound, HasState, Makes, state_of};
+    ghost use Rattle.tcp_connections.specs.State.{AreRanked, IsSound, HasState, Makes, state_of};
 
-    /// No connection is known. At most so many will be at once, 1 to 65,536, and what waits takes at most so many blocks of
-    /// 1,024 octets, at most 1,048,576. A stream begins only where one of the ports is chosen: every port where there are none. No
+    /// No connection is known. At most `most` of them will be known at once, from 1 to 65,536.
+    /// Payloads that wait take at most `blocks` blocks of 1,024 octets, up to 1,048,576 blocks. A
+    /// stream begins only in a flow with one of the ports, or in any flow if there are no ports. No
     /// other call allocates.
     pub fn new(
         alloc: Global,
@@ -66,12 +71,15 @@ impl Connections {
         ensures sound { IfOk result (λ c. IsSound (state_of c [])) }
         ensures free { IfOk result (λ c. c.free.most ≡ most) }
         ensures room { IfOk result (λ c. c.table.most ≡ most) }
+        ensures ranked { (live : List ℕ) → IfOk result
+            (λ c. AreRanked c.givers (2 * most) [] live) }
     {
         let table = RoomTable::new(alloc, most as usize)?;
         let free = FreeRooms::new(alloc, most)?;
         let syns = KeptSyns::new(alloc, most as usize)?;
         let flows = Flows::new(alloc, most)?;
         let pool = Pool::new(alloc, blocks, 2 * most as usize)?;
+        let givers = Givers::new(alloc, 2 * most as usize)?;
         let guesses = Guesses::new(alloc, SLOTS * most as usize)?;
         Ok(Connections {
             ports,
@@ -80,6 +88,7 @@ impl Connections {
             syns,
             flows,
             pool,
+            givers,
             segments: 0,
             arrival: Arrival {
                 time: None,
@@ -89,13 +98,14 @@ impl Connections {
         })
     }
 
-    /// A packet more is read from now on, which came at a time in nanoseconds since 1970-01-01 UTC, if it has one. The payloads
-    /// that come are of it.
+    /// Begins a packet, which came at a time in nanoseconds since 1970-01-01 UTC, if it has a time.
+    /// The payloads that come next are of this packet.
     pub fn read(&mut self, time: Option<u128>)
         ensures does { (events : List Event) → state_of self.new events
             ≡ with_packet (state_of self.old events) time }
         ensures free { self.new.free.most ≡ self.old.free.most }
         ensures room { self.new.table.most ≡ self.old.table.most }
+        ensures givers { self.new.givers ≡ self.old.givers }
     {
         self.arrival = Arrival {
             time,
@@ -103,7 +113,7 @@ impl Connections {
         };
     }
 
-    /// A segment comes.
+    /// Takes a segment.
     pub fn take<L: Listener + Drop>(
         &mut self,
         segment: Segment<'_>,
@@ -137,7 +147,7 @@ impl Connections {
         self.take_known(pair, room, side, segment, to)
     }
 
-    /// A segment of the connection of a pair, which has this room.
+    /// Takes a segment of the connection of a pair, which has this room.
     fn take_known<L: Listener + Drop>(
         &mut self,
         pair: EndpointPair,
@@ -167,7 +177,8 @@ impl Connections {
         self.hear(id, None, false, to)
     }
 
-    /// A segment of a connection that isn't known: it is from now on, where a stream may begin.
+    /// Takes a segment of a connection that isn't known. It becomes known if a stream may begin in
+    /// the segment.
     fn take_unknown<L: Listener + Drop>(
         &mut self,
         pair: EndpointPair,
@@ -195,7 +206,7 @@ impl Connections {
         self.fin(id, segment, to)
     }
 
-    /// A connection is known from now on. Answers its room.
+    /// Makes a connection known. Answers its room.
     fn make_known<L: Listener + Drop>(
         &mut self,
         pair: EndpointPair,
@@ -211,7 +222,7 @@ impl Connections {
         ensures cause { OnErr result (L.failed to.new.listener) }
     {
         let place = self.place_for(&pair);
-        // As many rooms are free as connections may still be known.
+        // There are as many free rooms as connections that may still become known.
         let Some(room) = self.free.take() else {
             return Err(ListenerFault);
         };
@@ -226,7 +237,8 @@ impl Connections {
         Ok(room)
     }
 
-    /// The room of the connection of a pair, if it is known: first the one that is guessed for its slot is looked at.
+    /// The room of the connection of a pair, if it is known. The room that is guessed for its slot
+    /// is looked at first.
     fn room_of(&self, pair: &EndpointPair, slot: usize) -> Option<u32>
         requires sound { IsSound (state_of self.now []) }
         ensures none { (result ≡ None) → place_of pair.now self.now.table.keys ≡ None }
@@ -243,7 +255,8 @@ impl Connections {
         }
     }
 
-    /// Whether a room is that of the connection of a pair: the room had it last, and isn't free, since a flow has begun.
+    /// Whether a room is surely that of the connection of a pair: this pair had it last, and it
+    /// isn't free, since one of its flows has begun.
     #[inline]
     fn is_room_of(&self, room: u32, pair: &EndpointPair) -> bool
         requires sound { IsSound (state_of self.now []) }
@@ -257,7 +270,7 @@ impl Connections {
         }
     }
 
-    /// Whether a flow of a room has begun.
+    /// Whether one of the flows of a room has begun.
     #[inline]
     fn has_begun(&self, room: u32) -> bool
         requires small { room < 2 ^ 31 }
@@ -281,7 +294,7 @@ impl Connections {
         }
     }
 
-    /// The place where a pair that isn't known belongs.
+    /// The place at which a pair that isn't known would be inserted.
     fn place_for(&self, pair: &EndpointPair) -> usize
         requires sound { IsSound (state_of self.now []) }
         requires new { place_of pair.now self.now.table.keys ≡ None }
@@ -301,7 +314,7 @@ impl Connections {
         self.flows.at(id)
     }
 
-    /// A segment of a flow came, of the connection of a room.
+    /// Notes a segment of a flow of the connection of a room.
     fn note(&mut self, room: u32, id: u32)
         requires room { room < vec_len self.old.flows.stamps.last }
         requires own { id / 2 ≡ room }
@@ -309,11 +322,12 @@ impl Connections {
             ≡ with_segment (state_of self.old events) room id }
         ensures free { self.new.free.most ≡ self.old.free.most }
         ensures room { self.new.table.most ≡ self.old.table.most }
+        ensures givers { self.new.givers ≡ self.old.givers }
     {
         self.flows.note(id, self.segments);
     }
 
-    /// A SYN of the connection of a room is kept, in place of an older one.
+    /// Keeps a SYN for the connection of a room, in place of an older one.
     fn keep_syn(&mut self, room: u32, flow: u32, segment: Segment<'_>)
         requires room { room < vec_len self.old.flows.stamps.last }
         requires own { flow / 2 ≡ room }
@@ -321,13 +335,14 @@ impl Connections {
             ≡ syn_kept (state_of self.old events) room flow (segment_view segment.entry) }
         ensures free { self.new.free.most ≡ self.old.free.most }
         ensures room { self.new.table.most ≡ self.old.table.most }
+        ensures givers { self.new.givers ≡ self.old.givers }
     {
         self.note(room, flow);
         let number = onward(segment.sequence, 1);
         self.syns.set(room, Some(KeptSyn { flow, number }));
     }
 
-    /// The number that the stream of a flow in step begins with, one that is live or waited for.
+    /// The number that the stream of a flow begins with, if it is live or waited for.
     pub(crate) fn live_at(&self, id: u32) -> Option<u32>
         ensures { result ≡ live_of (get_or self.now.flows.states.items id None) }
     {
@@ -337,7 +352,8 @@ impl Connections {
         }
     }
 
-    /// Whether a segment is a SYN that is kept: it has no ACK, and its number isn't the flow's own.
+    /// Whether a segment is a SYN that is kept: it has no ACK, and the number after it isn't the
+    /// flow's own.
     #[inline]
     fn is_kept(&self, id: u32, segment: Segment<'_>) -> bool
         ensures { result ≡ spec_is_kept (get_or self.now.flows.states.items id None)
@@ -348,15 +364,15 @@ impl Connections {
             && !self.is_own(id, onward(segment.sequence, 1))
     }
 
-    /// Whether a number is a flow's own: near the one that is due, or its live stream's first.
+    /// Whether a number is a flow's own: it is near the one that is due, or the stream begins with
+    /// it that is live or waited for.
     fn is_own(&self, id: u32, number: u32) -> bool
         ensures { result ≡ spec_is_own (get_or self.now.flows.states.items id None) number }
     {
         self.is_near_due(id, number) || self.live_at(id) == Some(number)
     }
 
-    /// Whether a number is at most 1,048,576 from the one that is due in a flow, of which something
-    /// began.
+    /// Whether a number is near the one that is due in a flow that has begun.
     pub(crate) fn is_near_due(&self, id: u32, number: u32) -> bool
         ensures { result ≡ spec_is_near_due (get_or self.now.flows.states.items id None) number }
     {
@@ -380,14 +396,14 @@ impl Connections {
     }
 }
 
-/// Whether a segment of an id is SYN and ACK of the opposite flow, which acknowledges a SYN.
+/// Whether a segment of the opposite flow has SYN and ACK, and acknowledges a SYN.
 fn is_answer(syn: KeptSyn, id: u32, segment: Segment<'_>) -> bool
     ensures { result ≡ spec_is_answer syn id (segment_view segment.entry) }
 {
     syn.flow != id && segment.syn && segment.acknowledgement == Some(syn.number)
 }
 
-/// Whether a segment of an id has the payload after a SYN of its flow.
+/// Whether a segment has the payload that follows a SYN of its flow.
 fn is_following(syn: KeptSyn, id: u32, segment: Segment<'_>) -> bool
     ensures { result ≡ spec_is_following syn id (segment_view segment.entry) }
 {

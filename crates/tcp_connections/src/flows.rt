@@ -1,5 +1,5 @@
-//! The flows of all connections, by their ids, and which connection makes room before all others, in memory that is allocated
-//! once.
+//! The flows of all connections by their ids, and which connection makes room first, in memory that
+//! is allocated once.
 
 ghost use Rattle.std.specs.Prelude.{◌≡◌, ◌≤◌, ◌<◌, ◌*◌, ◌/◌, ◌+◌, ◌^◌, ℕ, IfOk, IfSome, None, false, true, cond, nat_eq, get_or, set, replicate};
 ghost use Rattle.std.specs.Vec.{vec_len};
@@ -13,11 +13,12 @@ use std::alloc::{AllocError, Global};
 use tcp_flow::FlowState;
 use tcp_rooms::{Ranks, Stamps};
 
-/// How far the ranks of one class are from those of the next: no stamp is as great.
+/// The distance between the ranks of two classes. It is greater than any stamp.
 const CLASS: u128 = 1 << 64;
 
-/// The flow of each id, from its first stream on; of which flows segments came; when each connection was last seen; and a rank
-/// for each room, at most that which it has among those that make room: one that rises is noted when it is looked for.
+/// For each id the flow, from its first stream on, and whether segments of it came. For each room
+/// when its connection was last seen, and a rank that is at most the true one: if the true one
+/// rises, this is noted only when the room is looked for.
 #[derive(Drop)]
 pub struct Flows {
     states: Vec<Option<FlowState>>,
@@ -32,7 +33,7 @@ pub struct Flows {
 }
 
 impl Flows {
-    /// No flow has begun, of so many rooms. No other call allocates.
+    /// No flow of these rooms has begun. No other call allocates.
     pub fn new(alloc: Global, rooms: u32) -> Result<Flows, AllocError>
         requires { (1 ≤ rooms) × (rooms ≤ 65536) }
         ensures states { IfOk result (λ f. f.states.items ≡ replicate (2 * rooms) None) }
@@ -42,7 +43,7 @@ impl Flows {
         let states = vec![in alloc; None; 2 * rooms as usize]?;
         let came = Came::new(alloc, 2 * rooms as usize)?;
         let stamps = Stamps::new(alloc, rooms as usize)?;
-        let ranks = Ranks::new(alloc, rooms as usize)?;
+        let ranks = Ranks::new(alloc, rooms as usize, 0)?;
         Ok(Flows {
             states,
             came,
@@ -58,7 +59,8 @@ impl Flows {
         flow_at(&self.states, id)
     }
 
-    /// A flow is so from now on, or is forgotten. While a stream of it lives, its connection makes room no earlier by it.
+    /// Sets a flow, or forgets it. If it has a live stream, the true rank of its room can only
+    /// rise, and isn't noted.
     pub fn set(&mut self, id: u32, flow: Option<FlowState>)
         ensures states { self.new.states.items ≡ set self.old.states.items id flow }
         ensures came { self.new.came ≡ self.old.came }
@@ -78,7 +80,7 @@ impl Flows {
         }
     }
 
-    /// A segment of a flow came, with this stamp.
+    /// Notes a segment of a flow, with its stamp.
     pub fn note(&mut self, id: u32, stamp: u64)
         requires { id / 2 < vec_len self.old.stamps.last }
         ensures states { self.new.states.items ≡ self.old.states.items }
@@ -99,7 +101,8 @@ impl Flows {
         }
     }
 
-    /// The connection of a room is known from now on, by a segment with this stamp: no other came of its flows.
+    /// Notes that the connection of a room became known by a segment with this stamp. No other
+    /// segment of its flows has come.
     pub fn open(&mut self, room: u32, stamp: u64)
         requires { room < vec_len self.old.stamps.last }
         ensures states { self.new.states.items ≡ self.old.states.items }
@@ -119,7 +122,7 @@ impl Flows {
         );
     }
 
-    /// The room whose connection makes room before each other. None if it isn't found by the ranks.
+    /// The room whose connection makes room before all others. None if the ranks don't tell it.
     pub fn first_room(&mut self) -> Option<u32>
         ensures some { IfSome result (λ room. IsBeforeAll self.old.states.items
             self.old.came.ids.items self.old.stamps.last.items room) }
@@ -130,7 +133,7 @@ impl Flows {
         first_settled(&self.states, &self.came, &self.stamps, &mut self.ranks)
     }
 
-    /// Whether the connection of one room makes room rather than that of another.
+    /// Whether the connection of one room makes room before that of another.
     pub fn goes_before(&self, room: u32, other: u32) -> bool
         requires room { room < vec_len self.now.stamps.last }
         requires other { other < vec_len self.now.stamps.last }
@@ -142,8 +145,9 @@ impl Flows {
     }
 }
 
-/// The first of the rooms by their ranks, as soon as its own is that which it has; else it is noted, and the next one is looked
-/// at. Each is at most once, and each rank rises only by a segment, so all that is noted is less than what came.
+/// The room of the least rank, if that is its true rank. If not, the true one is noted, and the
+/// next room is looked at. Each room is noted once at most. A rank rises only with a segment, so
+/// there are fewer ranks to note than segments.
 fn first_settled(
     states: &[Option<FlowState>],
     came: &Came,
@@ -174,7 +178,7 @@ fn first_settled(
     None
 }
 
-/// A room has the rank from now on that is by its flows.
+/// Notes the true rank of a room.
 #[inline(never)]
 fn settle(states: &[Option<FlowState>], came: &Came, stamps: &Stamps, ranks: &mut Ranks, room: u32)
     requires within { room < vec_len stamps.now.last }
@@ -188,7 +192,7 @@ fn settle(states: &[Option<FlowState>], came: &Came, stamps: &Stamps, ranks: &mu
     ranks.set(room, rank_of(states, came, stamps, room));
 }
 
-/// The rank of a room by its flows.
+/// The true rank of a room, from its flows.
 fn rank_of(states: &[Option<FlowState>], came: &Came, stamps: &Stamps, room: u32) -> u128
     requires within { room < vec_len stamps.now.last }
     requires small { room < 2 ^ 31 }
@@ -208,8 +212,8 @@ fn lives(flow: Option<FlowState>) -> bool
     }
 }
 
-/// How late the connection of a room makes room: first one without a live stream, then one of which segments of one flow
-/// alone came, then any other.
+/// How late the connection of a room makes room: 0 without a live stream, 1 if segments of one flow
+/// alone came, and 2 for any other.
 fn class_of(states: &[Option<FlowState>], came: &Came, room: u32) -> u32
     requires { room < 2 ^ 31 }
     ensures class { result ≡ class_among states.now came.now.ids.items room }
@@ -229,7 +233,7 @@ fn is_live(states: &[Option<FlowState>], room: u32) -> bool
     has_live(states, 2 * room) || has_live(states, 2 * room + 1)
 }
 
-/// Whether segments of both flows of a room's connection came since it is known.
+/// Whether segments of both flows of a room's connection came since it became known.
 fn is_both(states: &[Option<FlowState>], came: &Came, room: u32) -> bool
     requires { room < 2 ^ 31 }
     ensures { result ≡ is_both_among states.now came.now.ids.items room }
@@ -254,7 +258,7 @@ fn flow_at(states: &[Option<FlowState>], id: u32) -> Option<FlowState>
     None
 }
 
-/// Whether segments of a flow came since its connection is known.
+/// Whether segments of a flow came since its connection became known.
 fn has_come(states: &[Option<FlowState>], came: &Came, id: u32) -> bool
     ensures { result ≡ has_come_among states.now came.now.ids.items id }
 {

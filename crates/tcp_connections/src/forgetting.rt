@@ -1,5 +1,5 @@
-//! Connections are forgotten: by a RST or a SYN, or to make room for another, first those without a
-//! live stream, then those of which segments of one flow alone came. What they hold is shown before.
+//! Forgets connections, for a RST or a SYN, or to make room for another: first those without a live
+//! stream, then those of which segments of one flow alone came. What they hold is shown before.
 
 ghost use Rattle.std.specs.Prelude.{◌≡◌, ◌<◌, ◌^◌, ℕ, [], List, length, cond, OnOk, OnErr};
 ghost use Rattle.tcp_segment.specs.Segments.{segment_view};
@@ -18,7 +18,7 @@ impl Connections {
     ghost use Rattle.tcp_connections.specs.Known.{IsKnown};
     ghost use Rattle.tcp_connections.specs.State.{IsSound, HasState, Makes, state_of};
 
-    /// A RST comes, where the segment is one that counts: the connection is forgotten.
+    /// Takes the RST of a segment, if it has one. If the RST counts, the connection is forgotten.
     pub(crate) fn reset<L: Listener + Drop>(
         &mut self,
         pair: EndpointPair,
@@ -46,7 +46,7 @@ impl Connections {
         self.end_by(self.place_of(&pair), side, CloseCause::Reset, to)
     }
 
-    /// A connection shows what it holds and is forgotten, by a segment of one side.
+    /// Shows what a connection holds and forgets it, because of a segment of one side.
     pub(crate) fn end_by<L: Listener + Drop>(
         &mut self,
         place: usize,
@@ -66,8 +66,8 @@ impl Connections {
         self.forget(place, side, cause, to)
     }
 
-    /// What the flows of a room hold is shown, before its connection is forgotten: first that of the
-    /// flow of one side.
+    /// Shows what the flows of a room hold, before its connection is forgotten. The flow of this
+    /// side is the first.
     fn show<L: Listener + Drop>(
         &mut self,
         room: u32,
@@ -85,7 +85,7 @@ impl Connections {
         self.empty(flow_id(room, other(side)), to)
     }
 
-    /// While a flow holds something, a gap of it. It holds nothing then.
+    /// Makes gaps in a flow until it holds nothing.
     fn empty<L: Listener + Drop>(
         &mut self,
         id: u32,
@@ -109,7 +109,7 @@ impl Connections {
         Ok(())
     }
 
-    /// A connection is forgotten: first the flow of one side, then the other.
+    /// Forgets a connection: first the flow of this side, then the other.
     pub(crate) fn forget<L: Listener + Drop>(
         &mut self,
         place: usize,
@@ -132,7 +132,7 @@ impl Connections {
         Ok(())
     }
 
-    /// A flow is forgotten: its live stream closes, and what it holds falls away.
+    /// Forgets a flow: its live stream closes, and what it holds is removed.
     fn forget_flow<L: Listener + Drop>(
         &mut self,
         id: u32,
@@ -151,10 +151,11 @@ impl Connections {
         flow.close(cause, to)?;
         flow.forget(&mut self.pool);
         self.flows.set(id, None);
+        self.givers.note(id, &self.pool, to);
         Ok(())
     }
 
-    /// Where as many connections as may be are known, the one that goes first makes room.
+    /// Makes room for a connection if no more may be known.
     pub(crate) fn make_room<L: Listener + Drop>(
         &mut self,
         to: &mut Streams<L>,
@@ -172,8 +173,8 @@ impl Connections {
         self.clear(place, to)
     }
 
-    /// The connection at a place makes room: it shows what it holds, and the stream that began first
-    /// closes first.
+    /// Shows what the connection at a place holds and forgets it. Of its flows, the one whose
+    /// stream began first comes first.
     fn clear<L: Listener + Drop>(
         &mut self,
         place: usize,
@@ -191,7 +192,8 @@ impl Connections {
         self.forget(place, to.elder_side(room), CloseCause::Room, to)
     }
 
-    /// The place of the connection that makes room: by the ranks, or by a walk if two rooms have the least.
+    /// The place of the connection that makes room: found by the ranks, or by looking at all if two
+    /// rooms have the least rank.
     fn eldest(&mut self) -> usize
         requires sound { IsSound (state_of self.old []) }
         requires some { 0 < length self.old.table.keys }
@@ -201,6 +203,7 @@ impl Connections {
             ≡ state_of self.old events }
         ensures free { self.new.free.most ≡ self.old.free.most }
         ensures room { self.new.table.most ≡ self.old.table.most }
+        ensures givers { self.new.givers ≡ self.old.givers }
     {
         if let Some(room) = self.flows.first_room()
             && let Some(place) = self.table.place_of_room(room)
@@ -210,7 +213,7 @@ impl Connections {
         self.walk()
     }
 
-    /// The place of the connection that makes room, by a walk over all.
+    /// The place of the connection that makes room, found by looking at all.
     fn walk(&self) -> usize
         requires sound { IsSound (state_of self.now []) }
         requires some { 0 < length self.now.table.keys }
@@ -226,7 +229,7 @@ impl Connections {
         best
     }
 
-    /// Of two places, that of the connection that makes room rather than the other.
+    /// The one of two places whose connection makes room before that of the other.
     fn elder(&self, place: usize, best: usize) -> usize
         requires sound { IsSound (state_of self.now []) }
         requires place { place < length self.now.table.keys }
@@ -241,7 +244,7 @@ impl Connections {
         }
     }
 
-    /// Whether the connection at one place makes room rather than that at another.
+    /// Whether the connection at one place makes room before that at another.
     fn goes_before(&self, place: usize, other: usize) -> bool
         requires sound { IsSound (state_of self.now []) }
         requires place { place < length self.now.table.keys }

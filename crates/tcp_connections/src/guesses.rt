@@ -1,4 +1,4 @@
-//! Which rooms connections may have, guessed by their endpoints, in memory that is allocated once.
+//! Guesses of the room of a connection from its endpoints, in memory that is allocated once.
 
 ghost use Rattle.std.specs.Prelude.{◌≡◌, ◌≤◌, ◌<◌, ◌^◌, IfOk, get_or, set, replicate};
 ghost use Rattle.std.specs.Vec.{vec_len};
@@ -7,8 +7,8 @@ use std::alloc::{AllocError, Global};
 use tcp_segment::{Address, Endpoint};
 use tcp_streams::EndpointPair;
 
-/// The room that the last connection of each slot had. It is a guess: several connections may have one slot, and a room is given
-/// back. Who asks looks whether it is right.
+/// The room of the last connection of each slot. It is only a guess, since connections may share a
+/// slot and rooms are given back. The caller checks it.
 #[derive(Drop)]
 pub struct Guesses {
     rooms: Vec<u16>,
@@ -16,7 +16,7 @@ pub struct Guesses {
 }
 
 impl Guesses {
-    /// So many slots, each with the room 0. No other call allocates.
+    /// Slots with room 0 each. No other call allocates.
     pub fn new(alloc: Global, slots: usize) -> Result<Guesses, AllocError>
         requires { 1 ≤ slots }
         ensures { IfOk result (λ g. g.rooms.items ≡ replicate slots 0) }
@@ -25,7 +25,7 @@ impl Guesses {
         Ok(Guesses { rooms })
     }
 
-    /// The slot of a connection, by the last octets of its addresses and by its ports.
+    /// The slot of a connection, from the last octets of its addresses and its ports.
     pub fn slot(&self, pair: &EndpointPair) -> usize {
         let lesser = number_of(pair.lesser).wrapping_mul(0x9e37_79b1);
         let greater = number_of(pair.greater).wrapping_mul(0x85eb_ca6b);
@@ -40,7 +40,7 @@ impl Guesses {
         u32::from(self.rooms.get(slot).copied().unwrap_or(0))
     }
 
-    /// A room is guessed for a slot from now on.
+    /// Sets the room that is guessed for a slot.
     pub fn note(&mut self, slot: usize, room: u32)
         requires { room < 2 ^ 16 }
         ensures { self.new.rooms.items ≡ set self.old.rooms.items slot room }
@@ -51,7 +51,7 @@ impl Guesses {
     }
 }
 
-/// The last two octets of an endpoint's address, and its port.
+/// The last two octets of an endpoint's address, and then its port.
 fn number_of(endpoint: Endpoint) -> u32 {
     let [high, low] = match endpoint.address {
         Address::V4(octets) => [octets[2], octets[3]],

@@ -1,4 +1,4 @@
-//! What is so of connections whoever drives them.
+//! Laws about connections, whoever drives them.
 
 ghost use Rattle.std.specs.Prelude.{ℕ, ◌≡◌, ◌≤◌, ◌<◌, ◌++◌, ◌∷◌, [], List, length, is_some, None, true};
 ghost use Rattle.tcp_segment.specs.Segments.{Segment};
@@ -15,8 +15,9 @@ ghost use Rattle.tcp_connections.specs.State.{IsState, HasState};
 use crate::connections::Connections;
 use tcp_flow::Listener;
 
-/// Where the connections have a state, and their listener is then told of the capture, they have that state with this event:
-/// what is known, held and live stays. It has no body, and is called for its contract.
+/// If the listener of the connections is told of the capture, then the connections have the same
+/// state with this event: what is known, held and live stays. This function has no body and is
+/// called for its contract.
 pub fn capture_event_is_told<L: Listener + Drop>()
     ensures state { (before behind : L) (live : List ℕ) (c : Connections) (w : State)
         (event : CaptureEvent)
@@ -30,9 +31,10 @@ pub fn capture_event_is_told<L: Listener + Drop>()
         → HasState (L.observed behind) live c }
 {}
 
-/// A connection that is known is forgotten by a segment only where it is a RST of one of the connection's own flows, at most
-/// 1,048,576 from the number that is due there, or of the connection's own and answers or follows a SYN that was kept, or the
-/// first payload of another, where as many are known as may be and this is the one that makes room.
+/// A segment makes a known connection be forgotten only in three cases. It is a RST of one of the
+/// connection's flows, with a number at most 1,048,576 from the one that is due there. Or it is a
+/// segment of the connection that answers or follows the SYN that is kept. Or it is the first
+/// payload of another connection, no more may be known, and this is the one that makes room.
 pub fn nothing_else_forgets()
     ensures { (reader : Reader) (ports : List ℕ) (blocks most : ℕ) (segments : List Segment)
         (s : Segment) (p : EndpointPair) → 1 ≤ most → most ≤ 65536
@@ -43,24 +45,26 @@ pub fn nothing_else_forgets()
         → IsForgottenBy reader (after reader (none_known ports blocks most []) segments) s p }
 {}
 
-/// Where as many connections are known as may be, the one that makes room for another has no live stream, if there is one
-/// without, else segments of one flow alone came of it, if there is one such. Of those alike it is the one whose last segment
-/// came first; what it holds is shown before it is forgotten. It has no body, and is called for its contract.
+/// If no more connections may be known, one makes room for another. It has no live stream, if there
+/// is such a connection; if not, segments of one flow alone came of it, if there is such a
+/// connection. Of several like that it is the one whose last segment came first. What it holds is
+/// shown before it is forgotten. This function has no body and is called for its contract.
 pub fn the_eldest_makes_room()
     ensures { (reader : Reader) (w : State) → 0 < length w.known
         → length w.lasts ≤ length w.known → MakesRoom reader w }
 {}
 
-/// Where the pool is short, the flow that gives up holds the most blocks of all whose streams live or were closed by a gap, and
-/// of several the one whose last stream began first. It has no body, and is called for its contract.
+/// If the pool is short, the flow that gives up holds the most blocks of all whose streams are live
+/// or were closed by a gap. Of several like that it is the one whose last stream began first. This
+/// function has no body and is called for its contract.
 pub fn the_heaviest_gives_up()
     ensures { (w : State) → 0 < length (lives w.events)
         → IsHeaviest w.held (lives w.events) (heaviest w) }
 {}
 
-/// Streams are without a gap, whatever segments come: octets come and a stream closes only while it lives, and they stand one
-/// after another, by the numbers of segments that came, each of the stream's own flow. Where the capture ends after these,
-/// each stream has closed too.
+/// Streams have no gaps, whatever segments come: octets come and a stream closes only while it is
+/// live, and its octets follow one another as in the segments of the stream's own flow that came.
+/// If the capture ends after these, each stream has closed.
 pub fn no_stream_has_a_gap()
     ensures gapless { (reader : Reader) (ports : List ℕ) (blocks most : ℕ)
         (segments : List Segment) → 1 ≤ most → most ≤ 65536

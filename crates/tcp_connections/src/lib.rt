@@ -1,5 +1,5 @@
-//! The connections of a capture: which are known, what their streams deliver, and when they close (RFC 9293). All memory is
-//! allocated when they are made.
+//! The connections of a capture: which are known, what their streams deliver, and when they close
+//! (RFC 9293). All memory is allocated when they are made.
 #![tactic(auto)]
 
 mod arrivals;
@@ -8,6 +8,8 @@ mod capture_end;
 mod connections;
 mod flows;
 mod forgetting;
+mod givers;
+mod giving;
 mod guesses;
 mod laws;
 mod relieving;

@@ -1,4 +1,5 @@
-//! The pool is short: the flow that holds the most blocks gives up, of several the one whose last stream began first.
+//! If the pool is short, the flow that holds the most blocks gives up; of several, the one whose
+//! last stream began first.
 
 ghost use Rattle.std.specs.Prelude.{◌≡◌, get_or, OnErr, None};
 
@@ -12,7 +13,8 @@ impl Connections {
     ghost use Rattle.tcp_connections.specs.Connections.{State, heaviest_from, heavier, within_pool};
     ghost use Rattle.tcp_connections.specs.State.{HasStateOver, MakesOver};
 
-    /// While the pool has too few blocks for all that is held, a gap of the flow that holds the most.
+    /// While the pool has too few blocks for all that is held, makes a gap in the flow that holds
+    /// the most.
     pub(crate) fn relieve<L: Listener + Drop>(
         &mut self,
         to: &mut Streams<L>,
@@ -28,14 +30,32 @@ impl Connections {
             if self.pool.blocks_in_use() <= self.pool.blocks() {
                 return Ok(());
             }
-            let id = self.heaviest(to);
+            let id = self.giver(to);
             self.gap(id, to)?;
             left -= 1;
         }
         Ok(())
     }
 
-    /// The flow that holds the most blocks, of several the one whose last stream began first.
+    /// The flow that holds the most blocks. If several hold as many, it is the one whose last
+    /// stream began first. It is found by the ranks, or by looking at each flow if two have the
+    /// least rank.
+    fn giver<L: Listener + Drop>(&self, to: &mut Streams<L>) -> u32
+        requires state { HasStateOver 256 (L.observed to.old.listener) to.old.live.items self.now }
+        ensures is { result ≡ heaviest_from self.now.pool.held (get_or to.old.live.items 0 0)
+            to.old.live.items }
+        ensures live { to.new.live ≡ to.old.live }
+        ensures listener { to.new.listener ≡ to.old.listener }
+    {
+        if let Some(id) = self.givers.first()
+            && self.pool.load(id) > 0
+        {
+            return id;
+        }
+        self.heaviest(to)
+    }
+
+    /// The same flow, found by looking at each flow whose stream is live or was closed by a gap.
     fn heaviest<L: Listener + Drop>(&self, to: &mut Streams<L>) -> u32
         ensures is { result ≡ heaviest_from self.now.pool.held (get_or to.old.live.items 0 0)
             to.old.live.items }
@@ -52,7 +72,7 @@ impl Connections {
         best
     }
 
-    /// Of two flows the one that holds more blocks, or else the first.
+    /// The one of two flows that holds more blocks; the first if both hold as many.
     fn heavier(&self, first: u32, other: u32) -> u32
         ensures { result ≡ heavier self.now.pool.held first other }
     {

@@ -7,9 +7,10 @@ use std::alloc::{AllocError, Global};
 /// A SYN without ACK that may begin its connection anew.
 #[derive(Clone, Copy, Debug, PartialEq, Eq)]
 pub struct KeptSyn {
-    /// The id of the flow that it is of.
+    /// The id of its flow.
     pub(crate) flow: u32,
-    /// The sequence number after it, which answers it: RFC 9293, Three-Way Handshake.
+    /// The sequence number after the SYN, which an answer acknowledges (RFC 9293, Three-Way
+    /// Handshake).
     pub(crate) number: u32,
 }
 
@@ -20,7 +21,7 @@ pub struct KeptSyns {
 }
 
 impl KeptSyns {
-    /// So many rooms, each of which keeps none. No other call allocates.
+    /// Rooms without SYNs. No other call allocates.
     pub fn new(alloc: Global, rooms: usize) -> Result<KeptSyns, AllocError>
         ensures { IfOk result (λ s. s.kept.items ≡ replicate rooms None) }
     {
@@ -28,7 +29,7 @@ impl KeptSyns {
         Ok(KeptSyns { kept })
     }
 
-    /// A room keeps this SYN from now on, or none, in place of an older one.
+    /// Sets the SYN that a room keeps, or none, in place of an older one.
     pub fn set(&mut self, room: u32, syn: Option<KeptSyn>)
         ensures { self.new.kept.items ≡ set self.old.kept.items room syn }
     {

@@ -1,4 +1,4 @@
--- Messages that stand one after another up to the end, one after the other.
+-- Messages that follow one another up to the end, step by step.
 use Rattle.std.proofs.Common.{◌≡◌, ℕ, zero, suc, ◌-◌, ◌<◌, ◌≤◌, Bool, true, false, cond, nat_eq, ◌||◌, List, [], ◌∷◌, length, drop, Option, Some, None, refl, ap, arith, true≢false}
 use Rattle.std.proofs.lemmas.Bool.{eq-eqb, eqb-true, ne_eqb}
 use Rattle.tcp_flow.specs.Flow.{header_at, message_end, is_front, chain_from, is_chain, stream_at}
@@ -10,14 +10,14 @@ some_octets (x ∷ xs) e = omega arith
 pub no_octets : (xs : List ℕ) → nat_eq (length xs) 0 ≡ true → length xs ≡ 0
 no_octets xs e = eqb-true (length xs) 0 e
 
--- after the last message
+-- nothing comes after the last message
 pub chain_over : (count : ℕ) (whole : Bool) (xs : List ℕ) → length xs ≡ 0 →
     chain_from count whole xs ≡ whole
 unfolding chain_from
 chain_over zero whole xs e = refl
 chain_over (suc n) whole xs e = search (arith, eq-eqb)
 
--- what begins no message
+-- octets that begin no message
 pub chain_broken : (count : ℕ) (whole : Bool) (xs : List ℕ) → 0 < length xs → length xs ≤ count →
     is_front xs ≡ false → chain_from count whole xs ≡ false
 unfolding chain_from
@@ -31,7 +31,7 @@ unfolding chain_from
 chain_cut zero whole xs s l f e = absurd (omega (arith, s, l))
 chain_cut (suc n) whole xs s l f e = search (arith, ne_eqb)
 
--- a whole one
+-- a message that is whole
 pub chain_on : (count : ℕ) (whole : Bool) (xs : List ℕ) (end : ℕ) → 0 < length xs →
     length xs ≤ count → is_front xs ≡ true → message_end xs ≡ Some end →
     chain_from count whole xs ≡ chain_from (count - 1) true (drop end xs)

@@ -1,4 +1,4 @@
--- A stream of a flow that has closed stays so, whatever comes.
+-- A stream of a flow that has closed stays closed, whatever comes.
 use Rattle.std.proofs.Common.{◌≡◌, ℕ, ◌+◌, ◌<◌, Bool, true, false, cond, nat_eq, ◌||◌, List, [], ◌∷◌, ◌++◌, length, Option, Some, None, is_some, arith, append-nil}
 use Rattle.std.proofs.lemmas.List.{append_assoc}
 use Rattle.tcp_flow.specs.declared.flow.CloseCause.{CloseCause}

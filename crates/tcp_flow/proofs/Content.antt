@@ -1,5 +1,5 @@
--- What has come of a content, while its stream lives: in whatever order, its octets up to the first
--- place that no payload spans.
+-- What has come of a content while its stream lives: its octets up to the first place that no
+-- payload spans, whatever the order.
 use Rattle.std.proofs.Common.{◌≡◌, ◌⊎◌, ℕ, zero, suc, ◌+◌, ◌-◌, ◌^◌, ◌<◌, ◌≤◌, Bool, true, false, cond, not, nat_eq, nat_lt, ◌&&◌, List, [], ◌∷◌, ◌++◌, length, take, drop, get_or, Option, Some, None, is_some, refl, sym, ◌∙◌, ap, subst, arith, inl, inr, true≢false, append-nil}
 use Rattle.std.specs.List.{AllByRecursion, insert, remove}
 use Rattle.std.proofs.lemmas.Bool.{cases_Bool, cond-true, cond-false, and_cases, and_parts, and_right, not-true, not_from_true, both_ways, eqb-true, eq-eqb}
@@ -48,7 +48,7 @@ some_put P [] (suc i) q s = inl s
 some_put P (p ∷ ps) zero q s = inl s
 some_put P (p ∷ ps) (suc i) q s = inr (some_put P ps i q s)
 
--- one of which something is so, where something else is so of all
+-- something is true of one payload, if another thing is true of that one and a third of all
 pub some_with : (P Q R : Payload → Type 0) (ps : List Payload) → ((p : Payload) → P p → Q p → R p) →
     AllByRecursion P ps → SomeOf Q ps → SomeOf R ps
 unfolding SomeOf
@@ -65,8 +65,8 @@ some_map Q R (p ∷ ps) k (inr s) = inr (some_map Q R ps k s)
 
 -- ---- What has come.
 
--- a flow of an id, at the start; how many of its streams have closed; the place of one payload and
--- its end; a content, and what was delivered in front of it
+-- a flow of an id that begins at `start`, and how many of its streams have closed; the place and
+-- the end of one payload; a content, and what was delivered before it
 pub record Case : Type 0 where
   pub id : ℕ
   pub start : ℕ
@@ -77,7 +77,7 @@ pub record Case : Type 0 where
   pub content : List ℕ
   pub front : List ℕ
 
--- a payload of the content that waits: no place that no payload spans is in it
+-- a payload of the content that waits: it spans no place that no payload spans
 pub record Piece (x : Case) (U : ℕ → Type 0) (p : Payload) : Type 0 where
   pub place : ℕ
   pub agrees : Agrees x.start x.content place p.number p.octets
@@ -95,7 +95,7 @@ unfoldable pub Covered : Case → ℕ → List Payload → Type 0
 Covered x r ps = (x.end ≤ x.place) ⊎ ((x.end ≤ r) ⊎ SomeOf (Reaches x r) ps)
 
 -- the stream lives, and its octets up to a place were delivered; if the one payload has come (K),
--- it is delivered or waits
+-- it was delivered or waits
 pub record So (x : Case) (U : ℕ → Type 0) (K : Type 0) (g : Flow) : Type 0 where
   pub same : g.id ≡ x.id
   pub live : lives g.live g.waits ≡ true
@@ -109,14 +109,14 @@ pub record So (x : Case) (U : ℕ → Type 0) (K : Type 0) (g : Flow) : Type 0 w
   pub held : AllByRecursion (λ p. p.flow ≡ x.id → Piece x U p) g.held
   pub covered : K → Covered x r g.held
 
--- a stream has closed, or it is so
+-- a stream has closed, or the stream lives as in `So`
 unfoldable pub HasGone : Case → (ℕ → Type 0) → Type 0 → Flow → Type 0
 HasGone x U K g = (x.closings < closes_of x.id g.events) ⊎ So x U K g
 
 later_reach : (x : Case) (r s : ℕ) (p : Payload) → r ≤ s → Reaches x r p → Reaches x s p
 later_reach x r s p l h = search (arith)
 
--- what waits and is taken away was the payload's, or another is
+-- after a payload that waited was taken: it was the one payload, or another still covers that one
 covered_taken : (x : Case) (U : ℕ → Type 0) (r s : ℕ) (ps : List Payload) (i : ℕ) (d : Payload) →
     length x.content < 2 ^ 31 → r ≤ s → (piece : Piece x U (get_or ps i d))
     → piece.place + length (get_or ps i d).octets ≤ s → Covered x r ps → Covered x s (remove ps i)
@@ -193,7 +193,7 @@ deliver_so F x U K g p r place k live same agrees kis l m from said count least 
       covered = covered;
     })
 
--- what is due and waited is taken
+-- a payload that is due and waited is taken
 take_so : (F : Reader) (x : Case) (U : ℕ → Type 0) (K : Type 0) (f : Flow) (i : ℕ) →
     length x.content < 2 ^ 31 → first_of f ≡ Some i → is_due f i ≡ true → So x U K f
     → HasGone x U K (taken F (record f { held = remove f.held i }) (held_at f i))

@@ -1,5 +1,5 @@
--- Payloads of a content come, one and then all that do: their octets are delivered or wait, while
--- the stream lives.
+-- Payloads of a content come, first one and then all: while the stream lives, their octets are
+-- delivered or wait.
 use Rattle.std.proofs.Common.{◌≡◌, ◌⊎◌, ℕ, ◌+◌, ◌-◌, ◌^◌, ◌<◌, ◌≤◌, true, not, nat_eq, nat_le, ◌&&◌, ◌||◌, List, [], ◌∷◌, length, take, drop, is_some, refl, sym, ◌∙◌, ap, subst, arith, inl, inr, true≢false}
 use Rattle.std.specs.List.{AllByRecursion}
 use Rattle.std.proofs.lemmas.Bool.{cases_Bool, cases_lt, and_parts, or_cases, or_parts, eqb-true, leb-true}
@@ -20,7 +20,7 @@ use Rattle.tcp_flow.proofs.Steps.{came_nothing, came_held}
 
 -- ---- One payload comes.
 
--- it has come, or the one payload is this
+-- the one payload has come, or it is this one
 unfoldable pub IsOrHas : Case → Type 0 → ℕ → ℕ → Type 0
 IsOrHas x K place end = K ⊎ ((place ≡ x.place) × (end ≡ x.end))
 
@@ -45,7 +45,7 @@ any_as_much id number count (p ∷ ps) h =
       | inr a ↦ inr (any_as_much id number count ps a)
     ]
 
--- where the octets of a payload that are left begin
+-- where the octets begin that are left of a payload
 place_left : (x : Case) (r place : ℕ) → (r ≤ place) ⊎ (place < r) → (k : ℕ) →
     length x.content < 2 ^ 31 → r ≤ length x.content → place ≤ length x.content →
     k ≡ age (onward x.start r) (onward x.start place)
@@ -215,11 +215,11 @@ came_so F x U K L f n place octets arrival small agrees spans new so =
 
 -- ---- All that comes.
 
--- a stream has closed, or it is so, and what waits is to come
+-- a stream has closed, or the stream lives as in `So` and all that waits is to come
 unfoldable pub IsSo : Case → (ℕ → Type 0) → Type 0 → Flow → Type 0
 IsSo x U K g = (x.closings < closes_of x.id g.events) ⊎ (So x U K g × IsSettled g)
 
--- what comes is a payload of the content, and no place that no payload spans is in it
+-- what comes is a payload of the content, and it spans no place that no payload spans
 unfoldable pub Comes : Case → (ℕ → Type 0) → Arrival → Type 0
 Comes x U (Octets n octets arrival) =
     (place : ℕ) × (Agrees x.start x.content place n octets
@@ -259,7 +259,7 @@ run F x U K (Octets n octets arrival ∷ cs) f small h t =
 run F x U K (End n ∷ cs) f small h t = absurd h.0
 run F x U K (Hears packet ∷ cs) f small h t = absurd h.0
 
--- the one payload is among them
+-- the one payload is among those that come
 pub run_has : (F : Reader) (x : Case) (U : ℕ → Type 0) (n : ℕ) (octets : List ℕ)
     (arrival : packet.Arrival) (cs : List Arrival) (f : Flow) → length x.content < 2 ^ 31
     → Agrees x.start x.content x.place n octets → x.place + length octets ≡ x.end →

@@ -1,5 +1,5 @@
--- A payload that is due at once is taken from where it is: to hold it first makes no difference.
--- After going on nothing of a flow is due.
+-- A payload that is due at once is taken without being held: to hold it first makes no difference.
+-- After the flow has gone on, no held payload is due.
 use Rattle.std.proofs.Common.{◌≡◌, ℕ, zero, suc, ◌+◌, ◌^◌, ◌<◌, ◌≤◌, Bool, true, false, cond, nat_eq, nat_lt, nat_le, ◌&&◌, not, List, [], ◌∷◌, length, get_or, Option, Some, None, is_some, IfSome, refl, sym, ◌∙◌, ap, arith, add-one, inl, inr}
 use Rattle.std.specs.Option.{option_map}
 use Rattle.std.specs.List.{insert, remove}
@@ -46,7 +46,7 @@ least_by id next n p ps true (Some k) e own h = search (
 least_by id next n p ps false None e own h = tt
 least_by id next n p ps false (Some k) e own h = h
 
--- the first of what is later than a rank is later
+-- the first payload is later than a rank if all are
 least_later : (id next n : ℕ) (ps : List Payload) → AreLater id next n ps →
     IfSome (first id next ps) (λ i. n < rank next (get_or ps i no_payload).number)
 unfolding AreLater first
@@ -55,7 +55,7 @@ least_later id next n (p ∷ ps) h =
     least_by id next n p ps (nat_eq p.flow id) (first id next ps) refl h.0
     (least_later id next n ps h.1)
 
--- what is before all others is first
+-- a payload that is before all others is the first
 first_before : (id next : ℕ) (q : Payload) (ps : List Payload) → q.flow ≡ id →
     AreLater id next (rank next q.number) ps → first id next (q ∷ ps) ≡ Some 0
 unfolding first
@@ -85,7 +85,7 @@ first_put id next q (p ∷ ps) (suc i) own l h =
       | inr x ↦ rw (ne_eqb p.flow id x, e) refl
     ]
 
--- to hold what is due and go on is to take it and go on
+-- to hold a payload that is due and go on is to take it and go on
 pub gone_on_direct : (F : Reader) (f : Flow) (q : Payload) → q.flow ≡ f.id →
     AreLater f.id f.next (rank f.next q.number) f.held →
     ((is_some f.live) && is_to_come f.next q.number) ≡ false
@@ -111,7 +111,7 @@ gone_on_direct F f q own h due =
     (ap (λ (k : ℕ). drained_at_most F k g) n ∙ goes ∙ same
     ∙ ap (λ (k : ℕ). drained_at_most F k (taken F f q)) o)
 
--- nothing of its own is later than anything
+-- a flow that holds nothing holds only payloads that are later than any rank
 later_none : (id next n : ℕ) (ps : List Payload) → is_some (first id next ps) ≡ false →
     AreLater id next n ps
 unfolding AreLater
@@ -153,7 +153,7 @@ if_none (Some i) P k h = absurd (k i h)
 to_come_place : (next n : ℕ) → is_to_come next n ≡ true → 2 ^ 31 < rank next n
 to_come_place next n h = search (arith, nat_lt, and_parts, ltb-true)
 
--- the first is taken until it is not due
+-- after the first payload was taken while it was due, none is due
 flowing_ends : (F : Reader) (count : ℕ) (f : Flow) → length f.held ≤ count →
     IsEnded (drained_at_most F count f)
 unfolding drained_at_most IsEnded
@@ -182,7 +182,7 @@ flowing_ends F (suc count) f l =
           ] refl)
     ] refl
 
--- then nothing of the flow is due
+-- if no held payload is due, the flow is settled
 ended_settled : (f : Flow) → f.next < 2 ^ 32 → IsEnded f → IsSettled f
 unfolding IsEnded first_of is_due at
 ended_settled f small h = search (
@@ -203,7 +203,7 @@ either : (P : Flow → Type 0) (b : Bool) (f g : Flow) → P f → P g → P (co
 either P true f g p q = p
 either P false f g p q = q
 
--- after going on nothing of the flow is due
+-- after the flow has gone on, no held payload is due
 gone_on_ends : (F : Reader) (f : Flow) → IsEnded (gone_on F f)
 unfolding gone_on ended without_stale_fin drained IsEnded first_of is_due at
 gone_on_ends F f =
@@ -290,14 +290,14 @@ later_has id next number count (p ∷ ps) h = search (
   later_has id next number count ps h.1,
 )
 
--- what is due in a settled flow is before all that it holds
+-- a payload that is due in a settled flow is before all that it holds
 due_later : (f : Flow) (q : Payload) → f.next < 2 ^ 32 → IsSettled f →
     ((is_some f.live) ≡ true → q.number ≡ f.next) →
     AreLater f.id f.next (rank f.next q.number) f.held
 unfolding first_of
 due_later f q small t due = search (arith, cases_Bool, is_some, later_none)
 
--- a payload that is due at once: what it does, without holding it
+-- a payload that is due at once does the same without being held
 pub came_direct : (F : Reader) (f : Flow) (p q : Payload) → q ≡ left f.next (is_some f.live) p →
     p.flow ≡ f.id → f.next < 2 ^ 32 → IsSettled f → nat_eq (length q.octets) 0 ≡ false
     → ((is_some f.live) ≡ true → q.number ≡ f.next) →
@@ -316,7 +316,7 @@ came_direct F f p q e own small t some due now = search (
   gone_on_direct,
 )
 
--- of a flow that isn't in step and holds nothing: it is taken, and nothing more is held
+-- a flow that isn't in step and holds nothing takes the payload, and no more is held
 pub first_blocks : (F : Reader) (f : Flow) (p : Payload) → p.flow ≡ f.id → f.next < 2 ^ 32 →
     is_some f.live ≡ false → is_some (first_of f) ≡ false →
     blocks_of (payload_came F f p).held ≤ blocks_of f.held
@@ -336,7 +336,7 @@ first_blocks F f p own small dead none =
           )))
     ]
 
--- what is left of a payload and is not to come is due
+-- what is left of a payload is due if it isn't to come
 pub due_number : (next : ℕ) (live : Bool) (p q : Payload) → next < 2 ^ 32 → p.number < 2 ^ 32 →
     live ≡ true → q ≡ left next live p → is_to_come next q.number ≡ false → q.number ≡ next
 unfolding left
@@ -355,7 +355,7 @@ due_number next live p q small bound l e h = search (
   reached,
 )
 
--- ---- What is to come is held, and nothing is due.
+-- ---- A payload that is to come is held, and none is due.
 
 later_put : (id next n : ℕ) (ps : List Payload) (i : ℕ) (q : Payload) → AreLater id next n ps →
     n < rank next q.number → AreLater id next n (insert ps i q)
@@ -365,7 +365,7 @@ later_put id next n [] (suc i) q h l = ((λ o. l), tt)
 later_put id next n (p ∷ ps) zero q h l = ((λ o. l), h)
 later_put id next n (p ∷ ps) (suc i) q h l = (h.0, later_put id next n ps i q h.1 l)
 
--- a payload to come is held, and going on takes nothing
+-- a payload that is to come is held, and then nothing is taken
 pub gone_on_held : (F : Reader) (f : Flow) (q : Payload) → IsSettled f → is_some f.live ≡ true →
     is_to_come f.next q.number ≡ true
     → without_stale_fin (ended F (holding f q)) ≡ gone_on F (holding f q)
@@ -386,7 +386,7 @@ gone_on_held F f q t live come =
     ] refl least in
     ap (λ (d : Flow). without_stale_fin (ended F d)) (sym stays)
 
--- where neither a payload nor a FIN is kept, a flow goes on as it is
+-- a flow that keeps neither a payload nor a FIN goes on unchanged
 not_reached : (next : ℕ) (live : Bool) (fin : Option ℕ) → fin ≡ None →
     fin_is_reached next live fin ≡ false
 unfolding fin_is_reached

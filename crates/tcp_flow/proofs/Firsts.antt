@@ -1,4 +1,4 @@
--- Which of the payloads that a flow holds is first, as the number that is due moves on.
+-- Which payload that a flow holds is the first one, as the number that is due moves on.
 use Rattle.std.proofs.Common.{◌≡◌, ℕ, zero, suc, ◌^◌, ◌<◌, ◌≤◌, Bool, true, false, cond, nat_eq, nat_lt, ◌||◌, List, [], ◌∷◌, length, get_or, Option, Some, None, is_some, IfSome, refl, sym, subst, arith, inl, inr}
 use Rattle.std.specs.Option.{option_map}
 use Rattle.std.proofs.lemmas.Bool.{cases_lt, and_parts, ltb-true, lt-ltb, le-ltb, true≢false, eqb-false, cases_Bool}
@@ -28,7 +28,7 @@ pub first_some : (id next : ℕ) (p : Payload) (ps : List Payload) →
 unfolding first
 first_some id next p ps = search (arith, some_by, nat_eq)
 
--- a number below the first's is below all
+-- a rank below that of the first is below those of all
 later_by : (id next n : ℕ) (p : Payload) (ps : List Payload) (c : Bool) (r : Option ℕ) →
     nat_eq p.flow id ≡ c → first id next ps ≡ r
     → (IfSome (first id next ps) (λ i. n < rank next (get_or ps i no_payload).number) →
@@ -77,7 +77,7 @@ later_at id next n [] i h l own = absurd (omega (arith, l))
 later_at id next n (p ∷ ps) zero h l own = h.0 own
 later_at id next n (p ∷ ps) (suc i) h l own = later_at id next n ps i h.1 (omega (arith, l)) own
 
--- the first is as old as any
+-- no payload is older than the first one
 pub first_least : (id next : ℕ) (ps : List Payload) (i j : ℕ) → first id next ps ≡ Some j →
     i < length ps → (get_or ps i no_payload).flow ≡ id →
     rank next (get_or ps j no_payload).number ≤ rank next (get_or ps i no_payload).number
@@ -91,7 +91,7 @@ first_least id next ps i j e l own =
       | inr same ↦ same
     ]
 
--- a flow holds something whichever number is due
+-- whether a flow holds something doesn't depend on the number that is due
 pub first_anywhere : (id a b : ℕ) (ps : List Payload) →
     is_some (first id a ps) ≡ is_some (first id b ps)
 unfolding first
@@ -104,7 +104,7 @@ come_late next n h = search (arith, and_parts, nat_lt, ltb-true)
 pub come_by_rank : (next n : ℕ) → 2 ^ 31 < rank next n → is_to_come next n ≡ true
 come_by_rank next n h = search (arith, lt-ltb)
 
--- where one payload of a flow isn't to come, the first isn't
+-- if a payload of a flow isn't to come, the first one isn't
 pub first_reached : (id next : ℕ) (ps : List Payload) (i j : ℕ) →
     is_to_come next (get_or ps i no_payload).number ≡ false → i < length ps →
     (get_or ps i no_payload).flow ≡ id → first id next ps ≡ Some j →

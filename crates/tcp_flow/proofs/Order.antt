@@ -47,7 +47,7 @@ unfolding StandsIn
 members P [] k = tt
 members P (d ∷ ds) k = (k d (inl refl), members P ds (λ c s. k c (inr s)))
 
--- one of the payloads has the octets from a place to another
+-- one of the payloads has the octets from a place up to another
 record IsSpan (start : ℕ) (content : List ℕ) (ps : List Arrival) (place end : ℕ) : Type 0 where
   pub number : ℕ
   pub octets : List ℕ
@@ -145,7 +145,7 @@ not_beyond x U L g so t small l (inr (inr a)) = search (
   place_later,
 )
 
--- what a run of them has delivered: the octets up to the first place that none spans
+-- what the payloads have delivered: the octets up to the first place that none of them spans
 record IsReached (start at : ℕ) (content front : List ℕ) (ps : List Arrival) (octets : List ℕ) :
     Type 0 where
   pub r : ℕ

@@ -1,5 +1,4 @@
--- Flows side by side: a step of one leaves what the others hold, and so leaves them settled and
--- without a hole.
+-- Several flows: a step of one leaves what the others hold, so they stay settled and without gaps.
 use Rattle.std.proofs.Common.{◌≡◌, ℕ, zero, suc, ◌+◌, ◌<◌, ◌≤◌, ◌^◌, Bool, true, false, cond, nat_eq, ◌&&◌, ◌||◌, List, [], ◌∷◌, length, get_or, Some, is_some, refl, sym, ◌∙◌, ap, subst, arith}
 use Rattle.std.specs.List.{insert, remove}
 use Rattle.std.proofs.lemmas.Bool.{or_parts, eq-eqb, ne_eqb, eqb-true}
@@ -11,7 +10,7 @@ use Rattle.tcp_flow.proofs.Preserving.{Keeps, gone_on_keeps, gap_keeps, window_k
 use Rattle.tcp_flow.proofs.Room.{Holds, held_keeps, left_flow}
 use Rattle.tcp_flow.proofs.Firsts.{first_some}
 
--- a payload of the flow falls away
+-- after a payload of the flow was removed
 pub others_keep : (id : ℕ) (ps : List Payload) (i : ℕ) → i < length ps →
     (get_or ps i no_payload).flow ≡ id →
     held_by_others id (remove ps i) ≡ held_by_others id ps
@@ -26,7 +25,7 @@ others_keep id (p ∷ ps) (suc i) h own = search (
       (arith, h)) own,
 )
 
--- the flow holds nothing: all is others'
+-- if the flow holds nothing, all is held by others
 pub others_all : (id next : ℕ) (ps : List Payload) → is_some (first id next ps) ≡ false →
     held_by_others id ps ≡ ps
 unfolding held_by_others
@@ -43,13 +42,13 @@ unfolding blocks_of
 either_less true ps qs p h = omega (arith, h)
 either_less false ps qs p h = omega (arith, h)
 
--- they take no more blocks
+-- what others hold takes no more blocks
 pub others_blocks : (id : ℕ) (ps : List Payload) → blocks_of (held_by_others id ps) ≤ blocks_of ps
 unfolding held_by_others
 others_blocks id [] = omega arith
 others_blocks id (p ∷ ps) = search (arith, either_less, nat_eq, others_blocks id ps)
 
--- a payload of the flow comes
+-- after a payload of the flow came
 others_put : (id : ℕ) (ps : List Payload) (i : ℕ) (q : Payload) → q.flow ≡ id →
     held_by_others id (insert ps i q) ≡ held_by_others id ps
 unfolding held_by_others
@@ -125,14 +124,14 @@ unfolding held_by_others
 others_twice_by id p qs true e h = h
 others_twice_by id p qs false e h = search (arith)
 
--- so does what falls away
+-- to leave out the flow's payloads twice is to do it once
 pub others_twice : (id : ℕ) (ps : List Payload) →
     held_by_others id (held_by_others id ps) ≡ held_by_others id ps
 unfolding held_by_others
 others_twice id [] = refl
 others_twice id (p ∷ ps) = search (arith, others_twice_by, nat_eq, others_twice id ps)
 
--- another flow's first is among what the others hold
+-- the first payload of another flow is among those that others hold
 first_beside_by : (a b next : ℕ) (p : Payload) (ps : List Payload) (here : Bool) → (a ≡ b → ⊥) →
     nat_eq p.flow a ≡ here
     → is_some (first b next (held_by_others a ps)) ≡ is_some (first b next ps) →
@@ -189,7 +188,7 @@ all_later a b next least (p ∷ ps) apart t =
     all_later_by a b next least p ps (nat_eq p.flow a) apart refl
     (all_later a b next least ps apart) t
 
--- what another flow does leaves a flow settled
+-- a flow stays settled, whatever another flow does
 pub settled_beside : (a : ℕ) (f : Flow) (held : List Payload) → (a ≡ f.id → ⊥) →
     held_by_others a held ≡ held_by_others a f.held → IsSettled f →
     IsSettled (record f { held = held })

@@ -11,7 +11,7 @@ ahead_up s r i l m = omega (arith, l, m)
 ahead_down : (s r i : ℕ) → i < r → r < 2 ^ 31 → ahead (onward s r) (onward s i) ≡ 2 ^ 32 - (r - i)
 ahead_down s r i l m = omega (arith, l, m)
 
--- what is not to come stands at the place that is due, or before it
+-- an octet that isn't to come is at the place that is due, or before it
 pub place_due : (s r i : ℕ) → r < 2 ^ 31 → i < 2 ^ 31 →
     is_to_come (onward s r) (onward s i) ≡ false → i ≤ r
 place_due s r i l m e = search (arith, cases_lt, ahead_up, and_cases, nat_lt, ltb-false)
@@ -32,7 +32,7 @@ pub place_later : (s r i : ℕ) → r < 2 ^ 31 → i < 2 ^ 31 → 2 ^ 31 < rank 
     r < i
 place_later s r i l m h = search (arith, cases_lt, ahead_down, ahead_up)
 
--- the octets after the first so many
+-- the octets of a payload without its first `k`
 pub drop_content : (place k : ℕ) (octets content : List ℕ) → k ≤ length octets →
     octets ≡ take (length octets) (drop place content)
     → drop k octets ≡ take (length octets - k) (drop (place + k) content)
@@ -42,7 +42,7 @@ drop_content place k octets content l e =
     ∙ drop-take k (length octets - k) (drop place content)
     ∙ ap (take (length octets - k)) (drop-drop k place content)
 
--- what was delivered, and then the octets from there on
+-- what was delivered, and then the octets that follow it
 pub goes_on : (at r place : ℕ) (octets content : List ℕ) → at ≤ r → place ≤ r →
     r ≤ place + length octets → octets ≡ take (length octets) (drop place content)
     → take (r - at) (drop at content) ++ drop (r - place) octets

@@ -1,4 +1,4 @@
--- What taking, closing and a FIN keep, a flow keeps whatever comes.
+-- A flow keeps what taking a payload, closing and a FIN keep, whatever comes.
 use Rattle.tcp_waiting.specs.Payload.{is_far}
 use Rattle.std.proofs.Common.{arith, ◌≡◌, ℕ, zero, suc, Bool, true, false, cond, Option, Some, None, is_some, refl, true≢false}
 use Rattle.std.proofs.lemmas.Bool.{cases_Bool}
@@ -62,7 +62,7 @@ pub gone_on_keeps : (F : Reader) (P : Flow → Type 0) → Keeps F P → (f : Fl
 unfolding gone_on
 gone_on_keeps F P k f p = search (arith, rest_keeps, drained_keeps)
 
--- octets are passed over only where a stream is live
+-- octets are passed over only if a stream is live
 pub passing_lives : (F : Reader) (f : Flow) (count : ℕ) → passed_over F f ≡ Some count →
     lives f.live f.waits ≡ true
 unfolding passed_over

@@ -1,4 +1,4 @@
--- What a step of a flow takes of the pool's blocks, and that its gaps end.
+-- How many blocks of the pool a step of a flow takes, and that its gaps end.
 use Rattle.std.proofs.Common.{◌≡◌, ℕ, zero, suc, ◌+◌, ◌-◌, ◌/◌, ◌<◌, ◌≤◌, Bool, true, false, cond, nat_eq, nat_lt, ◌&&◌, ◌||◌, not, List, [], ◌∷◌, length, get_or, Option, Some, None, is_some, refl, sym, ◌∙◌, ap, subst, arith, length-drop, inl, inr, unwrap_or, ◌^◌}
 use Rattle.tcp_waiting.proofs.Queries.{blocks_insert}
 use Rattle.std.specs.List.{remove}
@@ -22,7 +22,7 @@ same : {X : Type 0} (get : Flow → X) (b : Bool) (f g : Flow) (x : X) → get f
 same get true f g x e d = e
 same get false f g x e d = d
 
--- taking leaves the id and what is held
+-- taking a payload keeps the id and what is held
 pub record Stays (f g : Flow) : Type 0 where
   pub held : g.held ≡ f.held
   pub id : g.id ≡ f.id
@@ -41,7 +41,7 @@ unfolding delivered with_event
 delivered_stays F f p =
     stays_checked f (handed f p) (F.faulted (handed f p).events) (record { held = refl; id = refl })
 
--- a step after others
+-- one step after another
 stays_on : (f g h : Flow) → Stays f g → Stays g h → Stays f h
 stays_on f g h s t = record { held = t.held ∙ s.held; id = t.id ∙ s.id }
 
@@ -85,7 +85,7 @@ awaiting_stays : (f : Flow) (count : ℕ) → Stays f (awaiting f count)
 awaiting_stays f count = let s : Stays f (closed f Gap) = closed_stays f Gap in
     record { held = s.held; id = s.id }
 
--- what removing own payloads keeps, a flow keeps
+-- a flow has what removing its own payloads keeps
 pub record Holds (P : ℕ → List Payload → Type 0) (id : ℕ) (f : Flow) : Type 0 where
   pub own : f.id ≡ id
   pub held : P id f.held
@@ -151,7 +151,7 @@ closed_next f cause =
     same (λ (g : Flow). g.next) (lives f.live f.waits) (stopped f f.next cause) (out_of_step f)
     f.next refl refl
 
--- a flow takes one at least, if the first is due
+-- a flow takes at least one payload, if the first is due
 due_shrinks : (F : Reader) (c : Flow) (i m : ℕ) → is_due c i ≡ true → first_of c ≡ Some i →
     length c.held ≤ suc m → Holds (AtMost m) c.id (drained F c)
 unfolding drained AtMost first_of
@@ -170,7 +170,7 @@ due_shrinks F c i m due e l =
     subst (λ (x : ℕ). Holds (AtMost m) c.id (drained_at_most F x c)) (sym n)
     (subst (Holds (AtMost m) c.id) (sym goes) on)
 
--- a flow that isn't in step takes one at least
+-- a flow that isn't in step takes at least one payload
 dead_shrinks : (F : Reader) (f : Flow) (m : ℕ) → is_some (first_of f) ≡ true →
     length f.held ≤ suc m → Holds (AtMost m) f.id (drained F (closed f Gap))
 unfolding first_of
@@ -184,7 +184,7 @@ dead_shrinks F f m some l =
     (due_shrinks F c i.0 m (due_now c i.0 (closed_dead f Gap)) e
     (omega (arith, l, ap length s.held)))
 
--- what a gap passes over reaches the first that is held
+-- a gap passes over no more than up to the first payload that is held
 reaches : (next number : ℕ) (o : Option ℕ) (count : ℕ) → passing next number o ≡ Some count →
     is_to_come (onward next count) number ≡ false
 unfolding passing
@@ -201,7 +201,7 @@ reaches next number (Some n) count e =
       | inr z ↦ absurd (true≢false (sym (ap is_some (sym (cond-false past (Some n) None z) ∙ e))))
     ]
 
--- what is passed over is by the first that is held
+-- what is passed over depends on the first payload that is held
 over_by : (F : Reader) (f : Flow) (i count : ℕ) → first f.id f.next f.held ≡ Some i →
     passed_over F f ≡ Some count →
     passing f.next (get_or f.held i no_payload).number (F.lacking f.events f.id) ≡ Some count
@@ -212,7 +212,7 @@ over_by F f i count e over =
       | inr z ↦ absurd (true≢false (sym (ap is_some (rw z at over))))
     ]
 
--- a flow that waits takes one at least, since the first that it holds is no more to come
+-- a flow that waits takes at least one payload, since its first one is no longer to come
 waiting_shrinks : (F : Reader) (f : Flow) (count m : ℕ) → passed_over F f ≡ Some count →
     is_some (first_of f) ≡ true → length f.held ≤ suc m →
     Holds (AtMost m) f.id (drained F (awaiting f count))
@@ -240,7 +240,7 @@ waiting_shrinks F f count m over some l =
     subst (λ (n : ℕ). Holds (AtMost m) n (drained F c)) s.id
     (due_shrinks F c j.0 m now e (omega (arith, l, ap length s.held)))
 
--- so a gap does
+-- after a gap a flow holds at least one payload less
 gap_shrinks : (F : Reader) (f : Flow) (m : ℕ) → is_some (first_of f) ≡ true →
     length f.held ≤ suc m → length (gap F f).held ≤ m
 unfolding gap gone_on parted AtMost
@@ -331,7 +331,7 @@ came_blocks F f p =
     (window_keeps F (Holds (InBlocks most) f.id) k (length f.held + 1) (gone_on F h)
     (gone_on_keeps F (Holds (InBlocks most) f.id) k h start)).held
 
--- going on, and gaps after it, take no more
+-- going on, and the gaps after it, take no more blocks
 pub window_blocks : (F : Reader) (count : ℕ) (f : Flow) →
     blocks_of (within_window F count (gone_on F f)).held ≤ blocks_of f.held
 unfolding InBlocks
@@ -342,7 +342,7 @@ window_blocks F count f =
     (gone_on_keeps F (Holds (InBlocks (blocks_of f.held)) f.id) k f
     (record { own = refl; held = omega arith }))).held
 
--- no other payload comes: no more blocks
+-- if no payload comes, no more blocks are taken
 pub fin_blocks : (F : Reader) (f : Flow) (n : ℕ) →
     blocks_of (fin_came F f n).held ≤ blocks_of f.held
 unfolding fin_came InBlocks
@@ -372,7 +372,7 @@ unfolding is_lost
 lost_holds_by h f None e t = absurd (true≢false (sym t ∙ rw (e, is_lost) refl))
 lost_holds_by h f (Some i) e t = ap is_some e
 
--- what is lost is missing in front of something
+-- what is lost is missing before something that is held
 lost_holds : (h : Heard) (f : Flow) → is_lost h f ≡ true → is_some (first_of f) ≡ true
 lost_holds h f t = lost_holds_by h f (first_of f) refl t
 
@@ -385,7 +385,7 @@ none_lost h f (Some i) e n = absurd (true≢false (sym (ap is_some e) ∙ n))
 abbrev IsOver : Heard → Flow → Type 0
 IsOver h g = is_lost h g ≡ false
 
--- the gaps by what a packet says end
+-- the gaps that a packet causes end
 pub heard_ends : (F : Reader) (count : ℕ) (h : Heard) (f : Flow) → length f.held ≤ count →
     is_lost h (heard F count h f) ≡ false
 unfolding heard

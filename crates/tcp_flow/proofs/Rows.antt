@@ -1,11 +1,11 @@
--- Worked cases of a flow, by computation.
+-- Worked cases of a flow, computed.
 use Rattle.std.proofs.Common.{◌≡◌, ℕ, Bool, false, cond, nat_eq, List, [], ◌∷◌, ◌++◌, Option, Some, None, true, refl}
 use Rattle.tcp_flow.specs.declared.flow.CloseCause.TheVariants.{Fin, Gap, Fault}
 use Rattle.tcp_waiting.specs.declared.arrival.Arrival as origin
 use Rattle.tcp_waiting.specs.Payload.{earlier, first, is_far, has_as_much, place_of}
 use Rattle.tcp_flow.specs.Flow.{Event, Reader, Begins, Delivers, Closes, OfCapture, ComesFrom, Passes, Arrival, Octets, End, Hears, header_at, chain_from, stream_at, left, with_event, checked, delivered, cut_up, tail_before, begun, all_delivered, rejoined, looked_through, told_from, taken, first_of, at, is_due, drained_at_most, drained, fin_is_reached, closed, without_stale_fin, ended, gone_on, passing, passed_over, parted, gap, within_window, holding, payload_came, fin_came, is_lost, heard, step, after, first_payload}
 
--- the reader is at a fault at its 7th octet where what it was handed last begins with an octet 255
+-- the reader is at a fault at its 7th octet, if the last octets that it was given begin with 255
 unfoldable is_bad : Event → Option ℕ
 is_bad (Delivers id (x ∷ xs)) = cond (nat_eq x 255) (Some 7) None
 is_bad h = None
@@ -21,11 +21,11 @@ reader = record { faulted = any_bad; lacking = λ hs id. None }
 unfoldable header : List ℕ
 header = 71 ∷ 73 ∷ 79 ∷ 80 ∷ 1 ∷ 0 ∷ []
 
--- one without octets after its header
+-- a message without octets after its header
 unfoldable message : List ℕ
 message = 71 ∷ 73 ∷ 79 ∷ 80 ∷ 1 ∷ 0 ∷ 0 ∷ 5 ∷ 0 ∷ 0 ∷ 0 ∷ 0 ∷ []
 
--- a packet of a number, and a payload in the packet of its own number
+-- a packet with a number, and a payload in the packet of its own number
 unfoldable packet : ℕ → origin.Arrival
 packet n = record { time = None; packet = n }
 
@@ -36,8 +36,8 @@ octets n xs = Octets n xs (packet n)
 unfoldable acknowledged : ℕ → Arrival
 acknowledged n = Hears (record { acknowledged = Some n; answers = false; arrival = packet n })
 
--- so many nanoseconds after 1970 an octet that is missing in front comes, and then a packet that
--- acknowledges as much as it says, with octets or without
+-- at a time in nanoseconds, a payload comes before which octets are missing, and then a packet that
+-- acknowledges a number or none, with octets or without
 unfoldable held_at : ℕ → Arrival
 held_at time = Octets 1010 header (record { time = Some time; packet = 1 })
 
@@ -51,25 +51,25 @@ heard_at number answers time = Hears (record {
 unfoldable events : List Arrival → ℕ → List Event
 events cs n = (after reader (first_payload reader 7 n header (packet n) [] []) cs).events
 
--- where the message that a stream is in lacks four octets
+-- the message that a stream is in lacks four octets
 unfoldable knowing : Reader
 knowing = record { faulted = any_bad; lacking = λ hs id. Some 4 }
 
 unfoldable events_known : List Arrival → List Event
 events_known cs = (after knowing (first_payload knowing 7 1000 header (packet 1) [] []) cs).events
 
--- what happens by a first payload of these octets, at 1000, and what comes after it
+-- what happens if the first payload has these octets, at 1000, and then this comes
 unfoldable events_from : List ℕ → List Arrival → List Event
 events_from xs cs = (after reader (first_payload reader 7 1000 xs (packet 1000) [] []) cs).events
 
--- the beginning of a stream at a number, behind so many octets that are in none
+-- a stream begins at a number, and `passed` octets before it are in no stream
 unfoldable begins_at : ℕ → ℕ → Bool → Event
 begins_at n passed found = Begins 7 (record { number = n; passed = passed; is_found = found })
 
 unfoldable first_begins : Event
 first_begins = begins_at 1000 0 false
 
--- without what is told of packets and of octets in vain
+-- without what is told of packets and of octets that were looked through in vain
 unfoldable in_flows : List Event → List Event
 in_flows [] = []
 in_flows (OfCapture e ∷ es) = in_flows es

@@ -1,4 +1,4 @@
--- What is shown of the state that the code has, is shown of the flow.
+-- What is shown of the code's state is shown of the flow.
 use Rattle.std.proofs.Common.{arith, ◌≡◌, ◌<◌, ◌^◌, [], ℕ, List, Bool, true, false, cond, is_some, Option, Some, None, refl, sym}
 use Rattle.std.specs.Prelude.{Result, OnOk}
 use Rattle.std.proofs.lemmas.Result.{on_ok_weaker}
@@ -9,13 +9,13 @@ use Rattle.tcp_flow.specs.Flow.{Flow, Event, Reader, stopped, checked, number_af
 use Rattle.tcp_flow.specs.Laws.{IsSettled}
 use Rattle.tcp_flow.specs.State.{state, IsState}
 
--- a claim of a flow that the code has follows from the claim of what the code has
+-- a claim about a flow follows from the claim about the code's state of it
 pub by_state : (P : Flow → Type 0) (O : List Event → Type 0) (s : FlowState) (held : List Payload)
     (f : Flow) → IsState O s held f
     → ((events : List Event) → O events → P (state s held events)) → P f
 by_state P O s held f h k = search (arith)
 
--- a call went on from the flow to an equal one
+-- a call that went on with a flow went on with an equal one
 pub on_ok_equal : {T E : Type 0} (r : Result T E) (O : List Event → Type 0) (s : FlowState)
     (held : List Payload) (f g : Flow) → f ≡ g → OnOk r (IsState O s held f) →
     OnOk r (IsState O s held g)
@@ -53,13 +53,13 @@ pub stale_state : (O : List Event → Type 0) (s s' : FlowState) (held : List Pa
     IsState O s' held (without_stale_fin f)
 stale_state O s s' held f h k = search (arith, by_state, stale_events)
 
--- whether a flow is settled has nothing to do with what has happened
+-- whether a flow is settled doesn't depend on what has happened
 pub settled_whatever : (s : FlowState) (held : List Payload) (before behind : List Event) →
     IsSettled (state s held before) → IsSettled (state s held behind)
 unfolding first_of
 settled_whatever s held before behind t = search (arith)
 
--- what is settled by the flow is by the code's state
+-- if the flow is settled, so is the code's state
 pub settled_state : (O : List Event → Type 0) (s : FlowState) (held : List Payload) (f : Flow) →
     IsState O s held f → IsSettled f → IsSettled (state s held [])
 settled_state O s held f h t = search (arith, settled_whatever)
@@ -76,14 +76,14 @@ pub next_of : (O : List Event → Type 0) (s : FlowState) (held : List Payload) 
     IsState O s held f → s.next < 2 ^ 32 → f.next < 2 ^ 32
 next_of O s held f h l = search (arith)
 
--- what others hold is the same, by the flow and so by the code's states
+-- what others hold is the same in the code's states if it is the same in the flows
 pub others_of : (O O' : List Event → Type 0) (s s' : FlowState) (held held' : List Payload)
     (f g : Flow) → IsState O s held f → IsState O' s' held' g
     → held_by_others f.id g.held ≡ held_by_others f.id f.held →
     held_by_others s.id held' ≡ held_by_others s.id held
 others_of O O' s s' held held' f g h n e = search (arith, held_of)
 
--- a flow parts by what it passes over
+-- the same if the numbers of octets that are passed over are equal
 pub parted_on : (O : List Event → Type 0) (s : FlowState) (held : List Payload) (f : Flow)
     (passed over : Option ℕ) → passed ≡ over → IsState O s held (parted f passed) →
     IsState O s held (parted f over)

@@ -1,4 +1,4 @@
--- The definitions of a flow, a case at a time.
+-- The definitions of a flow, case by case.
 use Rattle.std.proofs.Common.{◌≡◌, ℕ, zero, suc, ◌+◌, ◌-◌, ◌<◌, ◌≤◌, true, false, nat_eq, ◌||◌, List, [], ◌∷◌, length, get_or, Some, None, is_some, refl, sym, ◌∙◌, ap, arith}
 use Rattle.std.specs.List.{remove}
 use Rattle.std.proofs.lemmas.Bool.{cond-true, cond-false, and_left, and_right, and_from}
@@ -25,7 +25,7 @@ pub taken_dead : (F : Reader) (f : Flow) (p q : Payload) → q ≡ left f.next (
 unfolding taken
 taken_dead F f p q e z l = search (arith, cond-false, is_some)
 
--- a payload is taken while it is due
+-- no held payload is taken if there is none
 pub flowing_none : (F : Reader) (count : ℕ) (f : Flow) → first_of f ≡ None →
     drained_at_most F count f ≡ f
 unfolding drained_at_most
@@ -80,7 +80,7 @@ pub due_not : (f : Flow) (i : ℕ) → (is_some f.live) ≡ true →
 unfolding is_due
 due_not f i l e = search (arith, and_from, is_some)
 
--- gaps while too much is held
+-- no gaps if no held payload ends too far
 pub window_stops : (F : Reader) (count : ℕ) (f : Flow) → is_far f.id f.next f.held ≡ false →
     within_window F count f ≡ f
 unfolding within_window
@@ -99,7 +99,7 @@ unfolding within_window
 window_none F zero f h = refl
 window_none F (suc count) f h = absurd (omega (arith, h))
 
--- gaps by what a packet says
+-- no gaps if the packet says that nothing is lost
 pub heard_stops : (F : Reader) (count : ℕ) (h : Heard) (f : Flow) → is_lost h f ≡ false →
     heard F count h f ≡ f
 unfolding heard
@@ -117,7 +117,7 @@ unfolding heard
 heard_none F zero h f l = refl
 heard_none F (suc count) h f l = absurd (omega (arith, l))
 
--- a payload comes
+-- a payload comes that adds nothing
 pub came_nothing : (F : Reader) (f : Flow) (p q : Payload) → q ≡ left f.next (is_some f.live) p →
     (nat_eq (length q.octets) 0 || has_as_much f.id q.number (length q.octets) f.held) ≡ true →
     payload_came F f p ≡ f

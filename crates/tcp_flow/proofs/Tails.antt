@@ -1,4 +1,4 @@
--- Octets that are looked through: what each way of going on keeps, and the tail of a flow.
+-- Octets that are looked through: what each step keeps, and the tail of a flow.
 use Rattle.std.proofs.Common.{◌≡◌, ℕ, ◌+◌, ◌^◌, ◌<◌, ◌≤◌, Bool, true, false, cond, nat_eq, nat_lt, min, List, [], ◌∷◌, ◌++◌, length, take, drop, set, get_or, Option, Some, None, is_some, unwrap_or, refl, sym, ◌∙◌, ap, subst, arith, inl, inr, true≢false, length-append, length-set}
 use Rattle.std.proofs.lemmas.Bool.{cases_Bool, cases_lt, lt-ltb, le-ltb, cond-true, cond-false, and_parts, eqb-true}
 use Rattle.std.proofs.lemmas.List.{drop-drop, drop-take, length-take, length-take-le, take_all, length-drop, take_more_set}
@@ -10,7 +10,7 @@ use Rattle.tcp_flow.specs.declared.tail.Tail.{Tail}
 use Rattle.tcp_flow.specs.Flow.{Flow, Reader, Passes, OfCapture, lives, with_event, checked, delivered, started, begun, all_delivered, rejoined, looked_through, stream_at, is_front, is_beginning, first_five, cut_up, octets_of, parts_of, tail_of, lengthened, goes_on, tail_before}
 use Rattle.tcp_flow.specs.Laws.{StandFrom, total, IsTailOf}
 
--- ---- What the single steps keep.
+-- ---- What single steps keep.
 
 pub all_delivered_by : (F : Reader) (I : Flow → Type 0) → ((g : Flow) (p : Payload) → I g →
     I (delivered F g p))
@@ -24,7 +24,7 @@ all_delivered_by F I k f a (xs ∷ xss) i =
       | false ↦ i
     ]
 
--- what a flow does in vain, in octets that are looked through
+-- a flow after octets were looked through in vain, with the tail that it then has
 abbrev pub in_vain : Flow → Option Tail → List ℕ → Flow
 in_vain f t xs = with_event (record f { tail = t }) (OfCapture (Passes xs))
 
@@ -67,7 +67,7 @@ front_by (u ∷ v ∷ w ∷ x ∷ []) a b c d e l = rw (a, b, c, d) refl
 front_by (u ∷ v ∷ w ∷ x ∷ y ∷ []) a b c d e l = rw (a, b, c, d, e) refl
 front_by (u ∷ v ∷ w ∷ x ∷ y ∷ z ∷ zs) a b c d e l = absurd (omega (arith, l))
 
--- octets that are as the six are, and five at most, are the first of them
+-- octets that begin as the six octets do, and are at most five, are the first of them
 pub front_is : (ys : List ℕ) → is_front ys ≡ true → length ys ≤ 5 →
     ys ≡ take (length ys) first_five
 front_is ys h l = search (arith, get_or, front_by)
@@ -80,7 +80,7 @@ unfolding total
 total_more [] k = omega arith
 total_more (n ∷ ns) k = omega (arith, total_more ns k)
 
--- one part more
+-- after one more part
 pub cut_more : (xs ns : List ℕ) (k : ℕ) →
     cut_up xs (ns ++ k ∷ []) ≡ cut_up xs ns ++ take k (drop (total ns) xs) ∷ []
 unfolding cut_up total
@@ -122,7 +122,7 @@ pub all_live : (F : Reader) (f : Flow) (a : origin.Arrival) (xs : List ℕ) (xss
 unfolding all_delivered
 all_live F f a xs xss e = search (arith, cond-true)
 
--- parts of these lengths, of which the first is so long
+-- parts of these lengths, the first one by itself
 pub cut_first : (xs ks : List ℕ) → nat_eq (length ks) 0 ≡ false →
     cut_up xs ks ≡ take (get_or ks 0 0) xs ∷ cut_up (drop (get_or ks 0 0) xs) (drop 1 ks)
 unfolding cut_up
@@ -146,7 +146,7 @@ all_more F f a (xs ∷ xss) yss =
 pub taken_up : (a m : ℕ) (xs : List ℕ) → m ≡ min a (length xs) → take m xs ≡ take a xs
 taken_up a m xs e = search (arith, cases_lt, take, take-length, take_all)
 
--- a tail goes on
+-- the tail that octets go on from
 pub before_some : (o : Option Tail) (t : Tail) (n : ℕ) (xs : List ℕ) → o ≡ Some t →
     goes_on t n xs ≡ true → tail_before o n xs ≡ Some t
 unfolding tail_before
@@ -180,7 +180,8 @@ before_is (Some u) t n xs e = search (
   cond-false,
 )
 
--- the octets of a tail and of what goes on it are first octets of the six, while they are fewer
+-- a tail and the octets that go on from it are the first of the six octets, if there are at most
+-- five
 pub together : (t : Tail) (n : ℕ) (xs : List ℕ) → goes_on t n xs ≡ true →
     t.octets + length xs ≤ 5 → octets_of t ++ xs ≡ take (t.octets + length xs) first_five
 together t n xs g l =
@@ -191,7 +192,7 @@ together t n xs g l =
     front_is (octets_of t ++ xs) front (omega (arith, long, l))
     ∙ ap (λ (k : ℕ). take k first_five) long
 
--- ---- What comes of octets that are looked through alone.
+-- ---- Octets that are looked through alone.
 
 abbrev vain_tail : Flow → Payload → Bool → Option Tail
 vain_tail f p b = cond b (Some (tail_of p.number (length p.octets))) f.tail
@@ -208,7 +209,7 @@ pub looked_begun : (F : Reader) (f : Flow) (p : Payload) (o : Option Tail) (i : 
 unfolding looked_through begun
 looked_begun F f p o i e n = search (arith)
 
--- ---- What comes of octets that go on a tail.
+-- ---- Octets that go on from a tail.
 
 pub rejoined_begun : (F : Reader) (f : Flow) (p : Payload) (t : Tail) →
     nat_lt (t.octets + length p.octets) 6 ≡ false → rejoined F f p t
@@ -229,7 +230,7 @@ pub last_live : (F : Reader) (f : Flow) (a : origin.Arrival) (xs : List ℕ) →
 unfolding all_delivered
 last_live F f a xs e = all_live F f a xs [] e
 
--- ---- What is so of each payload, of which the flow's tail is.
+-- ---- What is true of each payload of a flow's tail.
 
 parts_new : (xs : List ℕ) → is_beginning xs ≡ true →
     (length xs ≤ 5) × (xs ≡ take (length xs) first_five)
@@ -291,12 +292,12 @@ tail_longer P t n xs h g l p =
           (sym (cond-false (nat_lt t.count 5) more t (le-ltb t.count 5 many))) h
     ]
 
--- so it is of a tail and of what goes on it
+-- P is true of the payloads of a tail and of the one that goes on from it
 together_stand : (P : ℕ → List ℕ → Type 0) (t : Tail) (n : ℕ) (xs : List ℕ) → IsTailOf P t →
     goes_on t n xs ≡ true → P n xs → StandFrom P t.number (parts_of t ++ xs ∷ [])
 together_stand P t n xs h g p = search (arith, eqb-true, and_parts, nat_eq, stand_more, take)
 
--- the octets of another relation
+-- another relation that follows
 stand_map : (P Q : ℕ → List ℕ → Type 0) (n : ℕ) (xss : List (List ℕ)) →
     ((m : ℕ) (xs : List ℕ) → P m xs → Q m xs) → StandFrom P n xss → StandFrom Q n xss
 unfolding StandFrom
@@ -326,7 +327,7 @@ pub delivered_id : (F : Reader) (f : Flow) (p : Payload) → (delivered F f p).i
 unfolding delivered with_event
 delivered_id F f p = search (arith, checked_id)
 
--- what a flow keeps whose tail is so of each payload, where it is so of those that it takes
+-- what a flow keeps, if P is true of each payload of its tail and of those that it takes
 pub record Looks (F : Reader) (P : ℕ → List ℕ → Type 0) (I : Flow → Type 0) : Type 0 where
   pub delivers : (g : Flow) (p : Payload) → I g → lives g.live g.waits ≡ true → p.number ≡ g.next →
       P p.number p.octets → I (delivered F g p)

@@ -1,4 +1,5 @@
--- What each event of a flow keeps of all that has happened, the flow keeps whatever comes.
+-- If each event of a flow keeps something of all that has happened, the flow keeps it whatever
+-- comes.
 use Rattle.std.proofs.Common.{arith, ◌≡◌, ℕ, cond, nat_eq, ◌&&◌, ◌||◌, ◌+◌, List, [], ◌∷◌, ◌++◌, length, Option, Some, None, is_some, unwrap_or, true≢false}
 use Rattle.tcp_flow.specs.declared.flow.CloseCause.{CloseCause}
 use Rattle.tcp_flow.specs.declared.tail.Tail.{Tail}
@@ -8,12 +9,12 @@ use Rattle.tcp_flow.specs.Flow.{Flow, Event, flow_of, OfCapture, Passes, Capture
 use Rattle.tcp_flow.proofs.Tails.{looked_by}
 use Rattle.tcp_flow.proofs.Preserving.{Keeps, cond_keeps, gone_on_keeps, window_keeps, heard_keeps, gap_keeps}
 
--- it is so of all that has happened, after a flow of this id
+-- Q is true of all that has happened, in a flow of this id
 pub record Told (Q : List Event → Type 0) (id : ℕ) (f : Flow) : Type 0 where
   pub same : f.id ≡ id
   pub told : Q f.events
 
--- an event of no other flow than that of this id keeps it
+-- Q is kept by each event that is in no other flow
 abbrev pub IsKept : (List Event → Type 0) → ℕ → Type 0
 IsKept Q id = (es : List Event) (e : Event) → ((j : ℕ) → flow_of e ≡ Some j → j ≡ id) → Q es →
     Q (es ++ e ∷ [])

@@ -1,4 +1,4 @@
--- Streams are gapless, whatever comes.
+-- Streams have no gaps, whatever comes.
 use Rattle.std.proofs.Common.{◌≡◌, ℕ, zero, suc, ◌+◌, ◌^◌, ◌<◌, Bool, true, false, cond, nat_eq, nat_lt, ◌&&◌, ◌||◌, not, List, [], ◌∷◌, ◌++◌, length, drop, get_or, Option, Some, None, refl, sym, ◌∙◌, ap, subst, arith, inl, inr, is_some, true≢false}
 use Rattle.std.specs.List.{insert, remove}
 use Rattle.std.proofs.lemmas.Bool.{cases_lt, cases_Bool, lt-ltb, le-ltb, ltb-false, and_cases, cond-true, cond-false, not-true, and_left, and_right, not_from_true, both_ways}
@@ -21,7 +21,7 @@ onward_onward n k a = omega arith
 onward_small : (n k : ℕ) → onward n k < 2 ^ 32
 onward_small n k = omega arith
 
--- what is not to come is due after what is old
+-- a number that isn't to come is due after its old octets are left out
 pub reached : (next n : ℕ) → next < 2 ^ 32 → is_to_come next n ≡ false →
     onward n (age next n) ≡ next
 reached next n small h = search (arith, cases_lt, and_cases, nat_lt, ltb-false, lt-ltb, le-ltb)
@@ -151,7 +151,7 @@ part_small : (payloads : List Payload) (id n : ℕ) (xs : List ℕ) → IsPartOf
     n < 2 ^ 32
 part_small payloads id n xs h = search (arith, onward_small, get_or)
 
--- a flow that isn't live is as well out of step
+-- a flow without a live stream may as well be out of step
 idle_true : (payloads : List Payload) (f : Flow) → lives f.live f.waits ≡ false →
     IsGapless payloads f → IsGapless payloads (out_of_step f)
 idle_true payloads f dead t = search (arith, cond-false)
@@ -197,7 +197,7 @@ resumed_true payloads f t =
       | inr e ↦ when_false (IsGapless payloads) f.waits (started f f.next) f e t
     ]
 
--- a flow in step has a live stream then, and the same number is due
+-- a flow in step then has a live stream, and the same number is due
 pub resumed_lives : (f : Flow) → is_some f.live ≡ true →
     lives (resumed f).live (resumed f).waits ≡ true
 unfolding with_event
@@ -211,7 +211,7 @@ resumed_id : (f : Flow) → (resumed f).id ≡ f.id
 unfolding with_event
 resumed_id f = search (arith, either)
 
--- what is so of a flow of an id
+-- a flow of an id that has no gaps
 record IsTrueOf (payloads : List Payload) (id : ℕ) (f : Flow) : Type 0 where
   same : f.id ≡ id
   gapless : IsGapless payloads f
@@ -320,7 +320,7 @@ true_keeps F payloads =
       };
     }
 
--- one more payload comes
+-- after one more payload came
 has_grow : (payloads : List Payload) (p : Payload) (id n : ℕ) (xs : List ℕ) →
     IsPartOf payloads id n xs → IsPartOf (payloads ++ p ∷ []) id n xs
 has_grow payloads p id n xs h = search (arith, get_or, get_or_append_left, length-append, drop)

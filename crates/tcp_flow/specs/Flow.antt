@@ -12,16 +12,17 @@ use Rattle.tcp_waiting.specs.declared.arrival.Arrival as origin
 use Rattle.tcp_waiting.specs.Payload.{Payload, payload, no_payload, without_first, window, first, is_far, has_as_much, put}
 use Rattle.tcp_waiting.specs.Numbers.{ahead, onward, age, is_to_come}
 
--- what happens in a capture beside its flows: what is delivered next came in this packet; these
--- octets were looked through, and no stream begins in them; it has a fault, of this word, at the
--- octet of this number
+-- what happens in a capture apart from its flows: what is told next came in this packet; these
+-- octets were looked through, and no stream begins in them; the capture has a fault of this word,
+-- at the octet of this number
 pub data CaptureEvent : Type 0 where
   ComesFrom : origin.Arrival → CaptureEvent
   Passes : List ℕ → CaptureEvent
   HasFault : List ℕ → ℕ → CaptureEvent
 
--- what happens in flows, each by its id: the id stands for the flow between these endpoints from
--- now on, a stream begins, octets are delivered to it, it closes; and what happens in the capture
+-- what happens in flows, each named by its id: the id stands for the flow between these endpoints
+-- from now on; a stream begins; octets are delivered to it; it closes; and what happens in the
+-- capture
 pub data Event : Type 0 where
   Opens : ℕ → endpoints.Flow → Event
   Begins : ℕ → Start → Event
@@ -29,7 +30,7 @@ pub data Event : Type 0 where
   Closes : ℕ → CloseCause → Event
   OfCapture : CaptureEvent → Event
 
--- the flow in which an event happens, where it happens in one
+-- the flow in which an event happens, if it happens in one
 abbrev pub flow_of : Event → Option ℕ
 flow_of (Opens id flow) = Some id
 flow_of (Begins id start) = Some id
@@ -37,19 +38,20 @@ flow_of (Delivers id octets) = Some id
 flow_of (Closes id cause) = Some id
 flow_of (OfCapture event) = None
 
--- what reads the streams, by all that has happened: the octet at which the reader of the stream that
--- octets were delivered to last is at a fault, counted from 1 in the stream, if it is at one; and how
--- many octets the message that the last stream of a flow is in lacks until its end, if its header is
--- complete, or 0 if the stream is in none
+-- what the reader of the streams says after all that has happened: at which octet of the stream
+-- that octets were delivered to last it is at a fault, counted from 1, if it is at one; and how
+-- many octets the message lacks that the last stream of a flow is in, if its header is complete, or
+-- 0 if the stream is in no message
 pub record Reader : Type 0 where
   pub faulted : List Event → Option ℕ
   pub lacking : List Event → ℕ → Option ℕ
 
--- a flow: its id, the number that is due; while it is in step the number that its stream begins with,
--- and whether it waits for that stream; a FIN to come; from which number on octets are in no stream,
--- while none lives, whether one has begun, and whether one was found; its tail: what was looked
--- through last and may begin a header, none while a stream lives; what this and other flows hold, in
--- its order; and what has happened in all of them
+-- A flow: `next` is the number that is due. While the flow is in step, `live` is the number that
+-- its stream begins with, and `waits` says whether it waits for that stream. `fin` is a FIN to
+-- come. While no stream lives, octets from `since` on are in no stream, and `tail` is what was
+-- looked through last, if it may begin a header. `has_begun` says whether a stream has begun, and
+-- `is_found` whether one was found. `held` is what all flows hold, in order, and `events` what has
+-- happened in all of them.
 pub record Flow : Type 0 where
   pub id : ℕ
   pub next : ℕ
@@ -63,48 +65,48 @@ pub record Flow : Type 0 where
   pub held : List Payload
   pub events : List Event
 
--- whether a number is at most W in front of the one that is due, or after it, as the window of a
--- receiver reaches (RFC 5961, Sections 3.2 and 4.2)
+-- whether a number is at most W before or after the one that is due, as the window of a receiver
+-- reaches (RFC 5961, Sections 3.2 and 4.2)
 abbrev pub is_near : ℕ → ℕ → Bool
 is_near next number = nat_le (ahead next number) window || nat_le (ahead number next) window
 
--- whether `GIOP` 01 and 00, 01 or 02 stand first
+-- whether octets begin with `GIOP` 01 and 00, 01 or 02
 abbrev pub is_header : List ℕ → Bool
 is_header xs =
     nat_le 6 (length xs) && nat_eq (get_or xs 0 0) 71 && nat_eq (get_or xs 1 0) 73
     && nat_eq (get_or xs 2 0) 79 && nat_eq (get_or xs 3 0) 80
     && nat_eq (get_or xs 4 0) 1 && nat_le (get_or xs 5 0) 2
 
--- where a header stands first
+-- the place of the first header
 unfoldable pub header_at : List ℕ → Option ℕ
 header_at [] = None
 header_at (x ∷ xs) = cond (is_header (x ∷ xs)) (Some 0) (option_map suc (header_at xs))
 
--- four octets as a number, the heaviest first
+-- four octets as a number, the most significant first
 abbrev pub weighed : ℕ → ℕ → ℕ → ℕ → ℕ
 weighed a b c d = ((a * 256 + b) * 256 + c) * 256 + d
 
--- the size in a header of 12 octets, in its byte order (GIOP Message Header)
+-- the size that a header of 12 octets has, in its byte order (GIOP Message Header)
 abbrev pub size_in : List ℕ → ℕ
 size_in xs =
     cond (nat_eq (get_or xs 6 0 % 2) 1)
     (weighed (get_or xs 11 0) (get_or xs 10 0) (get_or xs 9 0) (get_or xs 8 0))
     (weighed (get_or xs 8 0) (get_or xs 9 0) (get_or xs 10 0) (get_or xs 11 0))
 
--- where the message ends that stands first, if all of it is there
+-- where the first message ends, if all of it is there
 abbrev pub message_end : List ℕ → Option ℕ
 message_end xs =
     cond (nat_lt (length xs) 12) None
     (cond (nat_lt (length xs) (12 + size_in xs)) None (Some (12 + size_in xs)))
 
--- whether the six octets stand first, as far as the octets go
+-- whether octets begin with the six octets, as far as they go
 abbrev pub is_front : List ℕ → Bool
 is_front xs =
     nat_eq (get_or xs 0 71) 71 && nat_eq (get_or xs 1 73) 73 && nat_eq (get_or xs 2 79) 79
     && nat_eq (get_or xs 3 80) 80 && nat_eq (get_or xs 4 1) 1 && nat_le (get_or xs 5 0) 2
 
--- whether messages stand one after another up to the end, the last perhaps cut, and one of them is
--- whole, as one in front was or not: at most so many
+-- whether messages follow one another up to the end, the last perhaps cut, and one of them is
+-- whole, or one before them was (`whole`); at most `count` are looked at
 unfoldable pub chain_from : ℕ → Bool → List ℕ → Bool
 chain_from zero whole xs = whole
 chain_from (suc count) whole xs =
@@ -114,12 +116,12 @@ chain_from (suc count) whole xs =
       | Some end ↦ chain_from count true (drop end xs)
     ]) false)
 
--- whether messages stand up to the end, one of them whole
+-- whether messages follow one another up to the end, one of them whole
 abbrev pub is_chain : List ℕ → Bool
 is_chain xs = chain_from (length xs) false xs
 
--- where a stream begins in octets that are looked through: where the six octets stand first, at the
--- front, or from where messages stand up to the end
+-- where a stream begins in octets that are looked through: at the first place with the six octets,
+-- if it is the front or messages follow one another from it up to the end
 unfoldable pub stream_at : List ℕ → Option ℕ
 stream_at xs =
     elim (header_at xs) [
@@ -131,24 +133,24 @@ stream_at xs =
 abbrev pub first_five : List ℕ
 first_five = 71 ∷ 73 ∷ 79 ∷ 80 ∷ 1 ∷ []
 
--- whether octets are a beginning of the six: one to five of them
+-- whether octets are the first one to five of the six octets
 abbrev pub is_beginning : List ℕ → Bool
 is_beginning xs = nat_lt 0 (length xs) && nat_lt (length xs) 6 && is_front xs
 
--- octets in parts of these lengths
+-- octets, cut into parts of these lengths
 unfoldable pub cut_up : List ℕ → List ℕ → List (List ℕ)
 cut_up xs [] = []
 cut_up xs (n ∷ ns) = take n xs ∷ cut_up (drop n xs) ns
 
--- the octets of a tail, which is a beginning of the six octets
+-- the octets of a tail, which are the first of the six octets
 abbrev pub octets_of : Tail → List ℕ
 octets_of t = take t.octets first_five
 
--- the octets of each of its payloads
+-- the octets of each payload of a tail
 abbrev pub parts_of : Tail → List (List ℕ)
 parts_of t = cut_up first_five (take t.count t.parts)
 
--- the tail of one payload, at a number and of so many octets
+-- the tail of one payload with a number and `count` octets
 abbrev pub tail_of : ℕ → ℕ → Tail
 tail_of n count = record {
   number = n;
@@ -157,7 +159,7 @@ tail_of n count = record {
   parts = count ∷ 0 ∷ 0 ∷ 0 ∷ 0 ∷ [];
 }
 
--- of one payload more, of so many octets: it has five at most
+-- a tail with one more payload of `count` octets; it has five payloads at most
 abbrev pub lengthened : Tail → ℕ → Tail
 lengthened t count =
     cond (nat_lt t.count 5) (record t {
@@ -166,22 +168,22 @@ lengthened t count =
       parts = set t.parts t.count count;
     }) t
 
--- whether octets at a number go on a tail, which ends there: both together begin with the six
--- octets, or are a beginning of them
+-- whether octets at a number go on from a tail: the tail ends there, and both together begin with
+-- the six octets or are a beginning of them
 abbrev pub goes_on : Tail → ℕ → List ℕ → Bool
 goes_on t n xs = nat_eq (onward t.number t.octets) n && is_front (octets_of t ++ xs)
 
--- the tail that octets at a number go on
+-- the tail, if octets at a number go on from it
 unfoldable pub tail_before : Option Tail → ℕ → List ℕ → Option Tail
 tail_before None n xs = None
 tail_before (Some t) n xs = cond (goes_on t n xs) (Some t) None
 
--- whether a stream lives in a flow that is in step or not, and waits or doesn't
+-- whether a stream lives, if the flow is in step or not and waits or not
 abbrev pub lives : Option ℕ → Bool → Bool
 lives live waits = is_some live && not waits
 
--- what is left of a payload: what is before `next` falls away, but it is whole where the flow isn't in
--- step and it begins more than W before
+-- what is left of a payload without the octets before `next`; if the flow isn't in step and the
+-- payload begins more than W before `next`, all of it is left
 unfoldable pub left : ℕ → Bool → Payload → Payload
 left next live p = cond (nat_lt window (age next p.number) && not live) p
     (without_first (age next p.number) p)
@@ -189,19 +191,20 @@ left next live p = cond (nat_lt window (age next p.number) && not live) p
 unfoldable pub with_event : Flow → Event → Flow
 with_event f h = record f { events = f.events ++ h ∷ [] }
 
--- a flow is no more in step
+-- the flow is no longer in step
 abbrev pub out_of_step : Flow → Flow
 out_of_step f = record f { live = None; waits = false }
 
--- the live stream closes, and octets are in no stream from a number on
+-- the live stream closes, and octets from a number on are in no stream
 abbrev pub stopped : Flow → ℕ → CloseCause → Flow
 stopped f since cause = with_event (record (out_of_step f) { since = since }) (Closes f.id cause)
 
--- the number after an octet of the live stream, which is counted from 1
+-- the number after an octet of the live stream; the octet is counted from 1
 abbrev pub number_after : Flow → ℕ → ℕ
 number_after f at = onward (unwrap_or f.live f.next) at
 
--- it closes if its reader is at a fault: what is after the octet of the fault is in no stream
+-- the live stream closes if its reader is at a fault: what comes after the octet of the fault is in
+-- no stream
 unfoldable pub checked : Flow → Option ℕ → Flow
 checked f None = f
 checked f (Some at) = stopped f (number_after f at) Fault
@@ -211,13 +214,13 @@ abbrev pub handed : Flow → Payload → Flow
 handed f p =
     with_event (record f { next = onward p.number (length p.octets) }) (Delivers f.id p.octets)
 
--- its reader may come to a fault
+-- octets are delivered to the live stream, and its reader may then be at a fault
 unfoldable pub delivered : Reader → Flow → Payload → Flow
 delivered F f p = checked (handed f p) (F.faulted (handed f p).events)
 
--- the beginning of a stream at a number: it is found where it was looked for, as one is that the flow
--- doesn't wait for, and octets are in no stream before it, or a stream of the flow came before it; and
--- if one before it was found
+-- What a stream begins with that begins at a number. It is found if the flow didn't wait for it,
+-- and octets before it are in no stream or the flow had a stream before it. It is also found if an
+-- earlier stream of the flow was.
 abbrev pub start_at : Flow → ℕ → Start
 start_at f n = record {
   number = n;
@@ -225,7 +228,7 @@ start_at f n = record {
   is_found = f.is_found || (not f.waits && (f.has_begun || nat_lt 0 (ahead f.since n)));
 }
 
--- a stream begins at a number, which is due
+-- a stream begins at a number, which is then due
 abbrev pub started : Flow → ℕ → Flow
 started f n = with_event (record f {
   next = n;
@@ -236,12 +239,12 @@ started f n = with_event (record f {
   tail = None;
 }) (Begins f.id (start_at f n))
 
--- the stream that a flow waits for, if it waits, begins with the octet that is due
+-- the stream that the flow waits for, if it waits for one, begins with the octet that is due
 abbrev pub resumed : Flow → Flow
 resumed f = cond f.waits (started f f.next) f
 
--- the octets from a header on are delivered to a new stream, if they have one; else they were
--- looked through in vain, and are the flow's tail from now on if they are a beginning of the six
+-- if a stream begins in a payload, the octets from there on are delivered to it; if not, the octets
+-- were looked through in vain, and are the new tail if they are a beginning of the six octets
 unfoldable pub begun : Reader → Flow → Payload → Option ℕ → Flow
 begun F f p None =
     with_event (record f {
@@ -249,16 +252,16 @@ begun F f p None =
     }) (OfCapture (Passes p.octets))
 begun F f p (Some i) = delivered F (started f (onward p.number i)) (without_first i p)
 
--- the octets of each payload are delivered, one after another, while the stream lives: after its
--- reader's fault the rest falls away
+-- the octets of each payload are delivered while the stream lives; what comes after a fault of its
+-- reader isn't
 unfoldable pub all_delivered : Reader → Flow → origin.Arrival → List (List ℕ) → Flow
 all_delivered F f arrival [] = f
 all_delivered F f arrival (xs ∷ xss) =
     cond (lives f.live f.waits)
     (all_delivered F (delivered F f (payload f.id f.next xs arrival)) arrival xss) f
 
--- a payload goes on a tail: both together are the tail from now on, while they are fewer than six
--- octets; else a stream begins where the tail does, and has the octets of both
+-- a payload goes on from a tail: if both together have fewer than six octets, they are the new
+-- tail; if not, a stream begins where the tail does, and gets the octets of both
 unfoldable pub rejoined : Reader → Flow → Payload → Tail → Flow
 rejoined F f p t =
     cond (nat_lt (t.octets + length p.octets) 6)
@@ -266,7 +269,7 @@ rejoined F f p t =
     (OfCapture (Passes (octets_of t ++ p.octets))))
     (all_delivered F (started f t.number) p.arrival (parts_of t ++ p.octets ∷ []))
 
--- a payload is looked through, after the tail that it goes on, if there is one
+-- a payload is looked through, after the tail that it goes on from, if there is one
 unfoldable pub looked_through : Reader → Flow → Payload → Option Tail → Flow
 looked_through F f p None = begun F f p (stream_at p.octets)
 looked_through F f p (Some t) = rejoined F f p t
@@ -275,7 +278,7 @@ looked_through F f p (Some t) = rejoined F f p t
 unfoldable pub told_from : Flow → Payload → Flow
 told_from f p = with_event f (OfCapture (ComesFrom p.arrival))
 
--- a payload is taken: delivered to the live stream or the one that is waited for, or looked through
+-- a payload is taken: it is delivered to the stream that is live or waited for, or looked through
 -- for the beginning of one
 unfoldable pub taken : Reader → Flow → Payload → Flow
 taken F f p =
@@ -294,7 +297,7 @@ at f i = get_or f.held i no_payload
 unfoldable pub is_due : Flow → ℕ → Bool
 is_due f i = not ((is_some f.live) && is_to_come f.next (at f i).number)
 
--- the first is taken while it is due: at most `count` times
+-- the first held payload is taken while it is due, at most `count` times
 unfoldable pub drained_at_most : Reader → ℕ → Flow → Flow
 drained_at_most F zero f = f
 drained_at_most F (suc count) f =
@@ -316,7 +319,7 @@ unfoldable pub fin_is_reached : ℕ → Bool → Option ℕ → Bool
 fin_is_reached next live None = false
 fin_is_reached next live (Some n) = live && not (is_to_come next n)
 
--- the live stream closes, if there is one, and the flow is no more in step
+-- the live stream closes, if there is one, and the flow is no longer in step
 unfoldable pub closed : Flow → CloseCause → Flow
 closed f cause = cond (lives f.live f.waits) (stopped f f.next cause) (out_of_step f)
 
@@ -324,25 +327,27 @@ closed f cause = cond (lives f.live f.waits) (stopped f f.next cause) (out_of_st
 unfoldable pub without_stale_fin : Flow → Flow
 without_stale_fin f = cond (is_some f.live) f (record f { fin = None })
 
--- the stream closes where the FIN is reached, or is no more waited for, and the flow goes on
+-- if the FIN is reached, the stream closes or is no longer waited for, and the held payloads that
+-- are due are taken
 unfoldable pub ended : Reader → Flow → Flow
 ended F f =
     cond (fin_is_reached f.next (is_some f.live) f.fin)
     (drained F (record (closed f Fin) { fin = None })) f
 
--- going on
+-- the flow goes on: held payloads that are due are taken, and the stream closes if its FIN is
+-- reached
 unfoldable pub gone_on : Reader → Flow → Flow
 gone_on F f = without_stale_fin (ended F (drained F f))
 
--- how many octets a gap passes over: all that a message lacks, if they are fewer than half of all
--- numbers, and a payload begins no further on than they end
+-- how many octets a gap passes over: all that a message lacks, if they are fewer than 2^31 and a
+-- payload at `number` begins no further on than they end
 unfoldable pub passing : ℕ → ℕ → Option ℕ → Option ℕ
 passing next number None = None
 passing next number (Some count) =
     cond (nat_lt count (2 ^ 31) && not (is_to_come (onward next count) number)) (Some count) None
 
--- how many a gap of a flow passes over, by the first payload that it holds: the rest of the message
--- that its live stream is in
+-- how many octets the gap of a flow passes over, from the first payload that it holds: the rest of
+-- the message that its live stream is in
 unfoldable pub passed_over : Reader → Flow → Option ℕ
 passed_over F f =
     cond (lives f.live f.waits) (elim (first_of f) [
@@ -350,8 +355,8 @@ passed_over F f =
       | Some i ↦ passing f.next (at f i).number (F.lacking f.events f.id)
     ]) None
 
--- the live stream closes, and the flow waits for the next one so many octets after the number that is
--- due
+-- the live stream closes, and the flow waits for the next one `count` octets after the number that
+-- is due
 abbrev pub awaiting : Flow → ℕ → Flow
 awaiting f count = record (closed f Gap) {
   next = onward f.next count;
@@ -359,7 +364,8 @@ awaiting f count = record (closed f Gap) {
   waits = true;
 }
 
--- the live stream closes: the flow waits where the message ends that it is in, or is no more in step
+-- the live stream closes, and the flow waits for the next one at the end of the message, or is no
+-- longer in step
 unfoldable pub parted : Flow → Option ℕ → Flow
 parted f None = closed f Gap
 parted f (Some count) = awaiting f count
@@ -367,8 +373,8 @@ parted f (Some count) = awaiting f count
 unfoldable pub gap : Reader → Flow → Flow
 gap F f = gone_on F (parted f (passed_over F f))
 
--- gaps while a payload that the flow holds ends too far after the number that is due: at most `count`
--- times
+-- gaps while a payload that the flow holds ends too far after the number that is due, at most
+-- `count`
 unfoldable pub within_window : Reader → ℕ → Flow → Flow
 within_window F zero f = f
 within_window F (suc count) f =
@@ -384,7 +390,7 @@ payload_came F f p =
     cond (nat_eq (length q.octets) 0 || has_as_much f.id q.number (length q.octets) f.held) f
     (within_window F (length f.held + 1) (gone_on F (holding f q)))
 
--- a FIN comes, with the number after the payload
+-- a FIN comes, with the number after the payload of its segment
 unfoldable pub fin_came : Reader → Flow → ℕ → Flow
 fin_came F f n =
     cond (is_some f.live && nat_eq (age f.next n) 0) (gone_on F (record f { fin = Some n })) f
@@ -393,7 +399,7 @@ fin_came F f n =
 abbrev pub second : ℕ
 second = 1000000000
 
--- how many nanoseconds a packet came after another; none if one of both has no time
+-- how many nanoseconds packet `now` came after packet `since`; None if one of the two has no time
 abbrev pub waited : origin.Arrival → origin.Arrival → Option ℕ
 waited since now =
     elim since.time [ None ↦ None | Some before ↦ option_map (λ time. time - before) now.time ]
@@ -402,10 +408,10 @@ waited since now =
 abbrev pub acknowledges : Heard → ℕ → Bool
 acknowledges h next = elim h.acknowledged [ None ↦ false | Some number ↦ is_to_come next number ]
 
--- whether, by a packet, octets are given up that are missing in front of a payload, which came in
--- another packet: if they are acknowledged, they were received, and are given up as soon as the other
--- side sends octets, or after a second; all are after 30 seconds. Without a time it is as if a second
--- had passed
+-- Whether, after a packet, the octets are given up that are missing before a payload that came in
+-- packet `since`. If they are acknowledged, they were received: they are given up when the other
+-- side sends octets, or after a second. All others are given up after 30 seconds. If a time isn't
+-- known, it is as if a second had passed.
 abbrev pub gives_up : Heard → ℕ → origin.Arrival → Bool
 gives_up h next since =
     elim (waited since h.arrival) [
@@ -414,7 +420,7 @@ gives_up h next since =
           (acknowledges h next && (h.answers || nat_le second time)) || nat_le (30 * second) time
     ]
 
--- whether what is missing in front of the first payload that a flow holds is given up
+-- whether what is missing before the first payload that a flow holds is given up
 unfoldable pub is_lost : Heard → Flow → Bool
 is_lost h f = elim (first_of f) [ None ↦ false | Some i ↦ gives_up h f.next (at f i).arrival ]
 
@@ -435,12 +441,12 @@ step F f (Octets n octets arrival) = payload_came F f (payload f.id n octets arr
 step F f (End n) = fin_came F f n
 step F f (Hears h) = heard F (length f.held) h f
 
--- the flow after all that comes, the first first
+-- the flow after all that comes, in this order
 unfoldable pub after : Reader → Flow → List Arrival → Flow
 after F f [] = f
 after F f (c ∷ cs) = after F (step F f c) cs
 
--- a flow of which nothing came: a number is due
+-- a flow for which nothing has come, and the number that is due in it
 abbrev pub fresh : ℕ → ℕ → List Payload → List Event → Flow
 fresh id n held events = record {
   id = id;
@@ -456,7 +462,7 @@ fresh id n held events = record {
   events = events;
 }
 
--- a flow of which the first payload comes: its number is due
+-- a flow for which its first payload has come: the number of this payload was due
 unfoldable pub first_payload : Reader → ℕ → ℕ → List ℕ → origin.Arrival → List Payload →
     List Event → Flow
 first_payload F id n octets arrival held events =
@@ -468,6 +474,6 @@ held_by_others id [] = []
 held_by_others id (p ∷ ps) =
     cond (nat_eq p.flow id) (held_by_others id ps) (p ∷ held_by_others id ps)
 
--- all that the flow holds falls away
+-- all payloads that the flow holds are removed
 unfoldable pub forgotten : Flow → Flow
 forgotten f = record f { held = held_by_others f.id f.held }

@@ -1,5 +1,5 @@
--- That the order in which payloads come makes no difference, where they agree on their octets and
--- nothing is given up (meaning).
+-- The order in which payloads come makes no difference, if they agree on their octets and nothing
+-- is given up (meaning).
 use Rattle.std.specs.Prelude.{◌≡◌, ◌⊎◌, ℕ, ◌+◌, ◌<◌, ◌≤◌, ◌^◌, cond, nat_eq, List, [], ◌∷◌, ◌++◌, length, take, drop, is_some, true, false}
 use Rattle.std.specs.List.{AllByRecursion}
 use Rattle.tcp_waiting.specs.Numbers.{onward}
@@ -13,7 +13,7 @@ octets_in id (Delivers flow octets) = cond (nat_eq flow id) octets []
 octets_in id (Closes flow cause) = []
 octets_in id (OfCapture event) = []
 
--- those of all events, one after another
+-- the octets that all events deliver to a flow, one after another
 unfoldable pub octets_of : ℕ → List Event → List ℕ
 octets_of id [] = []
 octets_of id (e ∷ es) = octets_in id e ++ octets_of id es
@@ -26,12 +26,12 @@ closes_in id (Delivers flow octets) = 0
 closes_in id (Closes flow cause) = cond (nat_eq flow id) 1 0
 closes_in id (OfCapture event) = 0
 
--- how many all events close
+-- how many streams of a flow all events close
 unfoldable pub closes_of : ℕ → List Event → ℕ
 closes_of id [] = 0
 closes_of id (e ∷ es) = closes_in id e + closes_of id es
 
--- octets are at a number what a content, which begins at `start`, has from a place on
+-- octets at a number are those that a content, which begins at number `start`, has from a place on
 pub record Agrees (start : ℕ) (content : List ℕ) (place number : ℕ) (octets : List ℕ) : Type 0 where
   pub number_is : number ≡ onward start place
   pub within : place + length octets ≤ length content
@@ -44,21 +44,21 @@ IsOfContent start content (Octets n octets arrival) =
 IsOfContent start content (End n) = ⊥
 IsOfContent start content (Hears h) = ⊥
 
--- one of these comes
+-- this is one of the arrivals
 unfoldable pub StandsIn : List Arrival → Arrival → Type 0
 StandsIn [] c = ⊥
 StandsIn (d ∷ ds) c = (c ≡ d) ⊎ StandsIn ds c
 
--- a live stream of which `at` octets of a content have come, and nothing waits
+-- a live stream to which the first `at` octets of a content have come; nothing waits
 pub record IsAt (start at : ℕ) (content : List ℕ) (f : Flow) : Type 0 where
   pub live : lives f.live f.waits ≡ true
   pub next : f.next ≡ onward start at
   pub within : at ≤ length content
   pub waits : is_some (first_of f) ≡ false
 
--- Of the same payloads, in two orders in which no stream closes, the same is delivered. The content
--- is shorter than half of all sequence numbers, so that none of its octets is taken for one that
--- has come.
+-- If the same payloads come in two orders, and no stream closes, then the same is delivered. The
+-- content is shorter than half of all sequence numbers, so that none of its octets is taken for an
+-- old one.
 abbrev pub OrderMakesNoDifference : Type 0
 OrderMakesNoDifference =
     (F : Reader) (f : Flow) (start at : ℕ) (content : List ℕ) (ps qs : List Arrival)

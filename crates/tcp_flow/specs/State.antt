@@ -1,4 +1,4 @@
--- A flow as the code has it, with what is held and what has happened.
+-- A flow as the code has it, together with what is held and what has happened.
 use Rattle.std.specs.Prelude.{◌≡◌, List}
 use Rattle.tcp_flow.specs.declared.flow.FlowState.{FlowState}
 use Rattle.tcp_waiting.specs.Payload.{Payload}
@@ -19,7 +19,8 @@ state s held events = record {
   events = events;
 }
 
--- the code has a flow: what is held is so, and the listener has observed all that has happened
+-- the code has this flow: what is held is what the flow holds, and the listener has observed all
+-- that has happened
 pub record IsState (O : List Event → Type 0) (s : FlowState) (held : List Payload) (f : Flow)
     : Type 0 where
   pub observed : O f.events

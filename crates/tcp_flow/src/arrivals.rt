@@ -15,7 +15,7 @@ impl FlowState {
     ghost use Rattle.tcp_flow.specs.Laws.{IsGapless, IsSettled};
     ghost use Rattle.tcp_flow.specs.State.{state, IsState};
 
-    /// A flow begins: the number of its first payload that has a header is due.
+    /// Begins a flow with its first payload, whose number is due.
     pub fn begin<T: Listener>(
         id: u32,
         number: u32,
@@ -51,7 +51,7 @@ impl FlowState {
         Ok(flow)
     }
 
-    /// A payload of the flow comes.
+    /// Takes a payload of the flow.
     pub fn payload<T: Listener>(
         &mut self,
         number: u32,
@@ -83,12 +83,12 @@ impl FlowState {
         ensures cause { OnErr result (T.failed to.new) }
     {
         self.take_payload(number, octets, arrival, pool, to)?;
-        // Its range is known once it is read.
+        // It is read so that the prover knows its range.
         let _next = self.next;
         Ok(())
     }
 
-    /// A FIN of the flow comes, with the number after the payload.
+    /// Takes a FIN of the flow. Its number is that after the payload of its segment.
     pub fn fin<T: Listener>(
         &mut self,
         number: u32,
@@ -115,12 +115,12 @@ impl FlowState {
         ensures cause { OnErr result (T.failed to.new) }
     {
         self.take_fin(number, pool, to)?;
-        // Its range is known once it is read.
+        // It is read so that the prover knows its range.
         let _next = self.next;
         Ok(())
     }
 
-    /// A payload comes.
+    /// Takes a payload, and closes gaps afterwards if the flow holds too much.
     fn take_payload<T: Listener>(
         &mut self,
         number: u32,
@@ -157,7 +157,7 @@ impl FlowState {
         }
         let count = pool.len() + 1;
         pool.hold(self.id, self.next, number, octets, arrival);
-        // All that is held is to come, and so nothing is looked for.
+        // All held payloads are to come, so nothing is looked for.
         self.end_at_fin(pool, to)?;
         self.keep_within_window(count, pool, to)
     }
@@ -169,7 +169,8 @@ impl FlowState {
         !(self.is_in_step() && is_to_come(self.next, number))
     }
 
-    /// Whether neither a payload nor a FIN is kept for later: there is nothing to go on with.
+    /// Whether the flow keeps neither a payload nor a FIN for later, and so has nothing to go on
+    /// with.
     #[inline]
     fn keeps_nothing(&self, pool: &Pool) -> bool
         ensures { result ≡ (not (is_some (first self.now.id self.now.next pool.now.held))
@@ -178,7 +179,7 @@ impl FlowState {
         !self.holds(pool) && !self.has_fin()
     }
 
-    /// A FIN comes, with the number after the payload.
+    /// Takes a FIN. Its number is that after the payload of its segment.
     fn take_fin<T: Listener>(
         &mut self,
         number: u32,

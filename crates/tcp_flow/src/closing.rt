@@ -1,4 +1,4 @@
-//! How the live stream of a flow closes, by its FIN or another cause, and how the flow goes on.
+//! How the live stream of a flow closes, at its FIN or for another cause, and how the flow goes on.
 
 ghost use Rattle.std.specs.Prelude.{◌≡◌, List, OnOk, OnErr, is_some};
 
@@ -13,7 +13,7 @@ impl FlowState {
     ghost use Rattle.tcp_flow.specs.Laws.{IsGapless};
     ghost use Rattle.tcp_flow.specs.State.{state, IsState};
 
-    /// The live stream closes, where there is one, and the flow is no more in step.
+    /// Closes the live stream, if there is one. The flow is no longer in step.
     pub fn close<T: Listener>(&mut self, cause: CloseCause, to: &mut T) -> Result<(), ListenerFault>
         ensures does { (held : List Payload) (f : Flow)
             → IsState (T.observed to.old) self.old held f → OnOk result
@@ -34,7 +34,7 @@ impl FlowState {
         Ok(())
     }
 
-    /// Going on: what is due is taken, and the stream closes where the FIN is reached.
+    /// Goes on: takes the held payloads that are due, and closes the stream if its FIN is reached.
     pub(crate) fn go_on<T: Listener>(
         &mut self,
         pool: &mut Pool,
@@ -51,7 +51,7 @@ impl FlowState {
         self.end_at_fin(pool, to)
     }
 
-    /// Going on where nothing that is held is due: the stream closes where the FIN is reached.
+    /// Goes on if no held payload is due: closes the stream if its FIN is reached.
     pub(crate) fn end_at_fin<T: Listener>(
         &mut self,
         pool: &mut Pool,
@@ -69,7 +69,8 @@ impl FlowState {
         Ok(())
     }
 
-    /// The stream closes where the FIN is reached, or is no more waited for, and the flow goes on.
+    /// If the FIN is reached, closes the stream or no longer waits for it, and takes the held
+    /// payloads that are due.
     fn end<T: Listener>(&mut self, pool: &mut Pool, to: &mut T) -> Result<(), ListenerFault>
         ensures does { (f : Flow) → IsState (T.observed to.old) self.old pool.old.held f
             → OnOk result (IsState (T.observed to.new) self.new pool.new.held (ended T.reader f)) }
@@ -95,7 +96,7 @@ impl FlowState {
         }
     }
 
-    /// A FIN is kept only while the flow is in step.
+    /// Forgets the FIN if the flow isn't in step.
     fn without_stale_fin(&mut self)
         ensures does { (held : List Payload) (events : List Event) → state self.new held events
             ≡ spec_without_stale_fin (state self.old held events) }

@@ -1,5 +1,4 @@
-//! What a flow delivers of its payloads, as they are due: to its live stream, or to one that begins
-//! in them.
+//! Delivers payloads that are due to the live stream of a flow, or to one that begins in them.
 
 ghost use Rattle.std.specs.Prelude.{◌≡◌, ◌≤◌, [], List, OnOk, OnErr, is_some, length, true};
 
@@ -16,7 +15,9 @@ impl FlowState {
     ghost use Rattle.tcp_flow.specs.Flow.{Event, number_after as spec_number_after};
     ghost use Rattle.tcp_flow.specs.State.{state, IsState};
 
-    /// What is left of a payload: what is before the number that is due falls away.
+    /// What is left of a payload without the octets before the number that is due. If the flow
+    /// isn't in step and the payload begins more than `WINDOW` before that number, all of it is
+    /// left.
     pub(crate) fn left<'a>(&self, number: u32, octets: &'a [u8]) -> (u32, &'a [u8])
         ensures shorter { length result.1.now ≤ length octets.now }
         ensures left { (arrival : Arrival) → payload self.now.id result.0 result.1.now arrival
@@ -31,7 +32,7 @@ impl FlowState {
         (onward(number, age as usize), &octets[old..])
     }
 
-    /// Octets are delivered to the live stream.
+    /// Delivers octets to the live stream, and closes it if its reader is then at a fault.
     fn deliver<T: Listener>(
         &mut self,
         number: u32,
@@ -55,14 +56,14 @@ impl FlowState {
         Ok(())
     }
 
-    /// The number after an octet of the live stream, which is counted from 1.
+    /// The number after an octet of the live stream. The octet is counted from 1.
     fn number_after(&self, at: u64) -> u32
         ensures { result ≡ spec_number_after (state self.now [] []) at }
     {
         onward(self.live.unwrap_or(self.next), at as usize)
     }
 
-    /// The beginning of a stream at a number.
+    /// What a stream begins with that begins at this number.
     fn start_at(&self, number: u32) -> Start
         ensures { result ≡ spec_start_at (state self.now [] []) number }
     {
@@ -74,7 +75,7 @@ impl FlowState {
         }
     }
 
-    /// A stream begins at a number, which is due.
+    /// Begins a stream at a number. This number is then due.
     fn start<T: Listener>(&mut self, number: u32, to: &mut T) -> Result<(), ListenerFault>
         ensures id { self.new.id ≡ self.old.id }
         ensures does { (held : List Payload) (f : Flow)
@@ -93,7 +94,7 @@ impl FlowState {
         Ok(())
     }
 
-    /// The stream that the flow waits for, if it waits, begins with the octet that is due.
+    /// Begins the stream that the flow waits for, if it waits for one, at the number that is due.
     fn resume<T: Listener>(&mut self, to: &mut T) -> Result<(), ListenerFault>
         ensures id { self.new.id ≡ self.old.id }
         ensures does { (held : List Payload) (f : Flow)
@@ -107,7 +108,7 @@ impl FlowState {
         Ok(())
     }
 
-    /// Octets are delivered in parts of these lengths, while the stream lives.
+    /// Delivers octets in parts of these lengths, while the stream is live.
     fn deliver_parts<T: Listener>(
         &mut self,
         octets: &[u8],
@@ -129,7 +130,7 @@ impl FlowState {
         self.deliver_parts(&octets[end..], &parts[1..], to)
     }
 
-    /// The tail that octets at a number go on.
+    /// The tail, if octets at this number go on from it.
     fn tail_before(&self, number: u32, octets: &[u8]) -> Option<Tail>
         ensures { result ≡ tail_before self.now.tail number octets.now }
     {
@@ -140,8 +141,8 @@ impl FlowState {
         None
     }
 
-    /// A payload goes on a tail: both together are the tail from now on, while they are fewer than six
-    /// octets; else a stream begins where the tail does.
+    /// Takes a payload that goes on from the tail. If both together have fewer than six octets,
+    /// they are the new tail. If not, a stream begins where the tail does.
     fn rejoin<T: Listener>(
         &mut self,
         number: u32,
@@ -171,8 +172,8 @@ impl FlowState {
         Ok(())
     }
 
-    /// A payload is looked through, after the tail that it goes on, if there is one: a stream begins,
-    /// or what was looked through may be a tail.
+    /// Looks through a payload, after the tail if it goes on from that. A stream begins in it, or
+    /// it may be the new tail.
     fn look_through<T: Listener>(
         &mut self,
         number: u32,
@@ -202,8 +203,8 @@ impl FlowState {
         Ok(())
     }
 
-    /// A payload is taken: delivered to the live stream or the one that is waited for, or looked through for
-    /// the beginning of one.
+    /// Takes a payload: delivers it to the stream that is live or waited for, or looks for the
+    /// beginning of a stream in it.
     #[inline(always)]
     pub(crate) fn take<T: Listener>(
         &mut self,
@@ -231,7 +232,7 @@ impl FlowState {
         self.look_through(number, octets, to)
     }
 
-    /// The held payloads are taken while the first is due.
+    /// Takes the first held payload while it is due.
     pub(crate) fn drain<T: Listener>(
         &mut self,
         pool: &mut Pool,

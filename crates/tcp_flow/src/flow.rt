@@ -1,4 +1,4 @@
-//! One flow of a TCP connection, from its first stream on: what is known of it, and who is told of
+//! One flow of a TCP connection, from its first stream on: what is known of it, and the listener to
 //! what happens in it.
 
 ghost use Rattle.std.specs.Prelude.{◌≡◌, ◌<◌, ◌∷◌, ◌++◌, [], List, length};
@@ -18,7 +18,7 @@ pub enum CloseCause {
     Reset,
     /// A SYN began its connection anew.
     Syn,
-    /// Its reader came to a fault.
+    /// Its reader is at a fault.
     Fault,
     /// Octets of it are missing.
     Gap,
@@ -28,39 +28,44 @@ pub enum CloseCause {
     End,
 }
 
-/// The beginning of a stream.
+/// How a stream begins.
 #[derive(Clone, Copy, Debug, Drop, PartialEq, Eq)]
 pub struct Start {
     /// The sequence number of its first octet.
     pub number: u32,
-    /// How many octets, modulo 2^32, are in no stream: from where the flow's last stream closed, or its first payload began,
-    /// up to this one.
+    /// How many octets before it are in no stream, modulo 2^32. They are counted from the end of
+    /// the flow's last stream, or from its first payload.
     pub passed: u32,
-    /// Whether its place was looked for: octets are in no stream before it, or a stream of the flow came before it.
+    /// Whether its beginning was looked for: the flow didn't wait for it, and octets before it are
+    /// in no stream or the flow had a stream before it. It is also true if an earlier stream of the
+    /// flow was found.
     pub is_found: bool,
 }
 
-/// A listener couldn't go on: what it writes to failed. Nothing is promised of what comes after.
+/// A listener couldn't go on, as what it writes to failed. Nothing is promised of what comes after.
 #[derive(Clone, Copy, Debug, Drop, PartialEq, Eq)]
 pub struct ListenerFault;
 
-/// Is told what happens in flows, each by its id.
+/// Is told what happens in flows. A flow is named by its id.
 pub trait Listener {
     ghost use Rattle.tcp_flow.specs.Flow.{Event, Opens, Begins, Delivers, Closes, Reader};
     ghost use Rattle.tcp_flow.specs.Flow.{OfCapture, ComesFrom, Passes};
 
-    /// The listener has observed these events of all flows, and of the capture: a relation, so that one that forgets can
-    /// be a listener.
+    /// The listener has observed these events of all flows and of the capture. This is a relation,
+    /// so that a listener may forget what it observed.
     ghost observed: { Self → List Event → Type 0 };
 
-    /// It has failed: what it writes to failed a put, or the like. From then on nothing is promised.
+    /// The listener has failed: what it writes to failed, or the like. Nothing is promised from
+    /// then on.
     ghost failed: { Self → Type 0 };
 
-    /// What reads the streams, after these events: the octet at which the reader of the stream that was delivered to last is at
-    /// a fault, and how many octets a message lacks that a stream is in.
+    /// What the reader of the streams says after these events: at which octet of the stream that
+    /// was delivered to last it is at a fault, and how many octets the message lacks that a stream
+    /// is in.
     ghost reader: { Reader };
 
-    /// The id stands for a flow from now on, of which nothing came.
+    /// The id stands for the flow between these endpoints from now on. Nothing has come for that
+    /// flow.
     fn opens(&mut self, flow: u32, endpoints: Endpoints) -> Result<(), ListenerFault>
         ensures does { (events : List Event) → observed self.old events
             → OnOk result (observed self.new (events ++ Opens flow endpoints ∷ [])) }
@@ -82,16 +87,16 @@ pub trait Listener {
             → OnOk result (observed self.new (events ++ Begins flow start ∷ [])) }
         ensures cause { OnErr result (failed self.new) };
 
-    /// The next octets of a flow's live stream. If the stream's reader is at a fault, answers the octet of the stream, counted
-    /// from 1, at which it is.
+    /// The next octets of a flow's live stream. If the stream's reader is at a fault, the answer is
+    /// at which octet of the stream, counted from 1.
     fn delivers(&mut self, flow: u32, octets: &[u8]) -> Result<Option<u64>, ListenerFault>
         ensures does { (events : List Event) → observed self.old events → IfOk result (λ fault.
             observed self.new (events ++ Delivers flow octets.now ∷ [])
             × (fault ≡ reader.faulted (events ++ Delivers flow octets.now ∷ []))) }
         ensures cause { OnErr result (failed self.new) };
 
-    /// How many octets the message that a flow's last stream is in lacks until its end, if its header is complete, or 0 if
-    /// the stream is in none.
+    /// How many octets the message lacks that a flow's last stream is in, if its header is
+    /// complete; 0 if the stream is in no message.
     fn lacks(&mut self, flow: u32) -> Result<Option<u32>, ListenerFault>
         ensures does { (events : List Event) → observed self.old events → IfOk result (λ count.
             observed self.new events × (count ≡ reader.lacking events flow)) }
@@ -109,18 +114,20 @@ pub trait Listener {
 pub struct FlowState {
     pub(crate) id: u32,
     pub(crate) next: u32,
-    /// The number that its stream begins with: one that is live, or that the flow waits for. None while the flow isn't in step.
+    /// The number that the stream begins with that is live or waited for; none if the flow isn't in
+    /// step.
     pub(crate) live: Option<u32>,
-    /// Whether it waits for that stream.
+    /// Whether the flow waits for that stream.
     pub(crate) waits: bool,
     pub(crate) fin: Option<u32>,
-    /// From where on octets are in no stream, while none is live.
+    /// The number from which on octets are in no stream, while no stream is live.
     pub(crate) since: u32,
     /// Whether a stream of the flow has begun.
     pub(crate) has_begun: bool,
-    /// Whether one was found: the place of one was looked for.
+    /// Whether a stream of the flow was found by looking for its beginning.
     pub(crate) is_found: bool,
-    /// What was looked through last and may begin a header, while no stream is live.
+    /// The octets that were looked through last, if they may begin a header. There are none while a
+    /// stream is live.
     pub(crate) tail: Option<Tail>,
 }
 
@@ -130,7 +137,7 @@ impl FlowState {
     ghost use Rattle.tcp_flow.specs.Flow.{Event, fresh, is_near, lives};
     ghost use Rattle.tcp_flow.specs.State.{state};
 
-    /// A flow of which nothing came: a number is due.
+    /// A flow for which nothing has come. This number is due.
     pub fn new(id: u32, number: u32) -> FlowState
         ensures { (held : List Payload) (events : List Event)
             → state result held events ≡ fresh id number held events }
@@ -155,28 +162,28 @@ impl FlowState {
         self.live.is_some() && !self.waits
     }
 
-    /// Whether a stream is live or waited for, so that what is due is known.
+    /// Whether a stream is live or waited for. If so, it is known which octet is due.
     pub(crate) fn is_in_step(&self) -> bool
         ensures { result ≡ is_some self.now.live }
     {
         self.live.is_some()
     }
 
-    /// The sequence number that its stream begins with, where one is live or waited for.
+    /// The sequence number that the stream begins with that is live or waited for.
     pub fn live(&self) -> Option<u32>
         ensures { result ≡ self.now.live }
     {
         self.live
     }
 
-    /// Whether a number is at most 1,048,576 in front of the one that is due, or after it.
+    /// Whether a number is at most `WINDOW` before or after the one that is due.
     pub fn is_near(&self, number: u32) -> bool
         ensures { result ≡ is_near self.now.next number }
     {
         ahead(self.next, number) as usize <= WINDOW || ahead(number, self.next) as usize <= WINDOW
     }
 
-    /// Whether a FIN to come is kept.
+    /// Whether the flow keeps a FIN that is to come.
     pub fn has_fin(&self) -> bool
         ensures { result ≡ is_some self.now.fin }
     {
@@ -191,7 +198,7 @@ impl FlowState {
     }
 }
 
-/// Whether a header stands first.
+/// Whether octets begin with `GIOP` 01 and 00, 01 or 02.
 fn is_header(octets: &[u8]) -> bool
     ensures { result ≡ spec_is_header octets.now }
 {
@@ -204,7 +211,7 @@ fn is_header(octets: &[u8]) -> bool
         && octets[5] <= 2
 }
 
-/// Where a GIOP header stands first: `GIOP` 01 and 00, 01 or 02.
+/// The place of the first GIOP header: `GIOP` 01 and 00, 01 or 02.
 pub(crate) fn header_at(octets: &[u8]) -> Option<usize>
     ensures at { result ≡ spec_header_at octets.now }
     ensures within { IfSome result (λ i. i < length octets.now) }

@@ -1,5 +1,5 @@
-//! What a flow gives up: octets that are missing, which is a gap, again while what it holds ends too
-//! far, and all that it holds once it is forgotten.
+//! What a flow gives up: octets that are missing, which is a gap, and again while what it holds
+//! ends too far; and all that it holds when it is forgotten.
 
 ghost use Rattle.std.specs.Prelude.{◌≡◌, ◌<◌, ◌≤◌, [], List, IfOk, OnOk, OnErr, is_some, length, true};
 ghost use Rattle.tcp_flow.specs.Flow.{passing as spec_passing};
@@ -7,8 +7,8 @@ ghost use Rattle.tcp_flow.specs.Flow.{passing as spec_passing};
 use crate::flow::{CloseCause, FlowState, Listener, ListenerFault};
 use tcp_waiting::{Pool, is_to_come, onward};
 
-/// How many octets a gap passes over: all that a message lacks, if they are fewer than half of all
-/// numbers, and a payload begins no further on than they end.
+/// How many octets a gap passes over: all that the message lacks, if they are fewer than 2^31 and
+/// the first held payload, at `number`, begins no further on than they end.
 #[tactic(auto, unfolding(crate::specs::Flow::passing))]
 fn passing(next: u32, number: u32, lacking: Option<u32>) -> Option<u32>
     ensures { result ≡ spec_passing next number lacking }
@@ -29,8 +29,9 @@ impl FlowState {
     ghost use Rattle.tcp_flow.specs.Laws.{IsGapless, IsSettled};
     ghost use Rattle.tcp_flow.specs.State.{state, IsState};
 
-    /// A gap: the live stream closes, and the flow goes on, after the message that the stream is in if
-    /// it is known where that ends. It holds fewer payloads after it, where it held some.
+    /// Closes the live stream for a gap and goes on. If it is known how the message ends that the
+    /// stream is in, the flow goes on after it. If the flow held payloads, it holds fewer
+    /// afterwards.
     pub fn gap<T: Listener>(&mut self, pool: &mut Pool, to: &mut T) -> Result<(), ListenerFault>
         ensures does { (f : Flow) → IsState (T.observed to.old) self.old pool.old.held f
             → OnOk result (IsState (T.observed to.new) self.new pool.new.held
@@ -55,12 +56,12 @@ impl FlowState {
         let passed = self.passed_over(pool, to)?;
         self.part(passed, to)?;
         self.go_on(pool, to)?;
-        // Its range is known once it is read.
+        // It is read so that the prover knows its range.
         let _next = self.next;
         Ok(())
     }
 
-    /// How many octets a gap passes over, if the flow then waits for its next stream.
+    /// How many octets a gap passes over. None if the flow won't wait for its next stream.
     fn passed_over<T: Listener>(
         &self,
         pool: &Pool,
@@ -81,7 +82,8 @@ impl FlowState {
         Ok(passing(self.next, pool.number(first), lacking))
     }
 
-    /// The live stream closes: the flow waits so many octets on, or is no more in step.
+    /// Closes the live stream. The flow then waits for the next one `passed` octets on, or it is no
+    /// longer in step.
     fn part<T: Listener>(&mut self, passed: Option<u32>, to: &mut T) -> Result<(), ListenerFault>
         ensures does { (held : List Payload) (f : Flow)
             → IsState (T.observed to.old) self.old held f → OnOk result
@@ -98,7 +100,7 @@ impl FlowState {
         Ok(())
     }
 
-    /// Gaps while a payload that is held ends too far after the number that is due.
+    /// Makes gaps while a held payload ends too far after the number that is due, at most `count`.
     pub(crate) fn keep_within_window<T: Listener>(
         &mut self,
         count: usize,
@@ -123,7 +125,7 @@ impl FlowState {
         Ok(())
     }
 
-    /// All that the flow holds falls away.
+    /// Removes all payloads that the flow holds.
     pub fn forget(&self, pool: &mut Pool)
         ensures does { (events : List Event) → state self.now pool.new.held events
             ≡ forgotten (state self.now pool.old.held events) }

@@ -13,7 +13,7 @@ const SECOND: u128 = 1_000_000_000;
 /// What a packet of a flow's connection says of octets that are missing in the flow.
 #[derive(Clone, Copy, Drop)]
 pub struct Heard {
-    /// The number up to which the other side has received the flow's octets, if it says so.
+    /// The number up to which the other side has received the flow's octets, if the packet says so.
     pub acknowledged: Option<u32>,
     /// Whether the packet has octets of the other side, which may answer what the flow holds.
     pub answers: bool,
@@ -22,7 +22,7 @@ pub struct Heard {
 }
 
 impl Heard {
-    /// Whether it acknowledges octets after the number that is due.
+    /// Whether the packet acknowledges octets after the number that is due.
     fn acknowledges(&self, next: u32) -> bool
         ensures { result ≡ acknowledges self.now next }
     {
@@ -32,7 +32,7 @@ impl Heard {
         }
     }
 
-    /// How many nanoseconds it came after another packet; none if one of both has no time.
+    /// How many nanoseconds after another packet this one came. None if one of the two has no time.
     fn waited(&self, since: Arrival) -> Option<u128>
         ensures { result ≡ waited since self.now.arrival }
     {
@@ -42,9 +42,10 @@ impl Heard {
         }
     }
 
-    /// Whether octets are given up that are missing in front of a payload, which came in another packet.
-    /// If they are acknowledged, they were received, and are given up as soon as the other side sends
-    /// octets, or after a second; all are after 30 seconds.
+    /// Whether the octets are given up that are missing before a payload that came in packet
+    /// `since`. If they are acknowledged, they were received: they are given up when the other side
+    /// sends octets, or after a second. All others are given up after 30 seconds. If a time isn't
+    /// known, it is as if a second had passed.
     fn gives_up(&self, next: u32, since: Arrival) -> bool
         ensures { result ≡ gives_up self.now next since }
     {
@@ -64,7 +65,7 @@ impl FlowState {
     ghost use Rattle.tcp_flow.specs.Laws.{IsGapless, IsSettled};
     ghost use Rattle.tcp_flow.specs.State.{state, IsState};
 
-    /// A packet of the flow's connection comes: what is missing is given up, if it says so.
+    /// Hears a packet of the flow's connection, and gives up what is missing if the packet says so.
     pub fn hear<T: Listener>(
         &mut self,
         packet: Heard,
@@ -93,12 +94,12 @@ impl FlowState {
         ensures cause { OnErr result (T.failed to.new) }
     {
         self.give_up(packet, pool, to)?;
-        // Its range is known once it is read.
+        // It is read so that the prover knows its range.
         let _next = self.next;
         Ok(())
     }
 
-    /// Gaps while what is missing is given up.
+    /// Makes gaps while the packet says that what is missing is given up.
     fn give_up<T: Listener>(
         &mut self,
         packet: Heard,
@@ -123,7 +124,7 @@ impl FlowState {
         Ok(())
     }
 
-    /// Whether what is missing in front of the first payload that the flow holds is given up.
+    /// Whether what is missing before the first payload that the flow holds is given up.
     fn is_lost(&self, packet: Heard, pool: &Pool) -> bool
         ensures { (events : List Event) → result
             ≡ spec_is_lost packet (state self.now pool.now.held events) }

@@ -1,5 +1,5 @@
-//! Where a stream begins in octets that are looked through: at the front, or from where messages
-//! stand one after another up to the end.
+//! Finds the beginning of a stream in octets: at the front, or where messages begin that follow one
+//! another up to the end.
 
 ghost use Rattle.std.specs.Prelude.{◌≡◌, ◌≤◌, ◌<◌, ◌^◌, ◌++◌, length, get_or, IfSome};
 ghost use Rattle.tcp_flow.specs.Flow.{weighed as spec_weighed, size_in as spec_size_in};
@@ -9,11 +9,11 @@ ghost use Rattle.tcp_flow.specs.Flow.{is_beginning as spec_is_beginning};
 
 use crate::flow::header_at;
 
-/// The octets of a message's header, up to its size.
+/// How many octets the header of a message has.
 const HEADER: usize = 12;
 
-/// Where a stream begins in octets that are looked through. Only the first place at which `GIOP` 01
-/// and 00, 01 or 02 stand counts: the front, or one from which messages stand up to the end, at
+/// Where a stream begins in these octets. Only the first place with `GIOP` 01 and 00, 01 or 02
+/// counts. It must be the front, or messages must follow one another from it up to the end, at
 /// least one of them whole.
 pub fn stream_at(octets: &[u8]) -> Option<usize>
     ensures at { result ≡ spec_stream_at octets.now }
@@ -31,7 +31,7 @@ pub fn stream_at(octets: &[u8]) -> Option<usize>
     None
 }
 
-/// Whether messages stand one after another up to the end, at least one of them whole.
+/// Whether messages follow one another up to the end, at least one of them whole.
 fn is_chain(octets: &[u8]) -> bool
     ensures { result ≡ spec_is_chain octets.now }
 {
@@ -50,7 +50,7 @@ fn is_chain(octets: &[u8]) -> bool
     whole
 }
 
-/// Whether `GIOP` 01 and 00, 01 or 02 stand first, as far as the octets go.
+/// Whether octets begin with `GIOP` 01 and 00, 01 or 02, as far as they go.
 fn is_front(octets: &[u8]) -> bool
     ensures { result ≡ spec_is_front octets.now }
 {
@@ -62,14 +62,14 @@ fn is_front(octets: &[u8]) -> bool
         && octet_or(octets, 5, 0) <= 2
 }
 
-/// Whether octets are a beginning of `GIOP` 01 and 00, 01 or 02: one to five of the six octets.
+/// Whether octets are the first one to five of the six octets `GIOP` 01 and 00, 01 or 02.
 pub fn is_beginning(octets: &[u8]) -> bool
     ensures { result ≡ spec_is_beginning octets.now }
 {
     !octets.is_empty() && octets.len() < 6 && is_front(octets)
 }
 
-/// Whether the six octets stand first in octets and those after them, as far as both go.
+/// Whether `octets` after `before` begin with the six octets, as far as both go.
 pub(crate) fn is_front_of_both(before: &[u8], octets: &[u8]) -> bool
     ensures { result ≡ spec_is_front (before.now ++ octets.now) }
 {
@@ -81,7 +81,7 @@ pub(crate) fn is_front_of_both(before: &[u8], octets: &[u8]) -> bool
         && octet_of_both(before, octets, 5, 0) <= 2
 }
 
-/// The octet at a place of octets and those after them, or another where there is none.
+/// The octet at a place in `octets` after `before`, or `other` if both end before it.
 fn octet_of_both(before: &[u8], octets: &[u8], place: usize, other: u8) -> u8
     ensures { result ≡ get_or (before.now ++ octets.now) place other }
 {
@@ -92,7 +92,7 @@ fn octet_of_both(before: &[u8], octets: &[u8], place: usize, other: u8) -> u8
     }
 }
 
-/// The octet at a place, or another where there is none.
+/// The octet at a place, or `other` if the octets end before it.
 fn octet_or(octets: &[u8], place: usize, other: u8) -> u8
     ensures { result ≡ get_or octets.now place other }
 {
@@ -103,7 +103,7 @@ fn octet_or(octets: &[u8], place: usize, other: u8) -> u8
     }
 }
 
-/// Where the message ends that stands first, if all of it is there.
+/// Where the first message ends, if all of it is there.
 fn message_end(octets: &[u8]) -> Option<usize>
     ensures end { result ≡ spec_message_end octets.now }
     ensures within { IfSome result (λ end. (0 < end) × (end ≤ length octets.now)) }
@@ -118,7 +118,8 @@ fn message_end(octets: &[u8]) -> Option<usize>
     Some(end)
 }
 
-/// The size in a header, in its byte order: bit 0 of its 7th octet (GIOP Message Header).
+/// The size that a header has, in its byte order, which bit 0 of its 7th octet tells (GIOP Message
+/// Header).
 fn size_in(octets: &[u8]) -> usize
     requires { 12 ≤ length octets.now }
     ensures is { result ≡ spec_size_in octets.now }
@@ -131,7 +132,7 @@ fn size_in(octets: &[u8]) -> usize
     }
 }
 
-/// Four octets as a number, the heaviest first.
+/// Four octets as a number, the most significant first.
 fn weighed(a: u8, b: u8, c: u8, d: u8) -> usize
     ensures is { result ≡ spec_weighed a b c d }
     ensures bound { result < 2 ^ 32 }

@@ -1,4 +1,5 @@
-//! The tail of a flow: octets that were looked through and may begin a header, whose rest is to come.
+//! The tail of a flow: octets that were looked through and may begin a header whose rest is to
+//! come.
 
 ghost use Rattle.std.specs.Prelude.{◌≡◌, ◌<◌, ◌+◌, take};
 ghost use Rattle.tcp_flow.specs.Flow.{first_five, octets_of, tail_of, lengthened, goes_on};
@@ -6,24 +7,25 @@ ghost use Rattle.tcp_flow.specs.Flow.{first_five, octets_of, tail_of, lengthened
 use crate::looking::is_front_of_both;
 use tcp_waiting::onward;
 
-/// The first five of the six octets, which are the same in each version.
+/// The first five of a header's six octets, which are the same in each version.
 pub(crate) const FIRST_FIVE: [u8; 5] = *b"GIOP\x01";
 
-/// A beginning of `GIOP` 01 and 00, 01 or 02, which came in payloads of their own. Its octets are so many of the first five.
+/// The first octets of `GIOP` 01 and 00, 01 or 02, one to five of them, which came in payloads of
+/// their own.
 #[derive(Clone, Copy, Drop)]
 pub struct Tail {
     /// The sequence number of its first octet.
     pub(crate) number: u32,
-    /// How many octets it has.
+    /// How many octets the tail has.
     pub(crate) octets: u8,
-    /// How many payloads it came in.
+    /// How many payloads the tail came in.
     pub(crate) count: u8,
-    /// How many octets each of them has.
+    /// How many octets each of these payloads has.
     pub(crate) parts: [u8; 5],
 }
 
 impl Tail {
-    /// The tail of one payload, of so many octets.
+    /// The tail of one payload of `octets` octets.
     pub(crate) fn new(number: u32, octets: u8) -> Tail
         ensures { result ≡ tail_of number octets }
     {
@@ -35,15 +37,15 @@ impl Tail {
         }
     }
 
-    /// Its octets.
+    /// The octets of the tail.
     pub(crate) fn octets(&self) -> &'static [u8]
         ensures { result.now ≡ octets_of self.now }
     {
         &FIRST_FIVE[..(self.octets as usize).min(5)]
     }
 
-    /// Whether octets at a number go on it: it ends there, and both together begin with the six octets
-    /// or are a beginning of them.
+    /// Whether octets at a number go on from the tail: the tail ends there, and both together begin
+    /// with the six octets or are a beginning of them.
     pub(crate) fn goes_on(&self, number: u32, octets: &[u8]) -> bool
         ensures { result ≡ goes_on self.now number octets.now }
     {
@@ -51,7 +53,7 @@ impl Tail {
             && is_front_of_both(self.octets(), octets)
     }
 
-    /// The same of one payload more, of so many octets.
+    /// The tail with one more payload of `octets` octets.
     pub(crate) fn lengthened(&self, octets: u8) -> Tail
         requires { self.now.octets + octets < 256 }
         ensures { result ≡ lengthened self.now octets }
@@ -65,7 +67,7 @@ impl Tail {
         tail
     }
 
-    /// How many octets each of its payloads has.
+    /// How many octets each payload of the tail has.
     pub(crate) fn parts(&self) -> &[u8]
         ensures { result.now ≡ take self.now.count self.now.parts }
     {

@@ -1,4 +1,4 @@
--- Rows of rooms: which are full, while one has a free place.
+-- Rows of rooms: which are full while one of them has a free place.
 use Rattle.std.proofs.Common.{◌≡◌, ℕ, zero, suc, ◌+◌, ◌*◌, ◌-◌, ◌/◌, ◌%◌, ◌<◌, ◌≤◌, ◌≢◌, List, [], ◌∷◌, ◌++◌, length, get_or, set, refl, sym, ap, ◌∙◌, subst, arith, inl, inr, append_assoc, length-append}
 use Rattle.std.specs.List.{insert, remove, concat}
 use Rattle.std.proofs.lemmas.Bool.{cases_eq, cases_lt}
@@ -11,7 +11,7 @@ use Rattle.std.specs.VecDeque.{deque_items, deque_len, deque_capacity}
 use Rattle.std.specs.declared.collections.VecDeque.{VecDeque}
 use Rattle.tcp_rooms.specs.Order.{IsFilled, HasGap, HaveMemory, rows_of}
 
--- a row that isn't full is the last one that isn't empty
+-- a row is full if it and those after it have rooms enough
 full : (r : List ℕ) (rs : List (List ℕ)) → IsFilled (r ∷ rs) → 4096 ≤ length (concat (r ∷ rs)) →
     length r ≡ 4096
 unfolding IsFilled
@@ -22,7 +22,7 @@ full r rs h m =
       | inr g ↦ omega (arith, g, h.0)
     ]
 
--- where the last row that isn't empty ends, there is a free place
+-- the row in which the rooms end has a free place
 pub opened : (k : ℕ) (rs : List (List ℕ)) → IsFilled rs → k < length rs →
     4096 * k ≤ length (concat rs) → length (concat rs) < 4096 * suc k → HasGap k rs
 unfolding IsFilled HasGap
@@ -38,7 +38,7 @@ opened (suc k) (r ∷ rs) h l a b =
       opened k rs h.2 (omega (arith, l)) (omega (arith, a, n, e)) (omega (arith, b, n, e)),
     )
 
--- a free place there is none of a row
+-- the free place is after the last room, so the rows are filled
 pub closed : (k : ℕ) (rs : List (List ℕ)) → HasGap k rs → 4096 * k ≤ length (concat rs) →
     length (concat rs) < 4096 * suc k → IsFilled rs
 unfolding IsFilled HasGap
@@ -59,7 +59,7 @@ closed (suc k) (r ∷ rs) h a b =
       closed k rs h.1 (omega (arith, a, n, h.0)) (omega (arith, b, n, h.0)),
     )
 
--- the row of a free place is there, and not full
+-- the row with the free place exists, and isn't full
 pub gap_row : (k : ℕ) (rs : List (List ℕ)) → HasGap k rs →
     (k < length rs) × (length (get_or rs k []) < 4096)
 unfolding HasGap
@@ -68,7 +68,7 @@ gap_row zero (r ∷ rs) h = (omega arith, h.0)
 gap_row (suc k) (r ∷ rs) h =
     let i = gap_row k rs h.1 in (omega (arith, i.0), i.1)
 
--- the row before it is full
+-- the row before the one with the free place is full
 pub row_before : (k : ℕ) (rs : List (List ℕ)) → HasGap (suc k) rs →
     length (get_or rs k []) ≡ 4096
 unfolding HasGap
@@ -76,7 +76,7 @@ row_before k [] h = absurd h
 row_before zero (r ∷ rs) h = h.0
 row_before (suc k) (r ∷ rs) h = row_before k rs h.1
 
--- the row after it holds some, where there are so many
+-- the row after the one with the free place has rooms, if there are enough
 pub row_behind : (k : ℕ) (rs : List (List ℕ)) → HasGap k rs →
     4096 * suc k ≤ length (concat rs) → 0 < length (get_or rs (suc k) [])
 unfolding HasGap IsFilled
@@ -94,7 +94,7 @@ row_behind zero (r ∷ q ∷ rs) h m =
 row_behind (suc k) (r ∷ rs) h m =
     let n = length-append r (concat rs) in row_behind k rs h.1 (omega (arith, m, n, h.0))
 
--- the last room of the row before goes into it
+-- the last room of the row before is moved into the row with the free place
 pub passed_on : (k : ℕ) (rs : List (List ℕ)) (r : List ℕ) (x : ℕ) → HasGap (suc k) rs →
     get_or rs k [] ≡ r ++ x ∷ [] →
     HasGap k (set (set rs k r) (suc k) (x ∷ get_or rs (suc k) []))
@@ -115,7 +115,7 @@ passed_on zero (q ∷ s ∷ rs) r x h e =
 passed_on (suc k) (q ∷ rs) r x h e =
     let i = passed_on k rs r x h.1 e in ((h.0, i.0), ap (λ l. q ++ l) i.1)
 
--- the first room of the row after it goes into its row
+-- the first room of the row after is moved into the row with the free place
 pub passed_back : (k : ℕ) (rs : List (List ℕ)) (x : ℕ) (s : List ℕ) → HasGap k rs →
     get_or rs (suc k) [] ≡ x ∷ s →
     HasGap (suc k) (set (set rs (suc k) s) k (get_or rs k [] ++ x ∷ []))
@@ -144,7 +144,7 @@ passed_back zero (r ∷ q ∷ rs) x s h e =
 passed_back (suc k) (q ∷ rs) x s h e =
     let i = passed_back k rs x s h.1 e in ((h.0, i.0), ap (λ l. q ++ l) i.1)
 
--- one comes into the row of the free place
+-- a room is inserted into the row with the free place
 pub inserted : (k i x : ℕ) (rs : List (List ℕ)) → HasGap k rs → i < 4096 →
     4096 * k + i ≤ length (concat rs) →
     (i ≤ length (get_or rs k [])) × IsFilled (set rs k (insert (get_or rs k []) i x))
@@ -173,7 +173,7 @@ inserted (suc k) i x (r ∷ rs) h l m =
           ∙ sym (insert-append_right r (concat rs) 4096 (4096 * suc k + i) x h.0 (omega arith)),
     )
 
--- one goes, and leaves a free place in its row
+-- a room is removed, and leaves a free place in its row
 pub removed : (k i : ℕ) (rs : List (List ℕ)) → IsFilled rs → i < 4096 →
     4096 * k + i < length (concat rs) →
     HasGap k (set rs k (remove (get_or rs k []) i))
@@ -201,7 +201,7 @@ removed (suc k) i (r ∷ rs) h l m =
           ∙ sym (remove-append_right r (concat rs) 4096 (4096 * suc k + i) f (omega arith)),
     )
 
--- where one stands
+-- the row of a room, and its place there
 pub found : (k i d : ℕ) (rs : List (List ℕ)) → IsFilled rs → i < 4096 →
     4096 * k + i < length (concat rs) →
     (k < length rs) × (i < length (get_or rs k []))
@@ -239,34 +239,34 @@ all_at P (y ∷ ys) zero d l h = h.0
 all_at P (y ∷ ys) (suc k) d l h = all_at P ys k d (omega (arith, l)) h.1
 
 module _ {Z : Type 0} (bs : List (VecDeque ℕ Z)) where
-  -- one has memory
+  -- a block has memory
   pub memory_at : (k : ℕ) (d : VecDeque ℕ Z) → k < length bs → HaveMemory bs →
       4096 ≤ deque_capacity (get_or bs k d)
   memory_at k d l h = all_at (λ b. 4096 ≤ deque_capacity b) bs k d l h.each
 
-  -- the row that a block has
+  -- the row of a block
   pub row_at : (k : ℕ) (d : VecDeque ℕ Z) → k < length bs →
       get_or (rows_of bs) k [] ≡ (get_or bs k d).items
   row_at k d l = get_or-map deque_items bs k d [] l
 
-  -- the row of a free place is that of a block
+  -- the row with the free place is that of a block
   pub gap_block : (k : ℕ) → HasGap k (rows_of bs) → k < length bs
   gap_block k h =
       let l = (gap_row k (rows_of bs) h).0 in
       let n = length-map bs deque_items in omega (arith, l, n)
 
-  -- as many as a block says
+  -- a block has as many rooms as its row
   pub block_len : (k : ℕ) (d : VecDeque ℕ Z) → k < length bs →
       deque_len (get_or bs k d) ≡ length (get_or (rows_of bs) k [])
   block_len k d l = (get_or bs k d).ok.0 ∙ ap length (sym (row_at k d l))
 
-  -- the one before it is full
+  -- the block before the one with the free place is full
   pub full_before : (k : ℕ) (d : VecDeque ℕ Z) → HasGap (suc k) (rows_of bs) →
       deque_len (get_or bs k d) ≡ 4096
   full_before k d h = let l = gap_block (suc k) h in
       block_len k d (omega (arith, l)) ∙ row_before k (rows_of bs) h
 
-  -- it has a free place
+  -- the block has a free place
   pub room_here : (k : ℕ) (d : VecDeque ℕ Z) → HasGap k (rows_of bs) → HaveMemory bs →
       deque_len (get_or bs k d) < deque_capacity (get_or bs k d)
   room_here k d h m =
@@ -275,14 +275,14 @@ module _ {Z : Type 0} (bs : List (VecDeque ℕ Z)) where
       let n = block_len k d l in
       let cap = memory_at k d l m in omega (arith, few, n, cap)
 
-  -- it has a free place, also once another is written
+  -- the block has a free place, also after another one was written
   pub room_at : (k j : ℕ) (b d : VecDeque ℕ Z) → HasGap k (rows_of bs) → HaveMemory bs → k ≢ j →
       deque_len (get_or (set bs j b) k d) < deque_capacity (get_or (set bs j b) k d)
   room_at k j b d h m ne =
       subst (λ (q : VecDeque ℕ Z). deque_len q < deque_capacity q)
       (sym (get_or-set_other bs j k b d ne)) (room_here k d h m)
 
-  -- the one after it holds some, where there are so many
+  -- the block after it has rooms, if there are enough
   pub some_behind : (k : ℕ) → HasGap k (rows_of bs) →
       4096 * suc k ≤ length (concat (rows_of bs)) →
       (k + 1 < length bs) × ((d : VecDeque ℕ Z) → 0 < deque_len (get_or bs (k + 1) d))
@@ -305,7 +305,7 @@ module _ {Z : Type 0} (bs : List (VecDeque ℕ Z)) where
   two_rows i j p q = map-set deque_items (set bs i p) j q
       ∙ ap (λ l. set l j q.items) (map-set deque_items bs i p)
 
-  -- the last room of a block stands first in the next one
+  -- the last room of a block is moved to the front of the next one
   pub block_passed_on : (k : ℕ) (d e r t : VecDeque ℕ Z) (x : ℕ) → HasGap (suc k) (rows_of bs) →
       (get_or bs k d).items ≡ r.items ++ x ∷ [] →
       t.items ≡ x ∷ (get_or (set bs k r) (k + 1) e).items →
@@ -327,7 +327,7 @@ module _ {Z : Type 0} (bs : List (VecDeque ℕ Z)) where
       subst (λ (l : List (List ℕ)). HasGap k l × (concat l ≡ concat (rows_of bs))) (sym rows)
       (passed_on k (rows_of bs) r.items x h (row_at k d (omega (arith, l)) ∙ er))
 
-  -- the first room of the next block stands last in it
+  -- the first room of the next block is moved to the end of a block
   pub block_passed_back : (k : ℕ) (d e r t : VecDeque ℕ Z) (x : ℕ) → HasGap k (rows_of bs) →
       k + 1 < length bs → (get_or bs (k + 1) d).items ≡ x ∷ r.items →
       t.items ≡ (get_or (set bs (k + 1) r) k e).items ++ x ∷ [] →
@@ -348,7 +348,7 @@ module _ {Z : Type 0} (bs : List (VecDeque ℕ Z)) where
       (passed_back k (rows_of bs) x r.items h
       (ap (λ n. get_or (rows_of bs) n []) (sym next) ∙ row_at (k + 1) d l ∙ er))
 
-  -- a room stands in a block
+  -- the block of a room
   pub block_of : (place : ℕ) → IsFilled (rows_of bs) → place < length (concat (rows_of bs)) →
       place / 4096 < length bs
   block_of place h l =
@@ -356,7 +356,7 @@ module _ {Z : Type 0} (bs : List (VecDeque ℕ Z)) where
       (omega (arith, l)) in
       let n = length-map bs deque_items in omega (arith, f.0, n)
 
-  -- and in which place of it
+  -- the place of a room in its block
   pub stands : (place d : ℕ) (e : VecDeque ℕ Z) → IsFilled (rows_of bs) →
       place < length (concat (rows_of bs)) →
       (place % 4096 < deque_len (get_or bs (place / 4096) e))
@@ -373,7 +373,7 @@ module _ {Z : Type 0} (bs : List (VecDeque ℕ Z)) where
             ∙ ap (λ r. get_or r (place % 4096) d) (row_at (place / 4096) e k),
       )
 
-  -- where the last room stands, a place is free
+  -- the block in which the rooms end has a free place
   pub free_behind : (len : ℕ) → IsFilled (rows_of bs) → len ≡ length (concat (rows_of bs)) →
       len < 4096 * length bs → HasGap (len / 4096) (rows_of bs)
   free_behind len h e l =
@@ -385,7 +385,7 @@ module _ {Z : Type 0} (bs : List (VecDeque ℕ Z)) where
       rows_of (set bs k b) ≡ set (rows_of bs) k r
   one_row k b r e = map-set deque_items bs k b ∙ ap (set (rows_of bs) k) e
 
-  -- one comes into a block with a free place
+  -- a room is inserted into a block with a free place
   pub block_inserted : (place x : ℕ) (d b : VecDeque ℕ Z) → HasGap (place / 4096) (rows_of bs) →
       place ≤ length (concat (rows_of bs)) →
       b.items ≡ insert (get_or bs (place / 4096) d).items (place % 4096) x →
@@ -401,7 +401,7 @@ module _ {Z : Type 0} (bs : List (VecDeque ℕ Z)) where
       × (concat rs ≡ insert (concat (rows_of bs)) place x)) (sym rows)
       (f.1, f.2 ∙ ap (λ p. insert (concat (rows_of bs)) p x) whole)
 
-  -- the place is in it
+  -- the place is within the block
   pub place_inside : (place : ℕ) (d : VecDeque ℕ Z) → HasGap (place / 4096) (rows_of bs) →
       place ≤ length (concat (rows_of bs)) →
       place % 4096 ≤ deque_len (get_or bs (place / 4096) d)
@@ -410,7 +410,7 @@ module _ {Z : Type 0} (bs : List (VecDeque ℕ Z)) where
       (omega (arith, l)) in
       let n = block_len (place / 4096) d (gap_block (place / 4096) h) in omega (arith, f.0, n)
 
-  -- one goes from a block
+  -- a room is removed from a block
   pub block_removed : (place : ℕ) (d b : VecDeque ℕ Z) → IsFilled (rows_of bs) →
       place < length (concat (rows_of bs)) →
       b.items ≡ remove (get_or bs (place / 4096) d).items (place % 4096) →
@@ -432,7 +432,7 @@ all_push : {X : Type 0} (P : X → Type 0) (xs : List X) (x : X) → P x → All
 all_push P [] x p h = (p, tt)
 all_push P (y ∷ ys) x p h = (h.0, all_push P ys x p h.1)
 
--- what is done where nothing fails
+-- what is done if nothing fails
 pub done : {X E : Type 0} {P Q : Type 0} (r : Result X E) → OnOk r P → OnErr r Q → (Q → ⊥) → P
 done (Ok x) p q n = p
 done (Err e) p q n = absurd (n q)
@@ -440,7 +440,7 @@ done (Err e) p q n = absurd (n q)
 pub given : {X P : Type 0} (r : Option X) (x : X) → r ≡ Some x → OnSome r P → P
 given {P = P} r x e p = subst (λ o. OnSome o P) e p
 
--- no block
+-- no blocks
 pub none_filled : {Z : Type 0} (bs : List (VecDeque ℕ Z)) → bs ≡ [] →
     AllByRecursion (λ b. 4096 ≤ deque_capacity b) bs × IsFilled (rows_of bs)
     × (concat (rows_of bs) ≡ [])

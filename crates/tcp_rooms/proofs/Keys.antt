@@ -1,4 +1,4 @@
--- The keys of rooms by their places.
+-- The keys of rooms in an order.
 use Rattle.std.proofs.Common.{◌≡◌, ℕ, zero, suc, ◌+◌, ◌<◌, ◌≤◌, true, true≢false, List, [], ◌∷◌, ◌++◌, length, get_or, set, Option, Some, None, is_some, refl, sym, ap, ◌∙◌, subst, arith, inl, inr, Ordering, Less, Equal, Greater}
 use Rattle.std.specs.List.{insert, remove, AllByRecursion}
 use Rattle.std.specs.Option.{option_to_list}
@@ -14,7 +14,7 @@ module _ {K : Type 0} where
   one None h = absurd (true≢false (sym h))
   one (Some k) h = (k, refl)
 
-  -- there are as many
+  -- there are as many keys as rooms
   pub as_many : (last : List (Option K)) (rooms : List ℕ) →
       AllByRecursion (λ room. is_some (get_or last room None) ≡ true) rooms →
       length (keys_of last rooms) ≡ length rooms
@@ -24,7 +24,7 @@ module _ {K : Type 0} where
       let k = one (get_or last r None) h.0 in
       rw k.1 (ap suc (as_many last rs h.1))
 
-  -- no room
+  -- no rooms
   pub none_known : (last : List (Option K)) (rooms : List ℕ) → rooms ≡ [] →
       (keys_of last rooms ≡ []) × (length (keys_of last rooms) ≡ length rooms)
       × AllByRecursion (λ r. is_some (get_or last r None) ≡ true) rooms
@@ -33,7 +33,7 @@ module _ {K : Type 0} where
       × (length (keys_of last rs) ≡ length rs)
       × AllByRecursion (λ r. is_some (get_or last r None) ≡ true) rs) (sym e) (refl, refl, tt)
 
-  -- the key at a place is that of the room
+  -- the key at a place is that of the room at the place
   pub key_at : (last : List (Option K)) (rooms : List ℕ) (place : ℕ) (k d : K) →
       AllByRecursion (λ room. is_some (get_or last room None) ≡ true) rooms → place < length rooms →
       get_or last (get_or rooms place 0) None ≡ Some k → k ≡ get_or (keys_of last rooms) place d
@@ -44,7 +44,7 @@ module _ {K : Type 0} where
       let j = one (get_or last r None) h.0 in
       rw j.1 (key_at last rs place k d h.1 (omega (arith, l)) e)
 
-  -- another room's key is written
+  -- the keys stay if that of another room is written
   same_keys : (last : List (Option K)) (rooms : List ℕ) (room : ℕ) (k : K) →
       ((place : ℕ) → place < length rooms → get_or rooms place 0 ≡ room → ⊥) →
       keys_of (set last room (Some k)) rooms ≡ keys_of last rooms
@@ -55,7 +55,7 @@ module _ {K : Type 0} where
       rw e (ap (λ l. option_to_list (get_or last r None) ++ l)
       (same_keys last rs room k (λ place l. h (suc place) (omega (arith, l)))))
 
-  -- a key comes
+  -- after a key was added
   pub keys_insert : (last : List (Option K)) (rooms : List ℕ) (place room : ℕ) (k : K) →
       AllByRecursion (λ room. is_some (get_or last room None) ≡ true) rooms →
       room < length last → place ≤ length rooms →
@@ -73,7 +73,7 @@ module _ {K : Type 0} where
       rw e (rw j.1 (ap (λ l. j.0 ∷ l) (keys_insert last rs place room k h.1 b (omega (arith, l))
       (λ place l. f (suc place) (omega (arith, l))))))
 
-  -- a key goes
+  -- after a key was removed
   pub keys_remove : (last : List (Option K)) (rooms : List ℕ) (place : ℕ) →
       AllByRecursion (λ room. is_some (get_or last room None) ≡ true) rooms →
       keys_of last (remove rooms place) ≡ remove (keys_of last rooms) place
@@ -102,7 +102,7 @@ module _ {K : Type 0} where
   all_set last [] room k b h = tt
   all_set last (r ∷ rs) room k b h = (known_set last room r k b h.0, all_set last rs room k b h.1)
 
-  -- those that are known stay so where a key comes, and where one goes
+  -- the rooms have keys after one was added or removed
   pub known_insert : (last : List (Option K)) (rooms : List ℕ) (place room : ℕ) (k : K) →
       AllByRecursion (λ r. is_some (get_or last r None) ≡ true) rooms → room < length last →
       AllByRecursion (λ r. is_some (get_or (set last room (Some k)) r None) ≡ true)
@@ -122,7 +122,7 @@ module _ {K : Type 0} where
   known_remove last (r ∷ rs) zero h = h.1
   known_remove last (r ∷ rs) (suc place) h = (h.0, known_remove last rs place h.1)
 
-  -- a room that has a place has a key
+  -- a room in the order has a key
   pub known_at : (last : List (Option K)) (rooms : List ℕ) (place : ℕ) →
       AllByRecursion (λ r. is_some (get_or last r None) ≡ true) rooms → place < length rooms →
       (get_or rooms place 0 < length last)
@@ -137,7 +137,7 @@ module _ {K : Type 0} where
   )
   known_at last (r ∷ rs) (suc place) h l = known_at last rs place h.1 (omega (arith, l))
 
--- ---- What a search by halves has left.
+-- ---- What is left to search in a binary search.
 
 low_end : (o : Ordering) → ordering_index o ≤ 0 → o ≡ Less
 low_end Less h = refl
@@ -150,7 +150,7 @@ high_end Equal h = absurd (omega (arith, h))
 high_end Greater h = refl
 
 module _ {X : Type 0} (ord : X → Ordering) (xs : List X) where
-  -- where the answers rise, all before a place are less, and all from another on are greater
+  -- if the answers ascend, all keys before `low` are less, and all from `high` on are greater
   pub record IsLeft (low high : ℕ) : Type 0 where
     pub less : IsNonDecreasingBy (λ y. ordering_index (ord y)) xs →
         AllWithin (λ y. ord y ≡ Less) xs 0 low

@@ -1,14 +1,15 @@
--- Which leaves stand below a node of a tree of ranks, and that the one that is found has the least.
+-- Which leaves are below a node in a tree of ranks, and that the leaf that is found has the least
+-- rank.
 use Rattle.std.proofs.Common.{◌≡◌, ◌⊎◌, ℕ, zero, suc, ◌+◌, ◌-◌, ◌*◌, ◌/◌, ◌<◌, ◌≤◌, List, get_or, refl, sym, ap, ◌∙◌, subst, arith, inl, inr}
 use Rattle.std.proofs.lemmas.Bool.{cases_eq, cases_lt, cases_order}
 use Rattle.tcp_rooms.specs.Ranks.{IsTree, IsFirst}
 
--- the place so many nodes above another
+-- the node that is `t` steps above a node
 unfoldable pub up : ℕ → ℕ → ℕ
 up zero j = j
 up (suc t) j = up t (j / 2)
 
--- a place is above another, or is it
+-- a node is above another one, or is the same
 pub record IsAbove (i j : ℕ) : Type 0 where
   pub steps : ℕ
   pub is : up steps j ≡ i
@@ -55,7 +56,7 @@ halves : (i j : ℕ) → j / 2 ≡ i → (j ≡ 2 * i) ⊎ (j ≡ 2 * i + 1)
 halves i j e =
     elim (cases_eq j (2 * i)) [ inl o ↦ inl o | inr ne ↦ inr (omega (arith, e, ne)) ]
 
--- what stands below a node stands below one of its children, or is one
+-- a node below another one is below one of its children, or is the same
 below_child : (t i j : ℕ) → up t j ≡ i → (j ≡ i → ⊥) → IsAbove (2 * i) j ⊎ IsAbove (2 * i + 1) j
 unfolding up
 below_child zero i j h ne = absurd (ne h)
@@ -71,7 +72,7 @@ below_child (suc t) i j h ne =
       ]
     ]
 
--- a node has no greater rank than what stands below it
+-- a node has no greater rank than the nodes below it
 least_by : (rooms : ℕ) (nodes : List ℕ) → IsTree rooms nodes → (t i j : ℕ) → up t j ≡ i → 1 ≤ i →
     j < 2 * rooms → get_or nodes i 0 ≤ get_or nodes j 0
 unfolding up
@@ -95,7 +96,7 @@ root_least rooms nodes h j some l =
     let a = root_above j j (omega arith) some in
     least_by rooms nodes h a.steps 1 j a.is (omega arith) l
 
--- a leaf below a node that has its rank
+-- a leaf below a node that has the same rank
 record IsLeafOf (rooms : ℕ) (nodes : List ℕ) (i : ℕ) : Type 0 where
   place : ℕ
   above : IsAbove i place
@@ -138,7 +139,7 @@ leaf_of rooms nodes h (suc n) i l some within =
       }
     ]
 
--- nothing stands below both children of a node
+-- no node is below both children of a node
 no_child_both : (i j t s : ℕ) → 1 ≤ i → up t j ≡ 2 * i → up s j ≡ 2 * i + 1 → ⊥
 unfolding up
 no_child_both i j t s some left right =
@@ -158,7 +159,7 @@ no_child_both i j t s some left right =
           omega (arith, low, at, own, left, right, some))
     ]
 
--- a node has the least rank, and each leaf that doesn't stand below it has a greater one
+-- a node has the least rank, and each leaf that isn't below it has a greater one
 pub record Leads (rooms : ℕ) (nodes : List ℕ) (node : ℕ) : Type 0 where
   pub some : 1 ≤ node
   pub within : node < 2 * rooms
@@ -174,7 +175,7 @@ root_leads rooms nodes some = record {
   others = λ j first last. inl (root_above j j (omega arith) (omega (arith, first, some)));
 }
 
--- of the leaves below a node, those below its other child have a greater rank
+-- of the leaves below a node, those below the child of greater rank have a greater rank
 others_by : (rooms : ℕ) (nodes : List ℕ) (c d j : ℕ) → IsTree rooms nodes →
     get_or nodes c 0 ≡ get_or nodes 1 0 → get_or nodes c 0 < get_or nodes d 0 → 1 ≤ d →
     j < 2 * rooms →
@@ -252,7 +253,7 @@ leaf_first rooms nodes node room a e = record {
       ];
 }
 
--- a leaf that has the least rank beside the first room's is the first room's
+-- a leaf of the least rank is the first room's, if there is a first room
 first_leaf : (rooms : ℕ) (nodes : List ℕ) (room place : ℕ) → IsTree rooms nodes →
     IsFirst rooms nodes room → rooms ≤ place → place < 2 * rooms →
     get_or nodes place 0 ≡ get_or nodes 1 0 → place ≡ rooms + room
@@ -268,7 +269,7 @@ first_leaf rooms nodes room place h f first last same =
           absurd (omega (arith, less, own, low, same)))
     ]
 
--- no room is the first where both children of a node that leads have one rank
+-- no room is the first if both children of a node that leads have the same rank
 pub none_first : (rooms : ℕ) (nodes : List ℕ) (node : ℕ) → IsTree rooms nodes →
     Leads rooms nodes node → node < rooms →
     get_or nodes (2 * node) 0 ≡ get_or nodes (2 * node + 1) 0 → (room : ℕ) →

@@ -7,7 +7,7 @@ abbrev pub IsLesser : List ℕ → ℕ → Type 0
 IsLesser nodes i =
     get_or nodes i 0 ≡ min (get_or nodes (2 * i) 0) (get_or nodes (2 * i + 1) 0)
 
--- each node but the one above a place
+-- a tree, apart from the node above this one
 pub record IsTreeBut (rooms place : ℕ) (nodes : List ℕ) : Type 0 where
   pub size : length nodes ≡ 2 * rooms
   pub least : (i : ℕ) → 1 ≤ i → i < rooms → (i ≡ place / 2 → ⊥) → IsLesser nodes i

@@ -1,11 +1,11 @@
--- Rooms by their places in an order: the blocks that hold them (state).
+-- Rooms in an order: the blocks that hold them (state).
 use Rattle.std.specs.Prelude.{◌≡◌, ℕ, zero, suc, ◌*◌, ◌<◌, ◌≤◌, List, [], ◌∷◌, length, map}
 use Rattle.std.specs.List.{AllByRecursion, concat}
 use Rattle.std.specs.VecDeque.{deque_items, deque_capacity}
 use Rattle.std.specs.declared.collections.VecDeque.{VecDeque}
 use Rattle.tcp_rooms.specs.declared.order.Order.TheInside.{Inside}
 
--- the rooms in their order, and how many there is memory for
+-- the rooms in order, and how many there is memory for
 pub record OrderView : Type 0 where
   pub items : List ℕ
   pub most : ℕ
@@ -14,17 +14,17 @@ pub record OrderView : Type 0 where
 abbrev pub rows_of : {Z : Type 0} → List (VecDeque ℕ Z) → List (List ℕ)
 rows_of blocks = map deque_items blocks
 
--- there are few blocks, and each has memory for 4,096 rooms
+-- there are few blocks, and each has memory for a full block of rooms
 pub record HaveMemory {Z : Type 0} (blocks : List (VecDeque ℕ Z)) : Type 0 where
   pub few : length blocks ≤ 17
   pub each : AllByRecursion (λ b. 4096 ≤ deque_capacity b) blocks
 
--- each row is full, but the last that isn't empty
+-- each row is full, apart from the last one that isn't empty
 unfoldable pub IsFilled : List (List ℕ) → Type 0
 IsFilled [] = Unit {0}
 IsFilled (r ∷ rs) = (length r ≤ 4096) × (length r < 4096 → concat rs ≡ []) × IsFilled rs
 
--- the same but for one row, which has a free place
+-- the same, but one row has a free place
 unfoldable pub HasGap : ℕ → List (List ℕ) → Type 0
 HasGap k [] = ⊥
 HasGap zero (r ∷ rs) = (length r < 4096) × (suc (length r) < 4096 → concat rs ≡ []) × IsFilled rs
@@ -36,7 +36,7 @@ order_of a = record {
   most = 4096 * length a.blocks.items;
 }
 
--- the rows are filled, and it is known how many rooms they hold
+-- the blocks are filled, their rooms are counted, and they have memory
 pub record IsKept (a : Inside) : Type 0 where
   pub filled : IsFilled (rows_of a.blocks.items)
   pub counted : a.len ≡ length (concat (rows_of a.blocks.items))

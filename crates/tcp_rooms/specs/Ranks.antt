@@ -1,7 +1,7 @@
 -- The ranks of rooms in a tree, and which room has the least (meaning).
 use Rattle.std.specs.Prelude.{◌≡◌, ℕ, ◌+◌, ◌*◌, ◌<◌, ◌≤◌, List, length, get_or, min}
 
--- each of so many nodes has the lesser rank of its two children; as many leaves stand after them
+-- each node has the lesser rank of its two children; there are `rooms` leaves, which come last
 pub record IsTree (rooms : ℕ) (nodes : List ℕ) : Type 0 where
   pub size : length nodes ≡ 2 * rooms
   pub least : (i : ℕ) → 1 ≤ i → i < rooms →
@@ -15,7 +15,7 @@ rank_at rooms nodes room = get_or nodes (rooms + room) 0
 abbrev pub AreLeaves : ℕ → List ℕ → List ℕ → Type 0
 AreLeaves rooms new old = (i : ℕ) → rooms ≤ i → get_or new i 0 ≡ get_or old i 0
 
--- a room has a lesser rank than each other
+-- the rank of a room is less than that of each other room
 pub record IsFirst (rooms : ℕ) (nodes : List ℕ) (room : ℕ) : Type 0 where
   pub within : room < rooms
   pub least : (other : ℕ) → other < rooms → (other ≡ room → ⊥) →

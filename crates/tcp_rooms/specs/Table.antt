@@ -4,13 +4,13 @@ use Rattle.std.specs.Option.{option_to_list}
 use Rattle.std.specs.List.{AllByRecursion}
 use Rattle.tcp_rooms.specs.Order.{OrderView}
 
--- the keys that are known, in their order, the room of each, and how many there may be
+-- the keys that are known, in order, the room of each, and how many keys there may be
 pub record TableView (K : Type 0) : Type 0 where
   pub keys : List K
   pub rooms : List ℕ
   pub most : ℕ
 
--- the keys that these rooms had last
+-- the last key of each of these rooms
 unfoldable pub keys_of : {K : Type 0} → List (Option K) → List ℕ → List K
 keys_of last [] = []
 keys_of last (room ∷ rooms) = option_to_list (get_or last room None) ++ keys_of last rooms
@@ -19,7 +19,7 @@ abbrev pub table_of : {K : Type 0} → List (Option K) → OrderView → ℕ →
 table_of last order most =
     record { keys = keys_of last order.items; rooms = order.items; most = most }
 
--- each room that has a place has a key, and there is memory for all
+-- each room in the order has a key, and there is memory for all keys
 pub record IsTable {K : Type 0} (last : List (Option K)) (order : OrderView) (most : ℕ)
     : Type 0 where
   pub few : most ≤ 65536

@@ -6,7 +6,7 @@ ghost use Rattle.tcp_rooms.specs.Rooms.{rooms_below};
 
 use std::alloc::{AllocError, Global};
 
-/// The rooms that are free. The one that became free last is taken first.
+/// The rooms that are free. The room that became free last is taken first.
 #[derive(Drop)]
 pub struct FreeRooms {
     free: Vec<u32>,
@@ -15,7 +15,7 @@ pub struct FreeRooms {
 }
 
 impl FreeRooms {
-    /// The rooms below `most` are free. No other call allocates.
+    /// All rooms below `most` are free. No other call allocates.
     #[tactic(auto, unfolding(crate::specs::Rooms::rooms_below))]
     pub fn new(alloc: Global, most: u32) -> Result<FreeRooms, AllocError>
         ensures free { IfOk result (λ f. f.free.items ≡ rooms_below most) }
@@ -30,7 +30,7 @@ impl FreeRooms {
         Ok(FreeRooms { free, most })
     }
 
-    /// A free room, which is free no longer. None where no room is free.
+    /// Takes a free room. None if no room is free.
     pub fn take(&mut self) -> Option<u32>
         ensures none { (result ≡ None) → self.old.free.items ≡ [] }
         ensures some { (room : ℕ) → (result ≡ Some room)
@@ -41,7 +41,7 @@ impl FreeRooms {
         self.free.pop()
     }
 
-    /// A room is free from now on.
+    /// Makes a room free.
     pub fn give_back(&mut self, room: u32)
         requires { vec_len self.old.free < self.old.most }
         ensures free { self.new.free.items ≡ self.old.free.items ++ room ∷ [] }

@@ -1,5 +1,5 @@
-//! Rooms for what is known of each connection: which room a key has, which rooms are free, when each was last used, and which
-//! has the least rank. All memory is allocated when they are made.
+//! Rooms for what is known of each connection: which room a key has, which rooms are free, when
+//! each was last used, and which has the least rank. All memory is allocated when they are made.
 #![tactic(auto)]
 
 mod free_rooms;

@@ -1,4 +1,5 @@
-//! Rooms by their places in an order, in memory that is allocated once: where one comes or goes, few others are moved.
+//! Rooms in an order, in memory that is allocated once. When a room comes or goes, few others are
+//! moved.
 
 ghost use Rattle.std.specs.Prelude.{◌≡◌, ◌≤◌, ◌<◌, ◌*◌, suc, [], IfOk, get_or, length};
 ghost use Rattle.std.specs.List.{insert, remove, concat};
@@ -11,7 +12,7 @@ use std::marker::Model;
 /// How many rooms a block holds.
 const BLOCK: usize = 4096;
 
-/// Rooms by their places. Each block is full but the last that holds any.
+/// Rooms in an order. Each block is full, apart from the last one that isn't empty.
 #[derive(Drop)]
 pub(crate) struct Order {
     blocks: Vec<VecDeque<u16>>,
@@ -29,7 +30,8 @@ impl Model for Order {
 }
 
 impl Order {
-    /// No room has a place. There is memory for at least so many; no other call allocates.
+    /// An order without rooms. There is memory for at least `most` rooms, and no other call
+    /// allocates.
     pub(crate) fn new(alloc: Global, most: usize) -> Result<Order, AllocError>
         requires { most ≤ 65536 }
         ensures items { IfOk result (λ o. o.items ≡ []) }
@@ -44,7 +46,7 @@ impl Order {
         Ok(Order { blocks, len: 0 })
     }
 
-    /// How many rooms have a place.
+    /// How many rooms there are.
     pub(crate) fn len(&self) -> usize
         ensures { result ≡ length self.now.items }
     {
@@ -59,7 +61,7 @@ impl Order {
         u32::from(self.blocks[place / BLOCK][place % BLOCK])
     }
 
-    /// A room has a place from now on, and those that stand there and after it the next ones.
+    /// Inserts a room at a place. The rooms from there on move one place on.
     pub(crate) fn insert(&mut self, place: usize, room: u16)
         requires place { place ≤ length self.old.items }
         requires some { length self.old.items < self.old.most }
@@ -70,7 +72,7 @@ impl Order {
         self.len += 1;
     }
 
-    /// The room at a place goes, and those after it have the places before theirs. Answers the room.
+    /// Removes the room at a place. The rooms after it move one place back. Answers the room.
     pub(crate) fn remove(&mut self, place: usize) -> u32
         requires { place < length self.old.items }
         ensures items { self.new.items ≡ remove self.old.items place }
@@ -84,7 +86,8 @@ impl Order {
     }
 }
 
-/// A room has a place from now on. The place that is free behind the last room becomes one of the block where it stands.
+/// Inserts a room at a place. The free place after the last room is moved to the block of that
+/// place.
 fn put_in(blocks: &mut [VecDeque<u16>], len: usize, place: usize, room: u16)
     requires memory { HaveMemory blocks.old }
     requires filled { IsFilled (rows_of blocks.old) }
@@ -98,11 +101,11 @@ fn put_in(blocks: &mut [VecDeque<u16>], len: usize, place: usize, room: u16)
 {
     let block = place / BLOCK;
     open_gap(blocks, len / BLOCK, block);
-    // It doesn't fail: a place of the block is free.
+    // It can't fail: the block has a free place.
     let _inserted = blocks[block].insert(place % BLOCK, room);
 }
 
-/// The room at a place goes. The place that it leaves free becomes one behind the last room.
+/// Removes the room at a place. The place that becomes free is moved to the end.
 fn take_out(blocks: &mut [VecDeque<u16>], len: usize, place: usize)
     requires memory { HaveMemory blocks.old }
     requires filled { IsFilled (rows_of blocks.old) }
@@ -118,7 +121,7 @@ fn take_out(blocks: &mut [VecDeque<u16>], len: usize, place: usize)
     close_gap(blocks, block, (len - 1) / BLOCK);
 }
 
-/// The free place of one block is one of an earlier block from now on.
+/// Moves a free place from one block to an earlier one.
 fn open_gap(blocks: &mut [VecDeque<u16>], from: usize, to: usize)
     requires memory { HaveMemory blocks.old }
     requires gap { HasGap from (rows_of blocks.old) }
@@ -135,7 +138,7 @@ fn open_gap(blocks: &mut [VecDeque<u16>], from: usize, to: usize)
     }
 }
 
-/// The free place of one block is one of a later block from now on, where the blocks before that one stay full.
+/// Moves a free place from one block to a later one. The blocks before that one stay full.
 fn close_gap(blocks: &mut [VecDeque<u16>], from: usize, to: usize)
     requires memory { HaveMemory blocks.old }
     requires gap { HasGap from (rows_of blocks.old) }
@@ -153,7 +156,7 @@ fn close_gap(blocks: &mut [VecDeque<u16>], from: usize, to: usize)
     }
 }
 
-/// The last room of a block stands first in the next block from now on, which has a free place.
+/// Moves the last room of a block to the front of the next block, which has a free place.
 fn pass_on(blocks: &mut [VecDeque<u16>], block: usize)
     requires memory { HaveMemory blocks.old }
     requires gap { HasGap (suc block) (rows_of blocks.old) }
@@ -167,7 +170,7 @@ fn pass_on(blocks: &mut [VecDeque<u16>], block: usize)
     }
 }
 
-/// The first room of the block after one that has a free place stands last in that one from now on.
+/// Moves the first room of the next block to the end of a block that has a free place.
 fn pass_back(blocks: &mut [VecDeque<u16>], block: usize)
     requires memory { HaveMemory blocks.old }
     requires gap { HasGap block (rows_of blocks.old) }

@@ -1,5 +1,5 @@
-//! Which room has the least rank: a tree of which each node has the lesser rank of its two children, in memory that is
-//! allocated once.
+//! Which room has the least rank, in memory that is allocated once: a tree in which each node has
+//! the lesser rank of its two children.
 
 ghost use Rattle.std.specs.Prelude.{◌≡◌, ◌≤◌, ◌<◌, ◌*◌, ℕ, length, set, cond, nat_eq, get_or, IfOk, IfSome, None};
 ghost use Rattle.std.proofs.Props.{props};
@@ -7,29 +7,32 @@ ghost use Rattle.tcp_rooms.specs.Ranks.{IsTree, IsFirst, AreLeaves, rank_at};
 
 use std::alloc::{AllocError, Global};
 
-/// The ranks of rooms. One is changed, and the room of the least is found, in as many steps as the tree is high.
+/// The ranks of rooms. To change one, or to find the room of the least, takes as many steps as the
+/// tree is high.
 #[derive(Drop)]
 pub struct Ranks {
-    /// The root stands at 1, and the children of a node at twice its place and after that. The ranks themselves stand last.
+    /// The root is at index 1. The children of the node at index i are at 2i and 2i + 1. The ranks
+    /// of the rooms come last.
     nodes: Vec<u128>,
     rooms: usize,
     ghost some: { 1 ≤ rooms },
-    ghost most: { rooms ≤ 65536 },
+    ghost most: { rooms ≤ 131072 },
     ghost tree: { IsTree rooms nodes.items } by { Prim.hlevel props },
 }
 
 impl Ranks {
-    /// So many rooms, each with the rank 0. No other call allocates.
-    pub fn new(alloc: Global, rooms: usize) -> Result<Ranks, AllocError>
-        requires { (1 ≤ rooms) × (rooms ≤ 65536) }
+    /// Makes this many rooms, each with this rank. No other call allocates.
+    pub fn new(alloc: Global, rooms: usize, rank: u128) -> Result<Ranks, AllocError>
+        requires { (1 ≤ rooms) × (rooms ≤ 131072) }
         ensures rooms { IfOk result (λ r. r.rooms ≡ rooms) }
-        ensures ranks { IfOk result (λ r. (room : ℕ) → rank_at r.rooms r.nodes.items room ≡ 0) }
+        ensures ranks { IfOk result (λ r. (room : ℕ) → room < rooms
+            → rank_at r.rooms r.nodes.items room ≡ rank) }
     {
-        let nodes = vec![in alloc; 0; 2 * rooms]?;
+        let nodes = vec![in alloc; rank; 2 * rooms]?;
         Ok(Ranks { nodes, rooms })
     }
 
-    /// A room has this rank from now on.
+    /// Sets the rank of a room. There is no effect if there is no such room.
     pub fn set(&mut self, room: u32, rank: u128)
         ensures rooms { self.new.rooms ≡ self.old.rooms }
         ensures ranks { (other : ℕ) → other < self.old.rooms
@@ -54,7 +57,7 @@ impl Ranks {
         self.nodes[self.rooms + room as usize]
     }
 
-    /// The room that has a lesser rank than each other. None if there is no such room.
+    /// The room whose rank is less than that of each other room. None if there is no such room.
     pub fn first(&self) -> Option<u32>
         ensures some { IfSome result (λ room. IsFirst self.now.rooms self.now.nodes.items room) }
         ensures none { (result ≡ None) → (room : ℕ)
@@ -73,11 +76,11 @@ impl Ranks {
     }
 }
 
-/// A leaf has this rank from now on, and each node above it the lesser one of its children.
+/// Sets the rank of a leaf. Each node above it gets the lesser rank of its two children.
 fn put(nodes: &mut [u128], rooms: usize, leaf: usize, rank: u128)
     requires tree { IsTree rooms nodes.old }
     requires leaf { (rooms ≤ leaf) × (leaf < 2 * rooms) }
-    requires most { rooms ≤ 65536 }
+    requires most { rooms ≤ 131072 }
     ensures tree { IsTree rooms nodes.new }
     ensures leaves { AreLeaves rooms nodes.new (set nodes.old leaf rank) }
 {

@@ -1,5 +1,5 @@
-//! Which room a key has: the keys by their rooms, and the rooms in the order of their keys, searched by halves, in memory that
-//! is allocated once.
+//! Which room a key has, in memory that is allocated once: the key of each room, and the rooms in
+//! the order of their keys, so that a key is found by binary search.
 
 ghost use Rattle.std.specs.Prelude.{◌≡◌, ◌≤◌, ◌<◌, [], ℕ, length, IfOk, IfSome, None, get_or, nat_le};
 ghost use Rattle.std.specs.List.{insert, remove};
@@ -10,13 +10,13 @@ use std::alloc::{AllocError, Global};
 use std::cmp::Ordering;
 use std::marker::Model;
 
-/// The keys that are known, in their order, and the room of each. Nothing that the keys are makes it slower than a search
-/// by halves, and a key that comes or goes moves few others' rooms and no key.
+/// The keys that are known, in order, and the room of each. A search takes no longer for any choice
+/// of keys. When a key comes or goes, few rooms are moved, and no key.
 #[derive(Drop)]
 pub struct RoomTable<K: Ord> {
-    /// The key that each room had last.
+    /// The last key that each room had.
     last: Vec<Option<K>>,
-    /// The rooms that keys have, by the order of these.
+    /// The rooms that keys have, in the order of the keys.
     order: Order,
     most: usize,
 }
@@ -32,7 +32,7 @@ impl<K: Ord> Model for RoomTable<K> {
 }
 
 impl<K: Ord + Copy> RoomTable<K> {
-    /// A table of no key, with memory for at most so many. No other call allocates.
+    /// A table without keys, with memory for at most `most`. No other call allocates.
     pub fn new(alloc: Global, most: usize) -> Result<RoomTable<K>, AllocError>
         requires { most ≤ 65536 }
         ensures keys { IfOk result (λ t. t.keys ≡ []) }
@@ -51,14 +51,14 @@ impl<K: Ord + Copy> RoomTable<K> {
         self.order.len()
     }
 
-    /// Whether as many keys are known as may be.
+    /// Whether no more keys may be known.
     pub fn is_full(&self) -> bool
         ensures { result ≡ nat_le self.now.most (length self.now.keys) }
     {
         self.order.len() >= self.most
     }
 
-    /// The place of a key in the order of the keys, or the one where it would stand.
+    /// The place of a key in the order of the keys, or the place at which it would be inserted.
     pub fn place(&self, key: &K) -> Result<usize, usize>
         ensures place { IsBinarySearchResult (λ y. K.cmp y key.now) self.now.keys result }
         ensures range { IsSearchInRange result (length self.now.keys) }
@@ -87,7 +87,7 @@ impl<K: Ord + Copy> RoomTable<K> {
         }
     }
 
-    /// The key that a room had last.
+    /// The last key that a room had.
     pub fn last_key(&self, room: u32) -> Option<&K>
         ensures { IfSome result (λ key. (place : ℕ) (default : K) → place < length self.now.rooms
             → get_or self.now.rooms place 0 ≡ room
@@ -107,7 +107,8 @@ impl<K: Ord + Copy> RoomTable<K> {
         self.order.at(place)
     }
 
-    /// The place of the key that has a room: that of the one that it had last, or else by a walk.
+    /// The place of the key that has a room. The last key of the room is looked at first, and then
+    /// all keys.
     pub fn place_of_room(&self, room: u32) -> Option<usize>
         ensures none { (result ≡ None) → (place : ℕ) → place < length self.now.rooms
             → get_or self.now.rooms place 0 ≡ room → ⊥ }
@@ -120,7 +121,7 @@ impl<K: Ord + Copy> RoomTable<K> {
         }
     }
 
-    /// The place of the key that a room had last, if it has it still.
+    /// The place of the last key of a room, if the key still has this room.
     fn place_of_last(&self, room: u32) -> Option<usize>
         ensures { IfSome result (λ place. (place < length self.now.rooms)
             × (get_or self.now.rooms place 0 ≡ room)) }
@@ -137,7 +138,7 @@ impl<K: Ord + Copy> RoomTable<K> {
         None
     }
 
-    /// The place of the key that has a room, by a walk over all.
+    /// The place of the key that has a room, found by looking at each place.
     fn walk(&self, room: u32) -> Option<usize>
         ensures none { (result ≡ None) → (place : ℕ) → place < length self.now.rooms
             → get_or self.now.rooms place 0 ≡ room → ⊥ }
@@ -154,7 +155,7 @@ impl<K: Ord + Copy> RoomTable<K> {
         None
     }
 
-    /// A key has a room from now on, which no other key has.
+    /// Gives a key a room that no other key has.
     pub fn add(&mut self, place: usize, key: K, room: u32)
         requires place { place ≤ length self.old.keys }
         requires some { length self.old.keys < self.old.most }
@@ -169,7 +170,7 @@ impl<K: Ord + Copy> RoomTable<K> {
         self.order.insert(place, room as u16);
     }
 
-    /// The key at a place is forgotten, and its memory kept. Answers the room that it had.
+    /// Forgets the key at a place, and keeps its memory. Answers the room that the key had.
     pub fn forget(&mut self, place: usize) -> u32
         requires { place < length self.old.keys }
         ensures keys { self.new.keys ≡ remove self.old.keys place }

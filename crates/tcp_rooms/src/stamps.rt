@@ -5,14 +5,14 @@ ghost use Rattle.std.specs.Vec.{vec_len, vec_capacity};
 
 use std::alloc::{AllocError, Global};
 
-/// The stamp of each room: a number that rises with each use of any room.
+/// The stamp of each room: a number that grows with each use of any room.
 #[derive(Drop)]
 pub struct Stamps {
     last: Vec<u64>,
 }
 
 impl Stamps {
-    /// The stamps of so many rooms, all 0. No other call allocates.
+    /// Stamps of `rooms` rooms, all 0. No other call allocates.
     pub fn new(alloc: Global, rooms: usize) -> Result<Stamps, AllocError>
         ensures { IfOk result (λ s. s.last.items ≡ replicate rooms 0) }
     {
@@ -20,7 +20,7 @@ impl Stamps {
         Ok(Stamps { last })
     }
 
-    /// A room is used.
+    /// Notes the use of a room.
     pub fn note(&mut self, room: u32, stamp: u64)
         requires { room < vec_len self.old.last }
         ensures last { self.new.last.items ≡ set self.old.last.items room stamp }
@@ -30,7 +30,7 @@ impl Stamps {
         self.last[room as usize] = stamp;
     }
 
-    /// When a room was last used.
+    /// The stamp of the last use of a room.
     pub fn last(&self, room: u32) -> u64
         requires { room < vec_len self.now.last }
         ensures { result ≡ get_or self.now.last.items room 0 }

@@ -18,7 +18,7 @@ const RANKS: [(u32, u128, Option<u32>); 9] = [
 
 #[test]
 fn the_room_of_the_least_rank_is_first(rt: HostRuntime) -> Result<(), Fail> {
-    let mut ranks = Ranks::new(rt.alloc(), 5)?;
+    let mut ranks = Ranks::new(rt.alloc(), 5, 0)?;
     for (room, rank, first) in RANKS {
         ranks.set(room, rank);
         assert_eq!(rt; ranks.first(), first, "rank {rank} of room {room}");

@@ -1,4 +1,5 @@
 pub mod Ids
+pub mod Last
 pub mod Order
 pub mod Placed
 pub mod Stamped

@@ -1,7 +1,7 @@
 //! The places of flows in an order. If an id goes, its place stays, but has no id.
 
-ghost use Rattle.std.specs.Prelude.{◌≡◌, ◌≤◌, ◌<◌, ◌++◌, ◌∷◌, [], eqb, false, length, get_or, IfSome, None};
-ghost use Rattle.std.specs.List.{AllByRecursion};
+ghost use Rattle.std.specs.Prelude.{◌≡◌, ◌≤◌, ◌<◌, ◌++◌, ◌∷◌, [], ℕ, List, eqb, false, length, get_or, IfSome, None};
+ghost use Rattle.std.specs.List.{AllByRecursion, last_or};
 ghost use Rattle.std.specs.Vec.{vec_capacity};
 ghost use Rattle.tcp_streams.specs.Lives.{without, most_ids, index_of};
 ghost use Rattle.tcp_streams.specs.Places.{IsQueue, ids_of, place_of as spec_place_of};
@@ -140,6 +140,25 @@ pub(crate) fn make_place(ids: &mut Vec<u32>, stamps: &mut Stamps, front: &mut Fr
     if ids.len() >= PLACES {
         pack(ids, stamps, front);
     }
+}
+
+/// The id that stands last. Gives up the places after it.
+pub(crate) fn last_id(ids: &mut Vec<u32>, front: &mut Front) -> Option<u32>
+    ensures last { result ≡ last_or None (ids_of ids.old.items) }
+    ensures queue { (stamps : List ℕ)
+        → IsQueue ids.old.items stamps front.old.places front.old.count
+        → IsQueue ids.new.items stamps front.new.places front.new.count }
+    ensures items { ids_of ids.new.items ≡ ids_of ids.old.items }
+    ensures capacity { vec_capacity ids.new ≡ vec_capacity ids.old }
+{
+    while let Some(id) = ids.last().copied() {
+        if id < MOST_IDS {
+            return Some(id);
+        }
+        ids.pop();
+        front.places = ids.len();
+    }
+    None
 }
 
 /// Gives up the places without an id.

@@ -2,11 +2,13 @@
 //! aren't moved.
 
 ghost use Rattle.std.specs.Prelude.{◌≡◌, ◌≤◌, ◌<◌, ◌^◌, [], length, get_or, IfOk, IfSome, None};
+ghost use Rattle.std.specs.List.{last_or};
 ghost use Rattle.tcp_streams.specs.Lives.{without, begun, elder_side};
 
 use crate::pair::Side;
 use crate::places::{
-    Front, MOST_IDS, PLACES, first_side, make_place, pack, place_of, push, take_away, walk_to,
+    Front, MOST_IDS, PLACES, first_side, last_id, make_place, pack, place_of, push, take_away,
+    walk_to,
 };
 use crate::sides::flow_id;
 use crate::stamps::Stamps;
@@ -72,6 +74,14 @@ impl Queue {
             return None;
         }
         Some(self.ids[self.front.places + after])
+    }
+
+    /// The id that comes last. Gives up the places after it.
+    pub(crate) fn last(&mut self) -> Option<u32>
+        ensures last { result ≡ last_or None self.old.items }
+        ensures items { self.new.items ≡ self.old.items }
+    {
+        last_id(&mut self.ids, &mut self.front)
     }
 
     /// Which of the two flows of a room stands first.

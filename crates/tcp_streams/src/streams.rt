@@ -2,6 +2,7 @@
 //! which they began; and the listener to which they are told.
 
 ghost use Rattle.std.specs.Prelude.{◌≡◌, ◌≤◌, ◌<◌, ◌^◌, [], length, get_or, IfOk, IfSome, None};
+ghost use Rattle.std.specs.List.{last_or};
 ghost use Rattle.tcp_streams.specs.Lives.{lives, ended, elder_side};
 
 use crate::pair::Side;
@@ -41,6 +42,16 @@ impl<L: Listener + Drop> Streams<L> {
         ensures few { IfSome result (λ id. rank < 262144) }
     {
         self.live.at(rank)
+    }
+
+    /// The flow of the stream that began last, among those that live or were closed by a gap or by
+    /// the end of the capture.
+    pub fn last(&mut self) -> Option<u32>
+        ensures last { result ≡ last_or None self.old.live.items }
+        ensures live { self.new.live ≡ self.old.live }
+        ensures listener { self.new.listener ≡ self.old.listener }
+    {
+        self.live.last()
     }
 
     /// The side of the stream of a room that began first.

@@ -78,12 +78,19 @@ fn streams_stand_in_the_order_of_their_beginnings(rt: HostRuntime) {
                 streams.pack();
             }
             assert_eq!(rt; streams.len(), 3);
+            assert_eq!(rt; streams.last(), Some(0));
             for (rank, flow) in [(0, Some(5)), (1, Some(2)), (2, Some(0)), (3, None)] {
                 assert_eq!(rt; streams.live(rank), flow, "rank {rank}");
             }
         }
         assert_eq!(rt; streams.elder_side(2), Side::FromGreater);
         assert_eq!(rt; streams.elder_side(1), Side::FromLesser);
+        // Those that stand last go, one by one.
+        for (flow, last) in [(2, Some(0)), (0, Some(5)), (5, None)] {
+            assert!(rt; streams.closes(flow, CloseCause::Fin).is_ok());
+            assert_eq!(rt; streams.last(), last, "flow {flow}");
+        }
+        assert_eq!(rt; streams.len(), 0);
     }
 }
 

@@ -1,4 +1,4 @@
--- How many payloads a flow holds, and how many blocks.
+-- How many payloads and how many blocks a flow holds.
 use Rattle.std.proofs.Common.{◌≡◌, ℕ, zero, suc, ◌+◌, ◌/◌, ◌<◌, ◌≤◌, false, cond, nat_eq, List, [], ◌∷◌, length, get_or, None, refl, subst, arith}
 use Rattle.std.specs.List.{insert, remove}
 use Rattle.std.proofs.lemmas.Bool.{eq-eqb}
@@ -8,7 +8,7 @@ use Rattle.tcp_waiting.proofs.Held.{length_held, get_held, remove_held}
 use Rattle.tcp_waiting.proofs.Queries.{here}
 use Rattle.tcp_waiting.specs.Payload.{Payload, count_of, load_of, blocks_of, first, is_far, has_as_much}
 
--- one more waits
+-- after one more payload waits
 pub count_insert : (id : ℕ) (ps : List Payload) (i : ℕ) (p : Payload) →
     count_of id (insert ps i p) ≡ count_of id ps + cond (nat_eq p.flow id) 1 0
 unfolding count_of
@@ -17,7 +17,7 @@ count_insert id [] (suc i) p = omega arith
 count_insert id (q ∷ ps) zero p = omega arith
 count_insert id (q ∷ ps) (suc i) p = omega (arith, count_insert id ps i p)
 
--- one is removed
+-- after a payload was removed
 pub count_remove : (id : ℕ) (ps : List Payload) (i : ℕ) (d : Payload) → i < length ps →
     count_of id (remove ps i) + cond (nat_eq (get_or ps i d).flow id) 1 0 ≡ count_of id ps
 unfolding count_of
@@ -25,7 +25,7 @@ count_remove id [] i d h = absurd (omega (arith, h))
 count_remove id (p ∷ ps) zero d h = omega arith
 count_remove id (p ∷ ps) (suc i) d h = omega (arith, count_remove id ps i d (omega (arith, h)))
 
--- one more waits: its blocks are its flow's
+-- after one more payload waits: its flow has its blocks
 pub load_insert : (id : ℕ) (ps : List Payload) (i : ℕ) (p : Payload) → load_of id (insert ps i p)
     ≡ load_of id ps + cond (nat_eq p.flow id) ((length p.octets + 1023) / 1024) 0
 unfolding load_of
@@ -34,7 +34,7 @@ load_insert id [] (suc i) p = omega arith
 load_insert id (q ∷ ps) zero p = omega arith
 load_insert id (q ∷ ps) (suc i) p = omega (arith, load_insert id ps i p)
 
--- one is removed
+-- after a payload was removed: its flow has its blocks no more
 pub load_remove : (id : ℕ) (ps : List Payload) (i : ℕ) (d : Payload) → i < length ps →
     load_of id (remove ps i)
     + cond (nat_eq (get_or ps i d).flow id) ((length (get_or ps i d).octets + 1023) / 1024) 0
@@ -44,13 +44,13 @@ load_remove id [] i d h = absurd (omega (arith, h))
 load_remove id (p ∷ ps) zero d h = omega arith
 load_remove id (p ∷ ps) (suc i) d h = omega (arith, load_remove id ps i d (omega (arith, h)))
 
--- a flow holds no more blocks than all
+-- a flow holds no more blocks than all flows
 pub load_most : (id : ℕ) (ps : List Payload) → load_of id ps ≤ blocks_of ps
 unfolding load_of blocks_of
 load_most id [] = omega arith
 load_most id (p ∷ ps) = grind (arith, load_most id ps)
 
--- a payload takes a block at least
+-- a flow without blocks holds no payload, since each takes a block at least
 pub none_loaded : (id : ℕ) (ps : List Payload) → AreSmall ps → load_of id ps ≡ 0 →
     count_of id ps ≡ 0
 unfolding load_of count_of
@@ -78,7 +78,7 @@ unfolding count_of has_as_much
 has_none id number count [] h = refl
 has_none id number count (p ∷ ps) h = grind (arith, h, has_none id number count ps)
 
--- a payload of its flow less is counted
+-- the blocks of a flow after a payload was removed, from where it is in memory
 pub removed_loads : (all : List ℕ) (ws : List Waiting) (i : ℕ) (w : Waiting) (id : ℕ) →
     AreWithin (length all) ws → i < length ws → w ≡ get_or ws i w
     → load_of id (held_in all (remove ws i)) + cond (nat_eq w.flow id) ((w.count + 1023) / 1024) 0

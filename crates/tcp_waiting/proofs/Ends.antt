@@ -1,4 +1,5 @@
--- How far what a flow holds reaches: what is known of it stays so, and answers for another number.
+-- How far the payloads of a flow reach: what is known of this stays true, and holds for another
+-- number that is due.
 use Rattle.std.proofs.Common.{◌≡◌, ◌⊎◌, ℕ, zero, suc, ◌^◌, ◌<◌, ◌≤◌, Bool, true, false, cond, not, nat_eq, nat_lt, ◌&&◌, List, [], ◌∷◌, length, get_or, set, Option, Some, None, refl, ap, sym, subst, arith, inl, inr}
 use Rattle.std.specs.List.{insert, remove}
 use Rattle.std.specs.Option.{option_map}
@@ -9,7 +10,7 @@ use Rattle.tcp_waiting.specs.Payload.{Payload, earlier, first, is_far, ends_far,
 use Rattle.tcp_waiting.specs.Layout.{AreSmall, is_far_but}
 use Rattle.tcp_waiting.proofs.Order.{same_at}
 
--- whether a payload of the flow is one of those that end far
+-- whether a payload of the flow is one of those that end too far
 abbrev pub counts_far : ℕ → ℕ → ℕ → ℕ → Payload → Bool
 counts_far id next number count p =
     nat_eq p.flow id && not (nat_eq p.number number && nat_eq (length p.octets) count)
@@ -36,7 +37,7 @@ far_remove id next number count (q ∷ ps) zero h =
 far_remove id next number count (q ∷ ps) (suc i) h =
     grind (arith, h, far_remove id next number count ps i)
 
--- where none ends far, none but some does
+-- if none ends too far, none but the left out ones does
 pub far_none_but : (id next number count : ℕ) (ps : List Payload) → is_far id next ps ≡ false →
     is_far_but id next number count ps ≡ false
 unfolding is_far is_far_but
@@ -44,16 +45,16 @@ far_none_but id next number count [] h = refl
 far_none_but id next number count (p ∷ ps) h =
     grind (arith, h, far_none_but id next number count ps)
 
--- the payload itself isn't counted
+-- the payload that is left out isn't counted
 pub itself : (id next : ℕ) (p : Payload) → counts_far id next p.number (length p.octets) p ≡ false
 itself id next p = grind arith
 
--- nor is one of another flow
+-- a payload of another flow isn't counted
 pub another : (id next number count : ℕ) (p : Payload) → (p.flow ≡ id → ⊥) →
     counts_far id next number count p ≡ false
 another id next number count p h = grind (arith, ne_eqb p.flow id h)
 
--- ---- The answer by the one that is left out.
+-- ---- The answer from the payload that is left out.
 
 pub far_by : (id next number count : ℕ) (ps : List Payload) →
     is_far_but id next number count ps ≡ false
@@ -65,7 +66,7 @@ far_by id next number count (p ∷ ps) h =
 
 -- ---- Another number that is due.
 
--- all that a flow holds is ahead
+-- all payloads of a flow are ahead of `next` by less than 2^31
 abbrev pub AreAhead : ℕ → ℕ → List Payload → Type 0
 AreAhead id next ps = (j : ℕ) (d : Payload) → j < length ps → (get_or ps j d).flow ≡ id →
     ahead next (get_or ps j d).number < 2 ^ 31
@@ -85,9 +86,10 @@ far_on id base next number count (p ∷ ps) n a s c h = grind (
   far_on id base next number count ps n a s.1 (λ j d l own. c (suc j) d (omega (arith, l)) own),
 )
 
--- ---- What the first of a flow says of all.
+-- ---- What the first payload of a flow says of all.
 
--- no payload of the flow has a lesser rank than the one at an index, if any
+-- no payload of the flow has a lesser rank than the one at an index; if there is none, the flow
+-- holds nothing
 abbrev pub AreNotBefore : ℕ → ℕ → List Payload → Option ℕ → Type 0
 AreNotBefore id next ps None = (j : ℕ) (d : Payload) → j < length ps → (get_or ps j d).flow ≡ id → ⊥
 AreNotBefore id next ps (Some i) = (i < length ps) × ((j : ℕ) (d : Payload) → j < length ps →
@@ -150,7 +152,7 @@ first_least id next [] = λ j d l own. absurd (omega (arith, l))
 first_least id next (p ∷ ps) = least_by id next p ps (nat_eq p.flow id) (first id next ps)
     (λ e own. eqb-false p.flow id e own) (first_least id next ps)
 
--- where the first is to come, all are ahead
+-- if the first is ahead, all are
 pub all_ahead : (id next : ℕ) (ps : List Payload) (i : ℕ) → first id next ps ≡ Some i →
     ((d : Payload) → ahead next (get_or ps i d).number < 2 ^ 31) → AreAhead id next ps
 all_ahead id next ps i is h =
@@ -164,7 +166,7 @@ none_there : {X : Type 0} (j : ℕ) (x : X) → get_or [] j None ≡ Some x → 
 none_there zero x h = none-some x h
 none_there (suc j) x h = none-some x h
 
--- what stands in a list once an element is set: that, or what stood there
+-- an element of a list after one was set: the new one, or the old one at another index
 pub set_cases : {X : Type 0} (xs : List (Option X)) (i j : ℕ) (v : Option X) (x : X) →
     get_or (set xs i v) j None ≡ Some x
     → ((j ≡ i) × (v ≡ Some x)) ⊎ ((i ≡ j → ⊥) × (get_or xs j None ≡ Some x))

@@ -1,4 +1,4 @@
--- What waits, by where it is in the pool's memory.
+-- The payloads that wait, from where they are in the pool's memory.
 use Rattle.std.proofs.Common.{Result, Ok, Err, OnOk, OnErr, IsOk, is_ok, cond, ◌≡◌, ℕ, zero, suc, ◌+◌, ◌<◌, ◌≤◌, List, [], ◌∷◌, ◌++◌, length, get_or, map, refl, ap, sym, ◌∙◌, arith}
 use Rattle.std.specs.List.{AllByRecursion, insert, remove}
 use Rattle.std.proofs.lemmas.List.{length-map, get_or-map, take-append-le, length-take, length-drop}
@@ -15,7 +15,7 @@ pub get_held : (all : List ℕ) (ws : List Waiting) (i : ℕ) (w : Waiting) (d :
     i < length ws → w ≡ get_or ws i w → get_or (held_in all ws) i d ≡ payload_in all w
 get_held all ws i w d h is = get_or-map (payload_in all) ws i w d h ∙ ap (payload_in all) (sym is)
 
--- what is mapped, with one more, and with one less
+-- mapping a list after an insertion or a removal
 pub map_insert : {X Y : Type 0} (f : X → Y) (xs : List X) (i : ℕ) (x : X) →
     map f (insert xs i x) ≡ insert (map f xs) i (f x)
 map_insert f [] zero x = refl
@@ -34,7 +34,7 @@ pub remove_held : (all : List ℕ) (ws : List Waiting) (i : ℕ) →
     held_in all (remove ws i) ≡ remove (held_in all ws) i
 remove_held all ws i = map_remove (payload_in all) ws i
 
--- what all of some are, those are with one more, and with one less
+-- what is true of all elements is still true after an insertion or a removal
 pub all_insert : {X : Type 0} (P : X → Type 0) (xs : List X) (i : ℕ) (x : X) →
     AllByRecursion P xs → P x → AllByRecursion P (insert xs i x)
 all_insert P [] zero x h p = (p, tt)
@@ -60,12 +60,12 @@ pub within_more : (top more : ℕ) (ws : List Waiting) → top ≤ more → AreW
 within_more top more [] l h = tt
 within_more top more (w ∷ ws) l h = (omega (arith, h.0), within_more top more ws l h.1)
 
--- a payload is as long as it says
+-- a payload has as many octets as it says
 pub length_octets : (all : List ℕ) (from count : ℕ) → from + count ≤ length all →
     length (octets_at all from count) ≡ count
 length_octets all from count h = simp (length-take, length-drop) (omega arith)
 
--- octets after what waits change nothing
+-- octets that are added at the end change no payload
 octets_more : (all more : List ℕ) (from count : ℕ) → from + count ≤ length all →
     octets_at (all ++ more) from count ≡ octets_at all from count
 octets_more all more zero count h = take-append-le count all more (omega (arith, h))
@@ -78,7 +78,7 @@ held_more all more [] h = refl
 held_more all more (w ∷ ws) h =
     rw (octets_more all more w.from w.count h.0, held_more all more ws h.1) refl
 
--- one more waits, its octets after all
+-- the payloads after one more, whose octets were added at the end
 pub held_inserted : (all more : List ℕ) (ws : List Waiting) (i : ℕ) (w : Waiting) →
     AreWithin (length all) ws → w.from ≡ length all → w.count ≡ length more
     → held_in (all ++ more) (insert ws i w)
@@ -93,7 +93,7 @@ pub ok_items : {U E X : Type 0} (r : Result U E) (xs a b : List X) → IsOk r �
     xs ≡ cond (is_ok r) a b → xs ≡ a
 ok_items r xs a b h e = e ∙ cond-true (is_ok r) a b h
 
--- what is so on Ok, where there is no cause of an Err
+-- what holds on Ok, if there is no cause of an Err
 pub ok_so : {U E : Type 0} (r : Result U E) (P Q : Type 0) → OnErr r P → (P → ⊥) → OnOk r Q → Q
 ok_so (Ok u) P Q e n q = q
 ok_so (Err u) P Q e n q = absurd (n e)

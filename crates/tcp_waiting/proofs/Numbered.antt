@@ -1,4 +1,4 @@
--- What stands under the numbers of an order: when one is put in, taken out, or has another thing.
+-- What a slab has at the indices of an order, after one is inserted, removed or replaced.
 use Rattle.std.proofs.Common.{◌≡◌, ◌≢◌, ℕ, zero, suc, ◌+◌, ◌<◌, ◌≤◌, false, eqb, cond, List, [], ◌∷◌, length, get_or, set, map, Option, Some, None, IsSome, OnSome, is_some, count_by, refl, ap, sym, ◌∙◌, inl, inr, arith}
 use Rattle.std.specs.List.{AllByRecursion, IsDistinct, insert, remove}
 use Rattle.std.proofs.lemmas.Bool.{eqb-false, ne_eqb, cases_eq}
@@ -10,11 +10,11 @@ use Rattle.tcp_waiting.specs.declared.pool.Waiting.{Waiting}
 use Rattle.tcp_waiting.specs.Places.{waiting_under, IsTied}
 use Rattle.tcp_waiting.proofs.Held.{map_insert, map_remove, all_insert, all_remove, all_at}
 
--- the numbers all differ from one
+-- a number differs from all of these
 abbrev pub AreOthers : ℕ → List ℕ → Type 0
 AreOthers n ns = AllByRecursion (λ m. m ≢ n) ns
 
--- what is so on Some, if there is one
+-- what holds on Some, if there is one
 pub some_so : {X : Type 0} (o : Option X) (P : Type 0) → IsSome o → OnSome o P → P
 some_so None P s h = absurd (cc)
 some_so (Some x) P s h = h
@@ -66,7 +66,7 @@ distinct_insert (m ∷ ns) zero n d o = (
 distinct_insert (m ∷ ns) (suc i) n d o =
     (all_insert (λ k. eqb m k ≡ false) ns i n d.0 (ne_eqb m n o.0), distinct_insert ns i n d.1 o.1)
 
--- those that are left differ from the one that is taken out
+-- the indices that are left differ from the one that was removed
 pub others_remove : (ns : List ℕ) (i : ℕ) → IsDistinct eqb ns → i < length ns →
     AreOthers (get_or ns i 0) (remove ns i)
 unfolding IsDistinct
@@ -78,14 +78,14 @@ others_remove (n ∷ ns) (suc i) d l =
       others_remove ns i d.1 within,
     )
 
--- a number under which nothing stands is in no order of those under which something does
+-- an index at which the slab has nothing differs from those at which it has something
 pub vacant_others : (slots : Slab Waiting) (n : ℕ) (ns : List ℕ) → get slots n ≡ None →
     AllByRecursion (λ m. IsSome (get slots m)) ns → AreOthers n ns
 vacant_others slots n ns e h =
     all_mapped (λ m. IsSome (get slots m)) (λ m. m ≢ n) ns
     (λ m s same. grind (arith, s, same, e)) h
 
--- what stands under each of an order, if the slab has all else as before
+-- the slab has the same at each index of an order, if it was changed at another one
 others_same : (old new : Slab Waiting) (n : ℕ) (slot : Option Waiting) (ns : List ℕ) →
     Updates old new n slot → AreOthers n ns
     → AllByRecursion (λ m. get new m ≡ get old m) ns
@@ -104,7 +104,7 @@ map_under : (old new : Slab Waiting) (ns : List ℕ) →
 map_under old new [] s = refl
 map_under old new (n ∷ ns) s = rw (s.0, map_under old new ns s.1) refl
 
--- an order and a slab after something more waits
+-- an order and a slab after one more payload waits
 pub record IsPut (order now : List ℕ) (old new : Slab Waiting) (i : ℕ) (w : Waiting) : Type 0 where
   pub tied : IsTied now new
   pub items : map (waiting_under new) now ≡ insert (map (waiting_under old) order) i w
@@ -127,7 +127,7 @@ is_put order now old new i n w t l e v u c =
           ∙ rw (u.changed, map_under old new order same) refl;
     })
 
--- an order and a slab after something less waits
+-- an order and a slab after a payload was removed
 pub record IsTaken (order now : List ℕ) (old new : Slab Waiting) (i : ℕ) : Type 0 where
   pub tied : IsTied now new
   pub items : map (waiting_under new) now ≡ remove (map (waiting_under old) order) i
@@ -172,7 +172,7 @@ all_held_with old n w ns here h =
       | inr o ↦ rw (u.others m o) s
     ]) h
 
--- an order and a slab after something else waits at a place
+-- an order and a slab after a payload was replaced
 pub record IsReplaced (order : List ℕ) (old new : Slab Waiting) (i : ℕ) (w : Waiting) : Type 0 where
   pub tied : IsTied order new
   pub items : map (waiting_under new) order ≡ set (map (waiting_under old) order) i w

@@ -1,4 +1,4 @@
--- The order of what waits, and what is found by it.
+-- The order of payloads, and what is found by it.
 use Rattle.std.proofs.Common.{◌≡◌, ℕ, zero, suc, ◌+◌, ◌%◌, ◌^◌, ◌<◌, ◌≤◌, Bool, true, false, cond, nat_eq, nat_lt, List, [], ◌∷◌, length, get_or, Option, Some, None, IfSome, refl, ap, ◌∙◌, arith, inl, inr}
 use Rattle.std.specs.List.{AllByRecursion, insert, remove}
 use Rattle.std.specs.Option.{option_map}
@@ -15,7 +15,7 @@ unfolding place_of
 place_within k [] = omega arith
 place_within k (p ∷ ps) = grind (arith, place_within k ps)
 
--- a payload with a lesser key is in front of the place
+-- a payload with a lesser key is before the place of the key
 pub place_above : (k : ℕ) (ps : List Payload) (i : ℕ) (d : Payload) → AreOrdered ps →
     i < length ps → key_of (get_or ps i d) < k → i < place_of k ps
 unfolding place_of AreOrdered
@@ -25,7 +25,7 @@ place_above k (p ∷ ps) (suc i) d o l h =
     let l' : i < length ps = omega (arith, l) in
     grind (arith, h, all_at (λ q. key_of p ≤ key_of q) ps i d o.0 l', place_above k ps i d o.1 l' h)
 
--- one with none lesser isn't
+-- a payload without a lesser key isn't
 pub place_below : (k : ℕ) (ps : List Payload) (i : ℕ) (d : Payload) → i < length ps →
     k ≤ key_of (get_or ps i d) → place_of k ps ≤ i
 unfolding place_of
@@ -87,7 +87,7 @@ within_by next p ps true (Some k) h = grind (arith, h)
 within_by next p ps false None h = tt
 within_by next p ps false (Some k) h = omega (arith, h)
 
--- it is one of them
+-- the first payload is within the list
 pub first_within : (id next : ℕ) (ps : List Payload) →
     IfSome (first id next ps) (λ k. k < length ps)
 unfolding first
@@ -105,7 +105,7 @@ own_by id next p d ps true (Some k) own h = grind (arith, h, own refl)
 own_by id next p d ps false None own h = tt
 own_by id next p d ps false (Some k) own h = h
 
--- it is the flow's own
+-- the first payload is the flow's own
 pub first_own : (id next : ℕ) (d : Payload) (ps : List Payload) →
     IfSome (first id next ps) (λ k. (get_or ps k d).flow ≡ id)
 unfolding first
@@ -113,8 +113,8 @@ first_own id next d [] = tt
 first_own id next d (p ∷ ps) = own_by id next p d ps (nat_eq p.flow id) (first id next ps)
     (eqb-true p.flow id) (first_own id next d ps)
 
--- the payload at an index has no greater rank than any of the flow, and a lesser one than those in
--- front of it
+-- the payload at an index has no greater rank than any of the flow, and a lesser one than those
+-- before it
 record IsLeast (id next : ℕ) (ps : List Payload) (i : ℕ) : Type 0 where
   pub within : i < length ps
   pub own : (d : Payload) → (get_or ps i d).flow ≡ id
@@ -178,7 +178,7 @@ first_is_none id next (p ∷ ps) h =
 abbrev pub oldest : ℕ → ℕ
 oldest next = (next + 2 ^ 31) % 2 ^ 32
 
--- ranks, from that number on and below it
+-- the rank of a number from the oldest one on, and of a number below it
 rank_from : (next n : ℕ) → next < 2 ^ 32 → n < 2 ^ 32 → oldest next ≤ n →
     rank next n + oldest next ≡ n
 rank_from next n a b h = omega (arith, a, b, h)
@@ -193,7 +193,7 @@ same_at [] i d e l = absurd (omega (arith, l))
 same_at (p ∷ ps) zero d e l = refl
 same_at (p ∷ ps) (suc i) d e l = same_at ps i d e (omega (arith, l))
 
--- those from a place on, and those in front of it
+-- payloads from the place of a key on, and those before it
 pub behind : (k : ℕ) (ps : List Payload) (i : ℕ) (d : Payload) → AreOrdered ps → i < length ps →
     place_of k ps ≤ i → k ≤ key_of (get_or ps i d)
 behind k ps i d o l h = grind (arith, place_above k ps i d o l, h)
@@ -217,13 +217,13 @@ stands_so : (i id : ℕ) (ps : List Payload) (d : Payload) → i < length ps →
     (get_or ps i d).flow ≡ id → stands_at i id ps ≡ true
 stands_so i id ps d l h = grind (arith, l, h, same_at ps i no_payload d l)
 
--- a payload between two keys of a flow is the flow's
+-- a payload between two keys of a flow is one of the flow
 between : (id n m : ℕ) (p q : Payload) → IsSmall p → IsSmall q → q.flow ≡ id →
     key id n m ≤ key_of p → key_of p ≤ key_of q → p.flow ≡ id
 between id n m p q s t own low high =
     omega (arith, s.number, s.short, t.number, t.short, own, low, high)
 
--- where none of the flow stands at a place, none stands after it
+-- if the payload at a key's place isn't the flow's, none after it is
 none_behind : (id n m : ℕ) (ps : List Payload) (i j : ℕ) (d : Payload) → AreOrdered ps →
     AreSmall ps → i ≡ place_of (key id n m) ps → stands_at i id ps ≡ false → j < length ps
     → (get_or ps j d).flow ≡ id → j < i
@@ -237,7 +237,7 @@ none_behind id n m ps i j d o s is none l own = elim (cases_lt j i) [
       absurd (both_ways (stands_at i id ps) none (stands_so i id ps d w own_too)))
 ]
 
--- of a flow's payloads the later has no lesser number
+-- of two payloads of a flow the later one has no lesser number
 upward : (id : ℕ) (ps : List Payload) (i j : ℕ) (d : Payload) → AreOrdered ps → AreSmall ps →
     i ≤ j → j < length ps → (get_or ps i d).flow ≡ id → (get_or ps j d).flow ≡ id
     → (get_or ps i d).number ≤ (get_or ps j d).number
@@ -292,7 +292,7 @@ least_oldest id next ps i o s n is at =
       before = before;
     }
 
--- all of a flow that have come are below its oldest number
+-- if no payload of a flow is from its oldest number on, the one of the least number is the first
 least_number : (id next : ℕ) (ps : List Payload) (i j : ℕ) → AreOrdered ps → AreSmall ps →
     next < 2 ^ 32 → i ≡ place_of (key id (oldest next) 0) ps → stands_at i id ps ≡ false
     → j ≡ place_of (key id 0 0) ps → stands_at j id ps ≡ true → IsLeast id next ps j
@@ -329,7 +329,7 @@ least_number id next ps i j o s n is none js at =
       before = λ m d l own. absurd (before m d l own);
     }
 
--- what is first, by two searches
+-- the first payload of a flow, found by two searches
 pub first_oldest : (id next : ℕ) (ps : List Payload) (i : ℕ) → AreOrdered ps → AreSmall ps →
     next < 2 ^ 32 → i ≡ place_of (key id (oldest next) 0) ps → stands_at i id ps ≡ true
     → first id next ps ≡ Some i
@@ -379,7 +379,7 @@ has_not id number count (p ∷ ps) h =
       has_not id number count ps (λ i d l f n c. h (suc i) d (omega (arith, l)) f n c),
     )
 
--- by one search
+-- found by one search
 has_there : (id number count : ℕ) (ps : List Payload) (i : ℕ) (d : Payload) → AreOrdered ps →
     i ≡ place_of (key id number count) ps → stands_at i id ps ≡ true
     → (get_or ps i d).number ≡ number → has_as_much id number count ps ≡ true

@@ -1,4 +1,4 @@
--- What waits is copied without holes: each payload in turn, and it keeps its octets.
+-- Copying the payloads without holes: each keeps its octets.
 use Rattle.std.proofs.Common.{◌≡◌, ℕ, zero, suc, ◌+◌, ◌-◌, ◌*◌, ◌<◌, ◌≤◌, List, [], ◌∷◌, ◌++◌, length, take, drop, get_or, set, refl, ap, sym, ◌∙◌, subst, arith, length-append, append_assoc, append-nil, add-zero, add-one}
 use Rattle.std.proofs.lemmas.List.{take_more, length-take, length-drop, get_or-append_right, get_or-drop}
 use Rattle.std.proofs.Math.Seq.{take-append_seam, drop-append_seam, drop-cons, set-append_seam, take-length, drop-length}
@@ -37,7 +37,7 @@ unfolding moved
 length_moved to [] = refl
 length_moved to (w ∷ ws) = ap suc (length_moved (to + w.count) ws)
 
--- what waits is what it was
+-- the payloads are the same after the copy
 held_moved : (c all : List ℕ) (ws : List Waiting) → AreWithin (length all) ws →
     held_in (c ++ packed all ws) (moved (length c) ws) ≡ held_in all ws
 unfolding packed moved
@@ -67,7 +67,7 @@ within_moved to (w ∷ ws) = (
       (omega arith) (within_moved (to + w.count) ws),
 )
 
--- the octets have room in the blocks
+-- the octets fit into the blocks
 pub counts_blocks : (all : List ℕ) (ws : List Waiting) → AreWithin (length all) ws →
     counts ws ≤ 1024 * blocks_of (held_in all ws)
 unfolding counts blocks_of
@@ -75,13 +75,13 @@ counts_blocks all [] h = omega arith
 counts_blocks all (w ∷ ws) h =
     rw (length_octets all w.from w.count h.0) (omega (arith, counts_blocks all ws h.1))
 
--- each payload takes a block at least
+-- each payload takes at least one block
 pub length_blocks : (ps : List Payload) → AreSmall ps → length ps ≤ blocks_of ps
 unfolding blocks_of
 length_blocks [] h = omega arith
 length_blocks (p ∷ ps) h = omega (arith, h.0.some, length_blocks ps h.1)
 
--- the loop: `k` of what waits are copied
+-- the loop: `k` payloads were copied
 pub record IsPacking (all : List ℕ) (ws : List Waiting) (k : ℕ) (now : List ℕ)
     (places : List Waiting) : Type 0 where
   pub some : k ≤ length ws
@@ -93,7 +93,7 @@ within_take top zero ws h = tt
 within_take top (suc k) [] h = tt
 within_take top (suc k) (w ∷ ws) h = (h.0, within_take top k ws h.1)
 
--- one payload more has room too
+-- one more payload fits too
 pub counts_take : (k : ℕ) (ws : List Waiting) (w : Waiting) → k < length ws →
     w ≡ get_or ws k w → counts (take k ws) + w.count ≤ counts ws
 unfolding counts
@@ -113,7 +113,7 @@ length_places all ws k now places p =
     ap length p.moves ∙ length-append (moved 0 (take k ws)) (drop k ws)
     ∙ rw (length_moved 0 (take k ws)) (simp (length-take, length-drop) (omega (arith, p.some)))
 
--- the next that waits
+-- the next payload in the loop is unchanged
 pub next_of : (all : List ℕ) (ws : List Waiting) (k : ℕ) (now : List ℕ) (places : List Waiting) →
     IsPacking all ws k now places → k < length ws → (w : Waiting) → w ≡ get_or places k w
     → w ≡ get_or ws k w
@@ -156,7 +156,7 @@ pub pack_start : (all : List ℕ) (ws : List Waiting) (now : List ℕ) → now �
 unfolding packed moved
 pack_start all ws now e = record { some = omega arith; octets = e; moves = refl }
 
--- all that waits is copied
+-- all payloads were copied
 pub record IsPacked (all : List ℕ) (ws : List Waiting) (now : List ℕ) (places : List Waiting)
     : Type 0 where
   pub held : held_in now places ≡ held_in all ws

@@ -1,4 +1,4 @@
--- What is asked of all that waits, from the first to the last.
+-- Searches through all payloads, from the first to the last.
 use Rattle.std.proofs.Common.{◌≡◌, ℕ, zero, suc, ◌+◌, ◌/◌, ◌<◌, ◌≤◌, false, cond, nat_eq, ◌&&◌, ◌||◌, List, [], ◌∷◌, length, drop, get_or, refl, ap, sym, subst, ◌∙◌, arith, add-one}
 use Rattle.std.specs.List.{insert, remove}
 use Rattle.std.proofs.Math.Seq.{drop-cons}
@@ -30,7 +30,7 @@ here all ws k w within h is =
       ends = ends;
     }
 
--- its key, by where it is in memory
+-- the key of a payload, from where it is in memory
 pub key_here : (all : List ℕ) (ws : List Waiting) (k : ℕ) (w : Waiting) (d : Payload) →
     AreWithin (length all) ws → k < length ws → w ≡ get_or ws k w
     → key_of (get_or (held_in all ws) k d) ≡ key w.flow w.number w.count
@@ -55,7 +55,7 @@ unfolding is_far
 far_end all ws k id next h =
     rw (nothing_left all ws k h) refl
 
--- one more waits
+-- the blocks after one more payload waits
 pub blocks_insert : (ps : List Payload) (i : ℕ) (p : Payload) →
     blocks_of (insert ps i p) ≡ blocks_of ps + (length p.octets + 1023) / 1024
 unfolding blocks_of
@@ -64,7 +64,7 @@ blocks_insert [] (suc i) p = omega arith
 blocks_insert (q ∷ ps) zero p = omega arith
 blocks_insert (q ∷ ps) (suc i) p = omega (arith, blocks_insert ps i p)
 
--- one is removed
+-- the blocks after a payload was removed
 pub blocks_remove : (ps : List Payload) (i : ℕ) (d : Payload) → i < length ps →
     blocks_of (remove ps i) + (length (get_or ps i d).octets + 1023) / 1024 ≡ blocks_of ps
 unfolding blocks_of
@@ -72,7 +72,7 @@ blocks_remove [] i d h = absurd (omega (arith, h))
 blocks_remove (p ∷ ps) zero d h = omega arith
 blocks_remove (p ∷ ps) (suc i) d h = omega (arith, blocks_remove ps i d (omega (arith, h)))
 
--- what a payload takes, by its place in memory, is free once it is removed
+-- the blocks of a removed payload are free, from where it was in memory
 pub removed_blocks : (all : List ℕ) (ws : List Waiting) (i : ℕ) (w : Waiting) →
     AreWithin (length all) ws → i < length ws → w ≡ get_or ws i w
     → blocks_of (held_in all (remove ws i)) + (w.count + 1023) / 1024 ≡ blocks_of (held_in all ws)

@@ -1,12 +1,13 @@
--- Payloads that wait: which of a flow is first, what they take, and how far they reach (meaning).
+-- Payloads that wait: which of a flow is first, how many blocks they take, and how far they reach
+-- (meaning).
 use Rattle.std.specs.Prelude.{ℕ, suc, ◌+◌, ◌*◌, ◌^◌, ◌/◌, Bool, false, cond, nat_lt, nat_le, nat_eq, ◌&&◌, ◌||◌, List, [], ◌∷◌, length, drop, Option, Some, None, get_or}
 use Rattle.std.specs.List.{insert}
 use Rattle.std.specs.Option.{option_map}
 use Rattle.tcp_waiting.specs.declared.arrival.Arrival.{Arrival}
 use Rattle.tcp_waiting.specs.Numbers.{ahead, onward, rank}
 
--- a payload: the flow that it is of, the sequence number of its first octet, its octets, and the
--- packet that they came in
+-- a payload: the id of its flow, the sequence number of its first octet, its octets, and the packet
+-- that they came in
 pub record Payload : Type 0 where
   pub flow : ℕ
   pub number : ℕ
@@ -17,15 +18,15 @@ abbrev pub payload : ℕ → ℕ → List ℕ → Arrival → Payload
 payload flow number octets arrival =
     record { flow = flow; number = number; octets = octets; arrival = arrival }
 
--- what stands where there is none
+-- the value for an index that has no payload
 abbrev pub no_payload : Payload
 no_payload = payload 0 0 [] (record { time = None; packet = 0 })
 
--- a payload without its first octets
+-- a payload without its first `count` octets
 abbrev pub without_first : ℕ → Payload → Payload
 without_first count p = record p { number = onward p.number count; octets = drop count p.octets }
 
--- the order of what waits, as one number: by flow, then by the number of the first octet, then by
+-- the order of payloads as one number: by flow, then by the number of the first octet, then by the
 -- length, which is less than 2^32
 abbrev pub key : ℕ → ℕ → ℕ → ℕ
 key flow number count = (flow * 2 ^ 32 + number) * 2 ^ 32 + count
@@ -33,20 +34,21 @@ key flow number count = (flow * 2 ^ 32 + number) * 2 ^ 32 + count
 abbrev pub key_of : Payload → ℕ
 key_of p = key p.flow p.number (length p.octets)
 
--- where in this order a payload stands, or would stand: after those before it
+-- the place of a key in this order: after all payloads with lesser keys
 unfoldable pub place_of : ℕ → List Payload → ℕ
 place_of k [] = 0
 place_of k (p ∷ ps) = cond (nat_lt (key_of p) k) (suc (place_of k ps)) 0
 
--- one more waits
+-- the payloads after one more was put in its place
 abbrev pub put : Payload → List Payload → List Payload
 put p ps = insert ps (place_of (key_of p) ps) p
 
--- W: how far after `next` a held payload may end
+-- W: how many octets after `next` a held payload may end
 abbrev pub window : ℕ
 window = 1048576
 
--- which of the payloads that a flow holds is first: by its rank, and then by their order
+-- the index of the payload of least rank that a flow holds; the first of them in order if several
+-- have it
 unfoldable pub earlier : ℕ → Payload → List Payload → Option ℕ → Option ℕ
 earlier next p ps None = Some 0
 earlier next p ps (Some i) =
@@ -63,12 +65,12 @@ unfoldable pub count_of : ℕ → List Payload → ℕ
 count_of id [] = 0
 count_of id (p ∷ ps) = cond (nat_eq p.flow id) 1 0 + count_of id ps
 
--- the blocks of 1,024 octets that held payloads take
+-- how many blocks of 1,024 octets the payloads take
 unfoldable pub blocks_of : List Payload → ℕ
 blocks_of [] = 0
 blocks_of (p ∷ ps) = (length p.octets + 1023) / 1024 + blocks_of ps
 
--- those of the payloads that a flow holds: its load
+-- how many blocks the payloads of a flow take: its load
 unfoldable pub load_of : ℕ → List Payload → ℕ
 load_of id [] = 0
 load_of id (p ∷ ps) =
@@ -78,13 +80,13 @@ load_of id (p ∷ ps) =
 abbrev pub ends_far : ℕ → ℕ → ℕ → Bool
 ends_far next number count = nat_lt window (ahead next number + count)
 
--- whether one of the payloads that a flow holds ends more than W after `next`
+-- whether a flow holds a payload that ends more than W after `next`
 unfoldable pub is_far : ℕ → ℕ → List Payload → Bool
 is_far id next [] = false
 is_far id next (p ∷ ps) =
     (nat_eq p.flow id && ends_far next p.number (length p.octets)) || is_far id next ps
 
--- whether one of the payloads that a flow holds has the number and at least the length
+-- whether a flow holds a payload with this number and at least this length
 unfoldable pub has_as_much : ℕ → ℕ → ℕ → List Payload → Bool
 has_as_much id number count [] = false
 has_as_much id number count (p ∷ ps) =

@@ -1,4 +1,4 @@
--- What waits in a pool, in its order, and how many blocks it has.
+-- The payloads that wait in a pool, in order, and how many blocks the pool has.
 use Rattle.std.specs.Prelude.{ℕ, List}
 use Rattle.tcp_waiting.specs.Payload.{Payload}
 

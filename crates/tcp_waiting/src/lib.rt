@@ -1,5 +1,5 @@
-//! The payloads of TCP segments that wait for those before them, of all flows, in memory that is allocated once; and
-//! sequence numbers, which wrap around.
+//! Holds the payloads of TCP segments that came too early, of all flows, in memory that is
+//! allocated once; and computes with sequence numbers, which wrap around.
 #![tactic(auto)]
 
 mod arrival;

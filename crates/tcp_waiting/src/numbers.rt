@@ -1,23 +1,23 @@
-//! Sequence numbers: 32 bits, and they wrap setting.
+//! Sequence numbers, which have 32 bits and wrap around (RFC 9293, Sequence Numbers).
 
 ghost use Rattle.std.specs.Prelude.{◌≡◌};
 ghost use Rattle.tcp_waiting.specs.Numbers as spec;
 
-/// How many numbers it is up from `next` to `number`, setting the end.
+/// How far `number` is after `next`, modulo 2^32.
 pub fn ahead(next: u32, number: u32) -> u32
     ensures { result ≡ spec.ahead next number }
 {
     number.wrapping_sub(next)
 }
 
-/// The number `count` places on.
+/// The number that is `count` after a number, modulo 2^32.
 pub fn onward(number: u32, count: usize) -> u32
     ensures { result ≡ spec.onward number count }
 {
     ((u64::from(number) + (count % 0x1_0000_0000) as u64) % 0x1_0000_0000) as u32
 }
 
-/// How far a number is before `next`: 0 where it is due or to come.
+/// How far a number is before `next`; 0 if it is `next` or after it.
 pub fn age(next: u32, number: u32) -> u32
     ensures { result ≡ spec.age next number }
 {
@@ -29,7 +29,7 @@ pub fn age(next: u32, number: u32) -> u32
     }
 }
 
-/// Whether a number is to come, after `next`.
+/// Whether a number is after `next`, by less than 2^31.
 pub fn is_to_come(next: u32, number: u32) -> bool
     ensures { result ≡ spec.is_to_come next number }
 {
@@ -37,7 +37,7 @@ pub fn is_to_come(next: u32, number: u32) -> bool
     0 < ahead && ahead < 0x8000_0000
 }
 
-/// The order of numbers by their signed distance from `next`.
+/// A number's signed distance from `next`, plus 2^31: the oldest number has the least rank.
 pub fn rank(next: u32, number: u32) -> u32
     ensures { result ≡ spec.rank next number }
 {

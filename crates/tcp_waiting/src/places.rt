@@ -1,4 +1,5 @@
-//! What waits, in its order: a number of eight octets is moved for each, and what waits stays where it is.
+//! The payloads that wait, in order. When one comes or goes, only the indices of the others are
+//! moved, which have eight octets each.
 
 ghost use Rattle.std.specs.Prelude.{◌≡◌, ◌≤◌, ◌<◌, ◌^◌, [], length, get_or, set, IfOk};
 ghost use Rattle.std.specs.List.{insert, remove};
@@ -9,12 +10,12 @@ use std::alloc::{AllocError, Global};
 use std::collections::VecDeque;
 use std::marker::Model;
 
-/// What waits, in an order. All of its memory is allocated when it is made.
+/// The payloads that wait, in order. All memory is allocated when it is made.
 #[derive(Drop)]
 pub(crate) struct Places {
-    /// How many may wait.
+    /// How many payloads may wait.
     room: usize,
-    /// The number in `slots` of what waits at each place.
+    /// The index in `slots` of the payload at each place.
     order: VecDeque<usize>,
     slots: Slab<Waiting>,
 }
@@ -30,7 +31,7 @@ impl Model for Places {
 }
 
 impl Places {
-    /// Nothing waits. There is memory for so many.
+    /// An order without payloads. It has memory for `room` payloads.
     pub(crate) fn with_capacity(alloc: Global, room: usize) -> Result<Places, AllocError>
         ensures empty { IfOk result (λ p. p.items ≡ []) }
         ensures room { IfOk result (λ p. p.room ≡ room) }
@@ -42,7 +43,7 @@ impl Places {
         })
     }
 
-    /// How many wait.
+    /// How many payloads wait.
     pub(crate) fn len(&self) -> usize
         ensures items { result ≡ length self.now.items }
         ensures small { result < 2 ^ 63 }
@@ -50,7 +51,7 @@ impl Places {
         self.order.len()
     }
 
-    /// What waits at a place.
+    /// The payload at a place.
     pub(crate) fn at(&self, place: usize) -> Waiting
         requires { place < length self.now.items }
         ensures { result ≡ get_or self.now.items place result }
@@ -58,7 +59,7 @@ impl Places {
         self.slots[self.order[place]]
     }
 
-    /// Something waits in front of what waits at a place, or after all. There must be room.
+    /// Inserts a payload before the one at a place, or at the end. There must be room.
     pub(crate) fn insert(&mut self, place: usize, waiting: Waiting)
         requires place { place ≤ length self.old.items }
         requires room { length self.old.items < self.old.room }
@@ -66,11 +67,11 @@ impl Places {
         ensures room { self.new.room ≡ self.old.room }
     {
         let number = self.slots.insert_reserved(waiting);
-        // It doesn't fail: there has been room since the order was made.
+        // It can't fail: the order has had room since it was made.
         let _noted = self.order.insert(place, number);
     }
 
-    /// What waits at a place goes.
+    /// Removes the payload at a place.
     pub(crate) fn remove(&mut self, place: usize)
         requires { place < length self.old.items }
         ensures items { self.new.items ≡ remove self.old.items place }
@@ -81,7 +82,7 @@ impl Places {
         self.slots.try_remove(number);
     }
 
-    /// What waits at a place is another.
+    /// Replaces the payload at a place.
     pub(crate) fn replace(&mut self, place: usize, waiting: Waiting)
         requires { place < length self.old.items }
         ensures items { self.new.items ≡ set self.old.items place waiting }

@@ -1,4 +1,4 @@
-//! The payloads that wait, of all flows, in their order, in memory that is taken once.
+//! The payloads of all flows that wait, in order, in memory that is allocated once.
 
 ghost use Rattle.std.specs.Prelude.{◌≡◌, ℕ, true, false, cond, ◌≤◌, ◌<◌, ◌+◌, ◌*◌, ◌/◌, ◌^◌, [], length, IfOk, IfSome, None, get_or, set, nat_eq, nat_lt};
 ghost use Rattle.std.specs.List.{remove};
@@ -13,10 +13,10 @@ use std::alloc::{AllocError, Global};
 use std::marker::Model;
 use std::mem::swap;
 
-/// How far after the number that is due a payload may end.
+/// How many octets after the number that is due a payload may end.
 pub const WINDOW: usize = 1_048_576;
 
-/// A payload that waits: where its octets are, and the packet that they came in.
+/// A payload that waits: its place in memory, and the packet that it came in.
 #[derive(Clone, Copy)]
 pub(crate) struct Waiting {
     time: Option<u128>,
@@ -27,7 +27,8 @@ pub(crate) struct Waiting {
     count: usize,
 }
 
-/// Of what a flow holds, all but payloads of this number and length end soon after a base.
+/// All payloads of a flow end at most `WINDOW` after `base`, apart from those with this number and
+/// length.
 #[derive(Clone, Copy)]
 pub(crate) struct Near {
     base: u32,
@@ -35,14 +36,15 @@ pub(crate) struct Near {
     count: usize,
 }
 
-/// The payloads that wait, of all flows, and the blocks that they take.
+/// The payloads of all flows that wait, and the blocks that they take.
 #[derive(Drop)]
 pub struct Pool {
     waiting: Places,
     octets: Vec<u8>,
-    /// What waits is copied to it when there is no room else, and it is the other's place then.
+    /// When holes are closed, the octets are copied to this memory, and the two memories change
+    /// places.
     spare: Vec<u8>,
-    /// The blocks that each flow holds.
+    /// How many blocks each flow holds.
     loads: Vec<usize>,
     nears: Vec<Option<Near>>,
     blocks: usize,
@@ -62,8 +64,8 @@ impl Model for Pool {
 }
 
 impl Pool {
-    /// A pool of n blocks of 1,024 octets. The blocks that each flow below `flows` holds are counted, so
-    /// that nothing is looked for if it holds none.
+    /// A pool of `blocks` blocks of 1,024 octets each. For each flow below `flows` the pool counts
+    /// the blocks that it holds, so that nothing is searched if it holds none.
     pub fn new(alloc: Global, blocks: usize, flows: usize) -> Result<Pool, AllocError>
         requires blocks { blocks ≤ 1_048_576 }
         requires few { flows ≤ 1_048_576 }
@@ -95,7 +97,7 @@ impl Pool {
         self.waiting.len()
     }
 
-    /// Where a payload with this key stands in the order, or would stand.
+    /// The place of the first payload whose key is at least `wanted`, or the end if there is none.
     fn place(&self, wanted: u128) -> usize
         ensures place { result ≡ place_of wanted self.now.held }
     {
@@ -113,18 +115,18 @@ impl Pool {
         low
     }
 
-    /// Whether the payload at a place is one of a flow.
+    /// Whether the payload at a place is one of this flow.
     fn stands_at(&self, place: usize, flow: u32) -> bool
         ensures { result ≡ stands_at place flow self.now.held }
     {
         place < self.waiting.len() && self.waiting.at(place).flow == flow
     }
 
-    /// Which of the payloads that a flow holds is first.
+    /// The index of the oldest payload that a flow holds, by the distance from `next`.
     pub fn first(&self, flow: u32, next: u32) -> Option<usize>
         ensures { result ≡ first flow next self.now.held }
     {
-        // What is known of the pool is known once it is read.
+        // The pool is read so that the prover knows its invariant.
         let _waiting = &self.waiting;
         if self.holds_none(flow) {
             return None;
@@ -140,15 +142,15 @@ impl Pool {
         None
     }
 
-    /// Whether a flow is known to hold nothing.
+    /// Whether it is known that a flow holds nothing.
     fn holds_none(&self, flow: u32) -> bool
         ensures { result ≡ true → count_of flow self.now.held ≡ 0 }
     {
         (flow as usize) < self.loads.len() && self.loads[flow as usize] == 0
     }
 
-    /// How many blocks a flow holds. It is counted for the flows below as many as were named when the
-    /// pool was made, and looked for among all that waits for any other.
+    /// How many blocks a flow holds. This is counted for the flows below `flows` of `new`; for any
+    /// other, each payload is looked at.
     pub fn load(&self, flow: u32) -> usize
         ensures { result ≡ load_of flow self.now.held }
     {
@@ -158,11 +160,11 @@ impl Pool {
         self.finds_load(flow)
     }
 
-    /// How many blocks a flow holds: each payload is looked at.
+    /// How many blocks a flow holds, found by looking at each payload.
     fn finds_load(&self, flow: u32) -> usize
         ensures { result ≡ load_of flow self.now.held }
     {
-        // Its range is known once it is read: no flow holds more blocks than are in use.
+        // It is read so that the prover knows its range: no flow holds more blocks than are in use.
         let _used = self.used;
         let mut load = 0;
         let mut index = 0;
@@ -176,7 +178,7 @@ impl Pool {
         load
     }
 
-    /// The sequence number of a payload that waits.
+    /// The sequence number of the payload at an index.
     pub fn number(&self, index: usize) -> u32
         requires { index < length self.now.held }
         ensures { result ≡ (get_or self.now.held index no_payload).number }
@@ -184,7 +186,7 @@ impl Pool {
         self.waiting.at(index).number
     }
 
-    /// The octets of a payload that waits.
+    /// The octets of the payload at an index.
     pub fn octets(&self, index: usize) -> &[u8]
         requires { index < length self.now.held }
         ensures { result.now ≡ (get_or self.now.held index no_payload).octets }
@@ -193,7 +195,7 @@ impl Pool {
         &self.octets[here.from..here.from + here.count]
     }
 
-    /// The packet that a payload that waits came in.
+    /// The packet that the payload at an index came in.
     pub fn arrival(&self, index: usize) -> Arrival
         requires { index < length self.now.held }
         ensures { result ≡ (get_or self.now.held index no_payload).arrival }
@@ -205,7 +207,7 @@ impl Pool {
         }
     }
 
-    /// Whether one of the payloads that a flow holds has the number and at least the length.
+    /// Whether a flow holds a payload with this number and at least this length.
     pub fn has_as_much(&self, flow: u32, number: u32, count: usize) -> bool
         ensures { result ≡ has_as_much flow number count self.now.held }
     {
@@ -216,7 +218,8 @@ impl Pool {
         self.stands_at(place, flow) && self.waiting.at(place).number == number
     }
 
-    /// Whether one of the payloads that a flow holds ends too far after the number that is due.
+    /// Whether a flow holds a payload that ends more than `WINDOW` after `next`, the number that is
+    /// due.
     pub fn is_far(&self, flow: u32, next: u32) -> bool
         ensures { result ≡ is_far flow next self.now.held }
     {
@@ -232,8 +235,8 @@ impl Pool {
         }
     }
 
-    /// The payload but for which all that a flow holds is known to end soon after the number that
-    /// is due.
+    /// The number and length of the only payloads of a flow that may end more than `WINDOW` after
+    /// `next`. None if it isn't known that all others end before that.
     fn others_are_near(&self, flow: u32, next: u32) -> Option<Near>
         ensures { IfSome result (λ n. is_far_but flow next n.number n.count self.now.held ≡ false) }
     {
@@ -254,7 +257,7 @@ impl Pool {
         None
     }
 
-    /// What is known of the ends of what a flow holds.
+    /// What is known of the ends of a flow's payloads.
     fn near(&self, flow: u32) -> Option<Near>
         ensures { IfSome result (λ n.
             is_far_but flow n.base n.number n.count self.now.held ≡ false) }
@@ -265,8 +268,8 @@ impl Pool {
         None
     }
 
-    /// Whether one of the payloads that a flow holds ends too far after the number that is due:
-    /// each is looked at.
+    /// Whether a flow holds a payload that ends more than `WINDOW` after `next`, found by looking
+    /// at each payload.
     fn finds_far(&self, flow: u32, next: u32) -> bool
         ensures { result ≡ is_far flow next self.now.held }
     {
@@ -281,22 +284,22 @@ impl Pool {
         false
     }
 
-    /// How many blocks all that waits takes.
+    /// How many blocks the payloads take.
     pub fn blocks_in_use(&self) -> usize
         ensures { result ≡ blocks_of self.now.held }
     {
         self.used
     }
 
-    /// How many blocks there are.
+    /// How many blocks the pool has.
     pub fn blocks(&self) -> usize
         ensures { result ≡ self.now.blocks }
     {
         self.blocks
     }
 
-    /// A payload waits: its octets are copied. What a flow holds is looked through faster after it,
-    /// if `next` is the number that is due there.
+    /// Holds a payload: its octets are copied. If `next` is the number that is due in the flow,
+    /// `is_far` takes less time from now on.
     pub fn hold(&mut self, flow: u32, next: u32, number: u32, octets: &[u8], arrival: Arrival)
         requires some { 0 < length octets.now }
         requires room { blocks_of self.old.held +
@@ -328,7 +331,8 @@ impl Pool {
         let from = self.octets.len();
         self.used += blocks_for(count);
         load_more(&mut self.loads, flow, blocks_for(count));
-        // Neither fails: there has been room for the most octets and payloads since the pool was made.
+        // Neither call fails: the pool has had room for the most octets and payloads since it was
+        // made.
         let _copied = self.octets.extend_from_slice(octets);
         self.waiting.insert(
             place,
@@ -343,7 +347,7 @@ impl Pool {
         );
     }
 
-    /// Gives a payload's memory back.
+    /// Removes the payload at an index and frees its memory.
     pub fn remove(&mut self, index: usize)
         requires { index < length self.old.held }
         ensures held { self.new.held ≡ remove self.old.held index }
@@ -356,21 +360,21 @@ impl Pool {
     }
 }
 
-/// The order of what waits, as one number: by flow, then by number, then by length.
+/// The order of payloads as one number: by flow, then by sequence number, then by length.
 fn key(flow: u32, number: u32, count: usize) -> u128
     ensures { result ≡ spec_key flow number count }
 {
     (u128::from(flow) * 0x1_0000_0000 + u128::from(number)) * 0x1_0000_0000 + count as u128
 }
 
-/// Whether a payload ends too far after the number that is due.
+/// Whether a payload ends more than `WINDOW` after `next`.
 fn ends_far(next: u32, number: u32, count: usize) -> bool
     ensures { result ≡ spec_ends_far next number count }
 {
     WINDOW < (ahead(next, number) as usize).saturating_add(count)
 }
 
-/// How many blocks so many octets take.
+/// How many blocks `count` octets take.
 fn blocks_for(count: usize) -> usize
     requires { count < 2 ^ 63 }
     ensures { result ≡ (count + 1023) / 1024 }
@@ -378,7 +382,7 @@ fn blocks_for(count: usize) -> usize
     (count + 1023) / 1024
 }
 
-/// A flow holds n blocks more.
+/// Counts blocks that a flow takes, if its blocks are counted.
 fn load_more(loads: &mut Vec<usize>, flow: u32, blocks: usize)
     requires { (at : ℕ) → at < length loads.old.items
         → get_or loads.old.items at 0 + blocks < 2 ^ 64 }
@@ -392,7 +396,7 @@ fn load_more(loads: &mut Vec<usize>, flow: u32, blocks: usize)
     }
 }
 
-/// A flow holds n blocks less.
+/// Counts blocks that a flow frees, if its blocks are counted.
 fn load_less(loads: &mut Vec<usize>, flow: u32, blocks: usize)
     requires { flow < length loads.old.items → blocks ≤ get_or loads.old.items flow 0 }
     ensures len { length loads.new.items ≡ length loads.old.items }
@@ -405,7 +409,7 @@ fn load_less(loads: &mut Vec<usize>, flow: u32, blocks: usize)
     }
 }
 
-/// What is known of the ends of what a flow holds, from now on.
+/// Notes what is known of the ends of a flow's payloads, if its blocks are counted.
 fn note(nears: &mut Vec<Option<Near>>, flow: u32, near: Option<Near>)
     ensures { nears.new.items ≡ set nears.old.items flow near }
 {
@@ -415,7 +419,8 @@ fn note(nears: &mut Vec<Option<Near>>, flow: u32, near: Option<Near>)
     }
 }
 
-/// Copies what waits to the spare memory, without holes, and has it in place of the other.
+/// Copies the octets of all payloads to the spare memory, without holes. The two memories change
+/// places.
 fn pack(waiting: &mut Places, octets: &mut Vec<u8>, spare: &mut Vec<u8>)
     requires within { AreWithin (length octets.old.items) waiting.old.items }
     requires room { counts waiting.old.items ≤ vec_capacity spare.old }
@@ -432,7 +437,7 @@ fn pack(waiting: &mut Places, octets: &mut Vec<u8>, spare: &mut Vec<u8>)
     while index < waiting.len() {
         let here = waiting.at(index);
         let from = spare.len();
-        // It doesn't fail: the spare memory has room for all.
+        // It can't fail: the spare memory has room for all payloads.
         let _copied = spare.extend_from_slice(&octets[here.from..here.from + here.count]);
         waiting.replace(
             index,
@@ -450,7 +455,7 @@ fn pack(waiting: &mut Places, octets: &mut Vec<u8>, spare: &mut Vec<u8>)
     swap(octets, spare);
 }
 
-/// Closes the holes, where there is no room else.
+/// Closes the holes if there is no room for `count` more octets.
 fn make_room(
     waiting: &mut Places,
     octets: &mut Vec<u8>,

@@ -16,6 +16,6 @@ returns g c =
     let w = none_known c.args.asked.ports.items c.args.asked.pool c.args.asked.connections [] in
     let state = starts O s.live.items c.in_ok-connections.connections c.args.asked.ports.items
     c.args.asked.pool c.args.asked.connections [] o c.in_ok-streams.ensures.empty (n.start [])
-    n.sound n.free n.room in
+    n.sound n.free n.room n.ranked in
     c.new-3.ensures w (subst (IsState O s.live.items c.in_ok-connections.connections) (n.start [])
     state) refl c.requires.told

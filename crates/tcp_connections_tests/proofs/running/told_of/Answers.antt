@@ -16,7 +16,7 @@ loop-index-init c =
       (
         state_of c.in-Ok.known [],
         starts _ _ c.in-Ok.known _ _ c.args.row.now.setting.connections []
-            tt c.in-Ok-new.ensures.empty (new.start []) new.sound new.free new.room,
+            tt c.in-Ok-new.ensures.empty (new.start []) new.sound new.free new.room new.ranked,
       ),
       ap (λ (w : State). w.segments) (new.start []),
     )
@@ -25,7 +25,8 @@ pub take-requires-clause-state : goal.take-requires-clause-state
 take-requires-clause-state c =
     let h = c.loop-index.invariant.0 in (
       with_packet h.0 _,
-      packet_read _ _ _ _ h.0 _ c.read.ensures.does c.read.ensures.free c.read.ensures.room h.1,
+      packet_read _ _ _ _ h.0 _ c.read.ensures.does c.read.ensures.free c.read.ensures.room
+          c.read.ensures.givers h.1,
     )
 
 pub take-requires-clause-count : goal.take-requires-clause-count
@@ -40,7 +41,8 @@ on_ok P (Err f) e h = absurd (true≢false e)
 pub loop-index-preserved : goal.loop-index-preserved
 loop-index-preserved c =
     let h = c.loop-index.invariant.0 in
-    let read = packet_read _ _ _ _ h.0 _ c.read.ensures.does c.read.ensures.free c.read.ensures.room
+    let read = packet_read _ _ _ _ h.0 _ c.read.ensures.does c.read.ensures.free
+    c.read.ensures.room c.read.ensures.givers
     h.1 in
     let taken = sym c.is_err.ensures.value ∙ c.if-is_err.false in
     let same = ap (λ (w : State). w.segments) (c.read.ensures.does []) in

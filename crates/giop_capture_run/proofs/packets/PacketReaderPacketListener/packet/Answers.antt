@@ -15,7 +15,7 @@ take-requires-clause-state g c =
     let w = after_packets g.L.Listener.reader start packets in (
       with_packet w c.args.packet.time,
       packet_read _ _ _ _ w c.args.packet.time c.read.ensures.does c.read.ensures.free
-          c.read.ensures.room h.state,
+          c.read.ensures.room c.read.ensures.givers h.state,
     )
 
 pub take-requires-clause-count : goal.take-requires-clause-count
@@ -41,7 +41,7 @@ returns-in_default-clause-does g c =
     read_more _ _ _ _ _ _ _ _ _ _ _ start packets p h
     (segment_came _ _ _ _ start packets p None none
     (packet_read _ _ _ _ w c.args.packet.time c.read.ensures.does c.read.ensures.free
-    c.read.ensures.room h.state)) (omega (arith, few))
+    c.read.ensures.room c.read.ensures.givers h.state)) (omega (arith, few))
     c.note_link.ensures.items
     (λ told before. told_link (g.N.Notices.told c.note_link.new.notices) g.L.Listener.reader start
     packets p told _ none (c.note_link.ensures.told told before))
@@ -55,7 +55,7 @@ returns-clause-does g c =
     let few = ap (λ (u : State). u.segments) (c.read.ensures.does []) in
     let some = segment_of _ _ _ c.in-Some.segment c.segment.ensures c.in-Some.is in
     let came = c.take.ensures.does v (packet_read _ _ _ _ w c.args.packet.time c.read.ensures.does
-    c.read.ensures.free c.read.ensures.room h.state) in
+    c.read.ensures.free c.read.ensures.room c.read.ensures.givers h.state) in
     let k = heard_ok _ _ c.heard.result _ c.heard.ensures c.in_ok-heard.was
     (both _ _ c.take.result came c.take.ensures.count) in
     let state = segment_came _ _ _ _ start packets p (Some (segment_view c.in-Some.segment)) some

@@ -18,8 +18,8 @@ pub returns-clause-does : goal.returns-clause-does
 unfolding began
 returns-clause-does g c w h =
     makes_by (g.L.Listener.observed c.args.to.now.listener)
-    (g.L.Listener.observed c.begin.new.to.listener) c.args.to.now.live.items
-    c.begin.new.to.live.items c.args.self.now _
+    (g.L.Listener.observed c.note.new.to.listener) c.args.to.now.live.items
+    c.note.new.to.live.items c.args.self.now _
     (λ w. began g.L.Listener.reader w c.args.id (first_number (segment_view c.args.segment))
     (segment_view c.args.segment).payload) (λ es h0.
     let S : State = state_of c.args.self.now es in
@@ -28,7 +28,8 @@ returns-clause-does g c w h =
     let fewer : blocks_of c.begin.new.pool.held ≤ c.args.self.now.pool.blocks + 0 =
     omega (arith, c.begin.ensures.blocks, c.in_ok-flow.ensures.room es (h0.observed, h0.live))
     in
-    moved (g.L.Listener.observed c.begin.new.to.listener) c.begin.new.to.live.items _ _ _
+    rw (c.note.ensures.listener, c.note.ensures.live)
+    (moved (g.L.Listener.observed c.begin.new.to.listener) c.begin.new.to.live.items _ _ _
     (ap (λ n. began g.L.Listener.reader S c.args.id n (segment_view c.args.segment).payload)
     (sym c.first_number-number.ensures))
     (flow_done (g.L.Listener.observed c.args.to.now.listener)
@@ -39,6 +40,6 @@ returns-clause-does g c w h =
     fewer (c.in_ok-flow.ensures.settled es (h0.observed, h0.live))
     (apart_taken S c.args.id h0.sound c.requires.taken)
     (first_turn _ c.args.id _ _ _ _ es (small_id S c.args.id h0.sound within))
-    (set_rest c.args.self.now c.set.new.self c.begin.new.pool
+    (set_rest c.args.self.now c.set.new.self c.begin.new.pool c.note.new.self
     c.set.ensures.came c.set.ensures.stamps)
-    c.set.ensures.states c.begin.ensures.blocks refl refl)) w h
+    c.set.ensures.states c.begin.ensures.blocks refl refl c.note.ensures.noted))) w h

@@ -29,7 +29,7 @@ returns-clause-does g c w h =
     (record c.args.self.now { flows = c.set.new.self }) es c.args.id c.close.new.self _
     (c.in_ok-close.ensures.does S.held (state c.in-Some.flow S.held es)
     (record { observed = (h0.observed, h0.live); same = refl }))
-    (set_rest c.args.self.now c.set.new.self c.args.self.now.pool
+    (set_rest c.args.self.now c.set.new.self c.args.self.now.pool c.args.self.now.givers
     c.set.ensures.came c.set.ensures.stamps)
     c.set.ensures.states refl refl)) w
     h

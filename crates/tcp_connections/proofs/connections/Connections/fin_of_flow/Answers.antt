@@ -27,7 +27,8 @@ returns-clause-does g c w h =
     let start = flow_start _ _ c.args.self.now es c.in-Some.flow h0 in
     let fewer : blocks_of c.fin.new.pool.held ≤ c.args.self.now.pool.blocks + 0 =
     omega (arith, h0.blocks, c.fin.ensures.blocks, c.in_ok-fin.ensures.room f start) in
-    moved _ _ _ _ _
+    rw (c.note.ensures.listener, c.note.ensures.live)
+    (moved _ _ _ _ _
     (arrived_some g.L.Listener.reader S c.args.id (End c.args.number) c.in-Some.flow e)
     (flow_turned _ _ _ _ c.args.self.now _ es c.args.id c.in-Some.flow c.fin.new.self _ h0 e
     (c.in_ok-fin.ensures.does f start) c.fin.ensures.id
@@ -35,6 +36,6 @@ returns-clause-does g c w h =
     (c.in_ok-fin.ensures.settled f start
     (h0.sound.settled c.args.id c.in-Some.flow e))
     (λ l t. step_turn _ c.args.id es f _ l t)
-    (set_rest c.args.self.now c.set.new.self c.fin.new.pool
+    (set_rest c.args.self.now c.set.new.self c.fin.new.pool c.note.new.self
     c.set.ensures.came c.set.ensures.stamps)
-    c.set.ensures.states c.fin.ensures.blocks refl refl)) w h
+    c.set.ensures.states c.fin.ensures.blocks refl refl c.note.ensures.noted))) w h

@@ -73,4 +73,4 @@ returns-clause-does g c w h =
     es (λ es. refl) _ _ _ _ _ _ c.forget.ensures.keys c.forget.ensures.rooms
     (c.give_back.ensures.free ∙ ap (λ (r : ℕ). c.forget_flow-2.new.self.free.free.items ++ r ∷ [])
     at) refl refl refl)
-    c.give_back.ensures.most c.forget.ensures.most
+    c.give_back.ensures.most c.forget.ensures.most refl

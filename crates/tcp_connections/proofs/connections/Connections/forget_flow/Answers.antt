@@ -17,18 +17,21 @@ returns-in_default-clause-does g c w h =
 
 pub returns-clause-does : goal.returns-clause-does
 returns-clause-does g c w h =
-    makes_by _ _ _ _ _ _ (λ w. flow_forgotten w c.args.id c.args.cause) (λ es h0.
+    makes_by {over = 0} _ _ _ _ c.args.self.now _ (λ w. flow_forgotten w c.args.id c.args.cause)
+    (λ es h0.
     let S = state_of c.args.self.now es in
     let e : flow_at S c.args.id ≡ Some c.in-Some.flow = sym c.flow.ensures ∙ c.in-Some.is in
     let own = c.close.ensures.id ∙ h0.sound.ids c.args.id c.in-Some.flow e in
-    moved _ _ _ _ _ (forgot_some S c.args.id c.args.cause c.in-Some.flow e)
+    rw (c.note.ensures.listener, c.note.ensures.live)
+    (moved _ _ _ _ _ (forgot_some S c.args.id c.args.cause c.in-Some.flow e)
     (forgot_done _ _ _ _ _ _ es c.args.id c.close.new.self _ h0
     (some_within S.flows c.args.id c.in-Some.flow e)
     (c.in_ok-close.ensures.does S.held (state c.in-Some.flow S.held es)
     (record { observed = (h0.observed, h0.live); same = refl }))
     (closed_turn c.args.id es (state c.in-Some.flow S.held es) c.args.cause
     (turn_start _ _ _ es c.args.id c.in-Some.flow h0 e))
-    (set_rest c.args.self.now c.set.new.self c.forget.new.pool
+    (set_rest c.args.self.now c.set.new.self c.forget.new.pool c.note.new.self
     c.set.ensures.came c.set.ensures.stamps)
     c.set.ensures.states c.forget.ensures.blocks
-    (c.forget.ensures.held ∙ ap (λ n. held_by_others n S.held) own) refl refl)) w h
+    (c.forget.ensures.held ∙ ap (λ n. held_by_others n S.held) own) refl refl
+    c.note.ensures.noted))) w h

@@ -25,12 +25,13 @@ returns-clause-does g c over w h =
     let start = flow_start _ _ c.args.self.now es c.in-Some.flow h0 in
     let fewer : blocks_of c.gap.new.pool.held ≤ c.args.self.now.pool.blocks + over =
     omega (arith, h0.blocks, c.gap.ensures.blocks, c.in_ok-gap.ensures.room f start) in
-    moved _ _ _ _ _ (gapped_some g.L.Listener.reader S c.args.id c.in-Some.flow e)
+    rw (c.note.ensures.listener, c.note.ensures.live)
+    (moved _ _ _ _ _ (gapped_some g.L.Listener.reader S c.args.id c.in-Some.flow e)
     (flow_turned _ _ _ _ c.args.self.now _ es c.args.id c.in-Some.flow c.gap.new.self _ h0 e
     (c.in_ok-gap.ensures.does f start) c.gap.ensures.id
     (c.in_ok-gap.ensures.beside f start) fewer
     (c.in_ok-gap.ensures.settled f start)
     (λ l t. gap_turn _ c.args.id es f l t)
-    (set_rest c.args.self.now c.set.new.self c.gap.new.pool
+    (set_rest c.args.self.now c.set.new.self c.gap.new.pool c.note.new.self
     c.set.ensures.came c.set.ensures.stamps)
-    c.set.ensures.states c.gap.ensures.blocks refl refl)) w h
+    c.set.ensures.states c.gap.ensures.blocks refl refl c.note.ensures.noted))) w h

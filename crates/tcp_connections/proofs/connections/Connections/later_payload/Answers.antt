@@ -38,7 +38,8 @@ returns-clause-does g c w h =
       c.payload.ensures.blocks,
       c.in_ok-payload.ensures.room f start,
     ) in
-    moved _ _ _ _ _
+    rw (c.note.ensures.listener, c.note.ensures.live)
+    (moved _ _ _ _ _
     (arrived_some g.L.Listener.reader S c.args.id
     (Octets (first_number (segment_view c.args.segment)) c.args.segment.payload.now S.arrival)
     c.args.flow c.requires.flow ∙ ap (λ n. with_flow S c.args.id
@@ -51,6 +52,6 @@ returns-clause-does g c w h =
     (c.in_ok-payload.ensures.beside f start) fewer
     (c.in_ok-payload.ensures.settled f start)
     (λ l t. step_turn _ c.args.id es f _ l t)
-    (set_rest c.args.self.now c.set.new.self c.payload.new.pool
+    (set_rest c.args.self.now c.set.new.self c.payload.new.pool c.note.new.self
     c.set.ensures.came c.set.ensures.stamps)
-    c.set.ensures.states c.payload.ensures.blocks refl refl)) w h
+    c.set.ensures.states c.payload.ensures.blocks refl refl c.note.ensures.noted))) w h

@@ -83,7 +83,7 @@ returns-clause-does g c w h =
     (c.add.ensures.rooms ∙ ap (λ n. insert c.args.self.now.table.rooms n room)
     c.place_for-place.ensures.place)
     refl c.open.ensures.lasts c.set.ensures c.open.ensures.came)
-    c.take.ensures.most c.add.ensures.most
+    c.take.ensures.most c.add.ensures.most refl
 
 pub returns-clause-room : goal.returns-clause-room
 returns-clause-room g c = sym (ap next_room (c.take.ensures.some c.in-Some.room c.in-Some.is)

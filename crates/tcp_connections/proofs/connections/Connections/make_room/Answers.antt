@@ -21,7 +21,7 @@ clear-requires-clause-state g c =
     let h = c.requires.state in (
       h.0,
       kept _ _ c.args.self.now c.eldest-place.new.self h.0 c.eldest-place.ensures.same
-          c.eldest-place.ensures.free c.eldest-place.ensures.room h.1,
+          c.eldest-place.ensures.free c.eldest-place.ensures.room c.eldest-place.ensures.givers h.1,
     )
 
 pub returns-clause-does : goal.returns-clause-does
@@ -38,4 +38,5 @@ returns-clause-does g c w h =
     (room_made F w (omega (arith, full, h.room, ap length known))
     ∙ ap (cleared F w) (sym n))
     (c.clear.ensures.does w (kept _ _ c.args.self.now c.eldest-place.new.self w
-    c.eldest-place.ensures.same c.eldest-place.ensures.free c.eldest-place.ensures.room h))
+    c.eldest-place.ensures.same c.eldest-place.ensures.free c.eldest-place.ensures.room
+    c.eldest-place.ensures.givers h))

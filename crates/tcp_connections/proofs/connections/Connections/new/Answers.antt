@@ -1,4 +1,5 @@
-use Rattle.std.proofs.Common.{[], None, refl}
+use Rattle.std.proofs.Common.{[], None, refl, arith}
+use Rattle.tcp_waiting.specs.Payload.{load_of}
 use Rattle.tcp_connections.proofs.Start.{start_sound}
 use Rattle.tcp_connections.proofs.connections.Connections.new.Goals as goal
 
@@ -15,3 +16,14 @@ returns-clause-sound c =
     c.in_ok-flows.ensures.states
     c.in_ok-pool.ensures.empty refl refl
     c.requires.some.0 c.requires.some.1
+
+pub returns-clause-ranked : goal.returns-clause-ranked
+unfolding load_of
+returns-clause-ranked c live =
+    let n = c.in_ok-givers.ensures in
+    record {
+      many = omega (arith, n.flows);
+      loads = λ id. omega arith;
+      ranks = λ id l. n.ranks id (omega (arith, l));
+      order = λ a b s. omega (arith, n.numbers a, n.numbers b);
+    }

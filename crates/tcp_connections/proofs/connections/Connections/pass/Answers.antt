@@ -25,6 +25,7 @@ returns-then-is_looked_through g c w h =
       blocks = t.blocks;
       free = t.free;
       room = t.room;
+      ranked = t.ranked;
     })
 
 pub returns-else-is_looked_through : goal.returns-else-is_looked_through

@@ -20,7 +20,7 @@ take_unknown-requires-clause-state g c = (
   _,
   (counted (g.L.Listener.observed c.args.to.now.listener) c.args.to.now.live.items
       c.args.self.now (record c.args.self.now { segments = c.args.self.now.segments + 1 })
-      c.requires.state.0 c.requires.state.1 (λ e. refl) refl refl),
+      c.requires.state.0 c.requires.state.1 (λ e. refl) refl refl refl),
 )
 
 pub returns-in_default-clause-does : goal.returns-in_default-clause-does
@@ -36,7 +36,7 @@ returns-in_default-clause-does g c w h =
     (c.take_unknown.ensures.does _ (counted (g.L.Listener.observed c.args.to.now.listener)
     c.args.to.now.live.items c.args.self.now
     (record c.args.self.now { segments = c.args.self.now.segments + 1 }) w h (λ e. refl) refl
-    refl))
+    refl refl))
 
 pub returns-in_default-clause-count : goal.returns-in_default-clause-count
 returns-in_default-clause-count g c =
@@ -101,8 +101,9 @@ returns-then-is_kept-clause-does g c w h =
     (record c.args.self.now {
       segments = c.args.self.now.segments + 1;
       guesses = c.note.new.self;
-    }) w h (λ e. refl) refl refl)
-    c.keep_syn.ensures.kept c.keep_syn.ensures.free c.keep_syn.ensures.room)
+    }) w h (λ e. refl) refl refl refl)
+    c.keep_syn.ensures.kept c.keep_syn.ensures.free c.keep_syn.ensures.room
+    c.keep_syn.ensures.givers)
 
 pub returns-then-is_kept-clause-count : goal.returns-then-is_kept-clause-count
 unfolding syn_kept
@@ -119,7 +120,7 @@ place_of-requires g c =
             segments = c.args.self.now.segments + 1;
             guesses = c.note.new.self;
           }) c.requires.state.0
-          c.requires.state.1 (λ e. refl) refl refl);
+          c.requires.state.1 (λ e. refl) refl refl refl);
       known = (k.0, k.1.found);
     }
 
@@ -132,7 +133,7 @@ end_by-requires-clause-state g c = (
         segments = c.args.self.now.segments + 1;
         guesses = c.note.new.self;
       }) c.requires.state.0
-      c.requires.state.1 (λ e. refl) refl refl),
+      c.requires.state.1 (λ e. refl) refl refl refl),
 )
 
 pub take_unknown-requires-then-is_anew-clause-state :
@@ -145,7 +146,7 @@ take_unknown-requires-then-is_anew-clause-state g c = (
         segments = c.args.self.now.segments + 1;
         guesses = c.note.new.self;
       }) c.requires.state.0
-      c.requires.state.1 (λ e. refl) refl refl),
+      c.requires.state.1 (λ e. refl) refl refl refl),
 )
 
 pub take_unknown-requires-then-is_anew-clause-new :
@@ -161,7 +162,7 @@ take_unknown-requires-then-is_anew-clause-new g c =
       segments = c.args.self.now.segments + 1;
       guesses = c.note.new.self;
     }) c.requires.state.0
-    c.requires.state.1 (λ e. refl) refl refl) in
+    c.requires.state.1 (λ e. refl) refl refl refl) in
     let some : place_of pair w.known ≡ Some c.place_of.result =
     ap (place_of pair) (sym (known_of _ _ _ _ h)) ∙ c.place_of.ensures.place in
     ap (place_of pair) (known_of _ _ _ _ n
@@ -207,7 +208,7 @@ returns-then-is_anew-clause-does g c w h =
       segments = c.args.self.now.segments + 1;
       guesses = c.note.new.self;
     }) w h (λ e. refl) refl
-    refl)))
+    refl refl)))
 
 pub returns-then-is_anew-clause-count : goal.returns-then-is_anew-clause-count
 returns-then-is_anew-clause-count g c =
@@ -224,7 +225,7 @@ take_known-requires-clause-state g c = (
         segments = c.args.self.now.segments + 1;
         guesses = c.note.new.self;
       }) c.requires.state.0
-      c.requires.state.1 (λ e. refl) refl refl),
+      c.requires.state.1 (λ e. refl) refl refl refl),
 )
 
 pub returns-clause-does : goal.returns-clause-does
@@ -258,7 +259,7 @@ returns-clause-does g c w h =
       segments = c.args.self.now.segments + 1;
       guesses = c.note.new.self;
     }) w h (λ e. refl) refl
-    refl))
+    refl refl))
 
 pub returns-clause-count : goal.returns-clause-count
 returns-clause-count g c =

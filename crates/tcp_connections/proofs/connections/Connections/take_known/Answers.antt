@@ -33,7 +33,8 @@ acknowledgement-requires g c =
       state = (
         _,
         noted _ _ c.args.self.now _ c.requires.state.0 c.args.room c.flow_id-id.result
-            c.requires.state.1 c.note.ensures.noted c.note.ensures.free c.note.ensures.room,
+            c.requires.state.1 c.note.ensures.noted c.note.ensures.free c.note.ensures.room
+            c.note.ensures.givers,
       );
     }
 
@@ -43,7 +44,7 @@ payload-requires-clause-state g c = (
   c.in_ok-acknowledgement.ensures.does _
       (noted _ _ c.args.self.now _ c.requires.state.0 c.args.room
       c.flow_id-id.result c.requires.state.1 c.note.ensures.noted
-      c.note.ensures.free c.note.ensures.room),
+      c.note.ensures.free c.note.ensures.room c.note.ensures.givers),
 )
 
 pub payload-requires-clause-within : goal.payload-requires-clause-within
@@ -52,7 +53,7 @@ payload-requires-clause-within g c =
     let h = c.requires.state.1 in
     let n = c.in_ok-acknowledgement.ensures.does _
     (noted _ _ c.args.self.now _ w c.args.room c.flow_id-id.result h
-    c.note.ensures.noted c.note.ensures.free c.note.ensures.room) in
+    c.note.ensures.noted c.note.ensures.free c.note.ensures.room c.note.ensures.givers) in
     let k = acknowledgement_kept g.L.Listener.reader
     (with_segment w c.args.room c.flow_id-id.result) c.flow_id.result
     (segment_view c.args.segment) in
@@ -77,7 +78,7 @@ payload-requires-clause-taken g c =
     let h = c.requires.state.1 in
     let n = c.in_ok-acknowledgement.ensures.does _
     (noted _ _ c.args.self.now _ w c.args.room c.flow_id-id.result h
-    c.note.ensures.noted c.note.ensures.free c.note.ensures.room) in
+    c.note.ensures.noted c.note.ensures.free c.note.ensures.room c.note.ensures.givers) in
     let k = acknowledgement_kept g.L.Listener.reader
     (with_segment w c.args.room c.flow_id-id.result) c.flow_id.result
     (segment_view c.args.segment) in
@@ -102,7 +103,7 @@ fin-requires g c =
             (c.in_ok-acknowledgement.ensures.does _
             (noted _ _ c.args.self.now _ c.requires.state.0 c.args.room
             c.flow_id-id.result c.requires.state.1 c.note.ensures.noted
-            c.note.ensures.free c.note.ensures.room)),
+            c.note.ensures.free c.note.ensures.room c.note.ensures.givers)),
       );
     }
 
@@ -113,7 +114,7 @@ reset-requires-clause-state g c = (
       (c.in_ok-acknowledgement.ensures.does _
       (noted _ _ c.args.self.now _ c.requires.state.0 c.args.room
       c.flow_id-id.result c.requires.state.1 c.note.ensures.noted
-      c.note.ensures.free c.note.ensures.room))),
+      c.note.ensures.free c.note.ensures.room c.note.ensures.givers))),
 )
 
 pub reset-requires-clause-known : goal.reset-requires-clause-known
@@ -123,7 +124,7 @@ reset-requires-clause-known g c =
     let n = c.in_ok-fin.ensures.does _ (c.in_ok-payload.ensures.does _
     (c.in_ok-acknowledgement.ensures.does _
     (noted _ _ c.args.self.now _ c.requires.state.0 c.args.room c.flow_id-id.result h
-    c.note.ensures.noted c.note.ensures.free c.note.ensures.room))) in (
+    c.note.ensures.noted c.note.ensures.free c.note.ensures.room c.note.ensures.givers))) in (
       k.0,
       known_before g.L.Listener.reader c.requires.state.0 c.args.room c.flow_id-id.result
           c.flow_id.result (segment_view c.args.segment) c.args.self.now c.fin.new.self _ _
@@ -137,7 +138,7 @@ hear-requires g c =
     let n = c.in_ok-fin.ensures.does _ (c.in_ok-payload.ensures.does _
     (c.in_ok-acknowledgement.ensures.does _
     (noted _ _ c.args.self.now _ c.requires.state.0 c.args.room c.flow_id-id.result h
-    c.note.ensures.noted c.note.ensures.free c.note.ensures.room))) in
+    c.note.ensures.noted c.note.ensures.free c.note.ensures.room c.note.ensures.givers))) in
     record {
       state = (
         _,
@@ -153,7 +154,7 @@ returns-clause-does g c place k w h =
     let n = c.in_ok-fin.ensures.does _ (c.in_ok-payload.ensures.does _
     (c.in_ok-acknowledgement.ensures.does _
     (noted _ _ c.args.self.now _ w c.args.room c.flow_id-id.result h
-    c.note.ensures.noted c.note.ensures.free c.note.ensures.room))) in
+    c.note.ensures.noted c.note.ensures.free c.note.ensures.room c.note.ensures.givers))) in
     moved_ok c.hear.result _ _ _ _ _
     (known_is g.L.Listener.reader w place (segment_view c.args.segment) c.args.room
     c.args.side c.flow_id-id.result c.flow_id.result at (sym c.requires.flow)

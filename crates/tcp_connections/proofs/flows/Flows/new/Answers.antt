@@ -4,7 +4,9 @@ use Rattle.tcp_connections.proofs.flows.Flows.new.Goals as goal
 
 pub invariant_of-result-clause-at_most : goal.invariant_of-result-clause-at_most
 invariant_of-result-clause-at_most c room within =
-    let none = c.in_ok-ranks.ensures.ranks room in omega (arith, none)
+    let none =
+    c.in_ok-ranks.ensures.ranks room (omega (arith, within, c.in_ok-ranks.ensures.rooms)) in
+    omega (arith, none)
 
 pub invariant_of-result-clause-small : goal.invariant_of-result-clause-small
 invariant_of-result-clause-small c =

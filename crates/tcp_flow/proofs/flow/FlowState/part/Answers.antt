@@ -8,7 +8,7 @@ use Rattle.tcp_flow.specs.State.{IsState}
 use Rattle.tcp_flow.proofs.Room.{closed_next}
 use Rattle.tcp_flow.proofs.flow.FlowState.part.Goals as goal
 
--- a flow that waits, where one has closed its stream
+-- a flow that waits, after one has closed its stream
 waiting : (O : List Event → Type 0) (s : FlowState) (held : List Payload) (f : Flow) (count n : ℕ) →
     IsState O s held (closed f Gap) → n ≡ onward s.next count →
     IsState O (record s { next = n; live = Some n; waits = true }) held (awaiting f count)

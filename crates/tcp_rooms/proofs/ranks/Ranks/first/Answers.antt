@@ -3,7 +3,7 @@ use Rattle.std.proofs.lemmas.List.{get_or_default}
 use Rattle.tcp_rooms.proofs.Leaves.{root_leads, left_leads, right_leads, leaf_first, none_first}
 use Rattle.tcp_rooms.proofs.ranks.Ranks.first.Goals as goal
 
--- what is read at a place
+-- the rank that was read at an index
 read : (nodes : List ℕ) (i r : ℕ) → r ≡ get_or nodes i r → i < length nodes → get_or nodes i 0 ≡ r
 read nodes i r e l = get_or_default nodes i 0 r l ∙ sym e
 

@@ -65,7 +65,7 @@ insert-requires c =
       );
     }
 
--- what waits after it, by where it is
+-- the payloads after one more is held, from where they are in memory
 record IsHeld (c : goal.After-insert) : Type 0 where
   octets : c.extend_from_slice-copied.new.self.items ≡ c.make_room.new.octets.items
       ++ c.args.octets.now
