@@ -89,6 +89,9 @@ def damaged(checkpoint: bytes) -> Iterator[Tuple[str, bytes, Tuple[str, ...]]]:
         yield f"layout {layout}", checkpoint[:11] + bytes([layout]) + checkpoint[12:], (word,)
     for most in (0, 4097):
         yield f"room for {most}", checkpoint[:80] + most.to_bytes(4, "big") + checkpoint[84:], ("state",)
+    if len(checkpoint) > 142:
+        # Of a message that is joined from Fragments of GIOP 1.1 the offset lacks something; none is joined.
+        yield "an offset that lacks 4", checkpoint[:142] + b"\4" + checkpoint[143:], ("state",)
     yield "an octet more", checkpoint + b"\0", ("length",)
     yield "a longer file than any", checkpoint + bytes(3_410_000), ("length",)
 

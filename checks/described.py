@@ -1,5 +1,5 @@
-"""Requests of all versions with an any, a TypeCode, wide text or arrays in arrays, made by a seed: of types that the file has
-and of others, in each other, and described in both byte orders. The file, DESCRIBED, is of version 3."""
+"""Requests of all versions with an any, a TypeCode, wide text, arrays in arrays or a type within itself, made by a seed: of
+types that the file has and of others, in each other, and described in both byte orders. The file, DESCRIBED, is of version 3."""
 
 from __future__ import annotations
 
@@ -22,6 +22,9 @@ struct Deep "{LONG_ID}{LONG_ID[4:]}Deep:1.0" {{ One one; Two two; any more; sequ
 union Either "{LONG_ID}Either{"r" * 40}:1.0" switch (Colour) {{ case red: long n; default: any value; }};
 struct Wide "IDL:Wide:1.0" {{ octet n; wstring text; wchar mark; }};
 struct Grid "IDL:Grid:1.0" {{ octet at[2][3]; }};
+struct Tree;
+struct Tree "IDL:Tree:1.0" {{ octet n; sequence<Tree> more; sequence<Tree, 2> two; }};
+operation void tree(in Tree t, in encapsulation<Tree> e, in octet z);
 operation void push(in any v);
 operation void typ(in TypeCode t, in octet o);
 operation void both(in octet a, in Deep d, in any v, in octet z);
@@ -32,7 +35,7 @@ operation void text(in octet a, in wchar c, in Wide w, in sequence<wstring<2>> s
 ID = {
     "Colour": "IDL:Colour:1.0", "One": "IDL:One:1.0", "Two": f"{LONG_ID}Two:1.0",
     "Deep": f"{LONG_ID}{LONG_ID[4:]}Deep:1.0", "Either": f"{LONG_ID}Either{'r' * 40}:1.0", "Wide": "IDL:Wide:1.0",
-    "Grid": "IDL:Grid:1.0",
+    "Grid": "IDL:Grid:1.0", "Tree": "IDL:Tree:1.0",
 }  # fmt: skip
 KINDS = {
     "null": 0, "void": 1, "short": 2, "long": 3, "ushort": 4, "ulong": 5, "float": 6, "double": 7, "boolean": 8,
@@ -78,7 +81,9 @@ DEEP = Named(
 EITHER = Named(UNION, ID["Either"], (("n", Simple("long")), ("value", Simple("any"))))
 WIDE = Named(STRUCT, ID["Wide"], (("n", Simple("octet")), ("text", Simple("wstring")), ("mark", Simple("wchar"))))
 GRID = Named(STRUCT, ID["Grid"], (("at", Around(ARRAY, Around(ARRAY, Simple("octet"), 3), 2)),))
-KNOWN: Sequence[Described] = (COLOUR, ONE, TWO, DEEP, EITHER, WIDE, GRID)
+# What is told of the members of a tree is compared with nothing.
+TREE = Named(STRUCT, ID["Tree"], (("n", Simple("octet")), ("more", Simple("any")), ("two", Simple("any"))))
+KNOWN: Sequence[Described] = (COLOUR, ONE, TWO, DEEP, EITHER, WIDE, GRID, TREE)
 
 
 class Draw:
@@ -164,6 +169,8 @@ class Draw:
         draw = self.random
         if isinstance(made, Simple):
             self.simple(into, made.word, depth)
+        elif made is TREE:
+            self.tree(into, depth)
         elif isinstance(made, Around):
             count = draw.choice((0, 1, 2)) if made.kind == SEQUENCE else made.count if made.kind == ARRAY else 1
             if made.kind == SEQUENCE:
@@ -180,6 +187,15 @@ class Draw:
         else:
             for _, part in made.members:
                 self.value(into, part, depth + 1)
+
+    def tree(self, into: Values, depth: int) -> None:
+        """A tree, of up to some twelve generations."""
+        into.put(("octet", depth))
+        for most in (3, 2):
+            count = self.random.choice((0, 1, most)) if depth < 13 and self.random.random() < 0.7 else 0
+            into.number(count)
+            for _ in range(count):
+                self.tree(into, depth + (1 if count == 1 else 4))
 
     def simple(self, into: Values, word: str, depth: int) -> None:
         """A value of a simple type."""
@@ -217,7 +233,7 @@ def headed(order: Order, minor: int, operation: str) -> Values:
 
 def payload(draw: Draw, order: Order, minor: int) -> bytes:
     """What follows a message's header."""
-    operation = draw.random.choice(("push", "push", "push", "typ", "both", "held", "text", "grid"))
+    operation = draw.random.choice(("push", "push", "push", "typ", "both", "held", "text", "grid", "tree"))
     values = headed(order, minor, operation)
     if operation == "push":
         draw.any(values, 0)
@@ -228,6 +244,12 @@ def payload(draw: Draw, order: Order, minor: int) -> bytes:
         values.put(("octet", 1))
         draw.value(values, DEEP, 1)
         draw.any(values, 0)
+        values.put(("octet", 2))
+    elif operation == "tree":
+        draw.tree(values, draw.random.choice((0, 3)))
+        inner = draw.inner()
+        draw.tree(inner, draw.random.choice((0, 3)))
+        values.encapsulation(inner)
         values.put(("octet", 2))
     elif operation == "grid":
         values.put(("octet", 1), *(("short", n) for n in range(4)))

@@ -9,8 +9,8 @@ shown as rest, never as wrong values. What has no type at all is left out. Comme
 error what is whole, what is by half and what is left out.
 
 -Wbonly=Module::Interface takes one interface and what it inherits; it may be given more than once.
--Wbversion=1 and -Wbversion=2 write a file of that version of the language, which has no form for an any or wide text, and
-structs around arrays in arrays.
+-Wbversion=1 and -Wbversion=2 write a file of that version of the language, which has no form for an any, wide text or a type
+within itself, and structs around arrays in arrays.
 
 The work is done in three steps, in the modules of `giopdump_idl`: `Translator` turns omniidl's declarations into the
 types of `model` or refuses them, `Selection` decides which operations and exceptions are written, and `Sheet` names the

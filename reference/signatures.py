@@ -17,6 +17,7 @@ from .types import (
     Enum,
     Members,
     Octets,
+    Recursive,
     Series,
     String,
     Struct,
@@ -79,6 +80,7 @@ class Parser:
         self._tokens: List[str] = [token for token in TOKENS.findall(text.decode("latin-1")) if token]
         self._at = 0
         self._declared: Dict[str, Type] = {}
+        self._announced: Set[str] = set()  # names that are declared later
         self.table = Table()
         self.wanted("signatures")
         self.table.version = int(self.wanted("1", "2", "3"))
@@ -130,11 +132,14 @@ class Parser:
             self.taken()
             repository_id = self.repository_id()
             self.table.exceptions[repository_id] = Struct(self.members())
+        elif self.table.version == 3 and self._tokens[self._at + 1] == ";":
+            self._announced.add(self.taken())
         else:
             name = self.taken()
             repository_ids = [self.repository_id()] if self.table.version == 3 and self.next.startswith('"') else []
             makers: Dict[str, Callable[[], Type]] = {"enum": self.enum, "struct": self.struct, "union": self.union}
             self._declared[name] = makers[kind]()
+            self._announced.discard(name)
             self.table.identified.update((each, self._declared[name]) for each in repository_ids)
         self.wanted(";")
 
@@ -229,12 +234,7 @@ class Parser:
         if word == "string":
             return String(self.bound("<", ">"))
         if word == "sequence":
-            self.wanted("<")
-            octet = self.next == "octet"
-            element = self.type()
-            bound = self.bound(",", "")
-            self.wanted(">")
-            return Octets(bound) if octet else Series(element, bound)
+            return self.sequence()
         if word == "encapsulation":
             self.wanted("<")
             value = self.type()
@@ -248,6 +248,21 @@ class Parser:
                 self.bound("<", ">")  # counts characters, which octets don't tell
             return WIDE[word]
         return IOR if word == "Object" else BASE.get(word) or self._declared[word]
+
+    def sequence(self) -> Type:
+        """A sequence, after its word."""
+        self.wanted("<")
+        name = self.next
+        element = None
+        if name in self._announced:
+            self.taken()
+        else:
+            element = self.type()
+        bound = self.bound(",", "")
+        self.wanted(">")
+        if element is None:
+            return Recursive(self._declared, name, bound)
+        return Octets(bound) if name == "octet" else Series(element, bound)
 
     def bound(self, begin: str, end: str) -> Optional[int]:
         """A bound between these tokens, where there is one."""

@@ -284,6 +284,28 @@ class Series(Type):
         return (self.element,)
 
 
+@dataclass(frozen=True)
+class Recursive(Type):
+    """A sequence of a type that is declared after it, by its name, which counts as one part of it."""
+
+    declared: Dict[str, Type]
+    name: str
+    bound: Optional[int]
+
+    def read(self, reader: Reader, path: str) -> int:
+        count, element = counted(reader, self.bound), self.declared[self.name]
+        reader.tell(reader.at, f"{path} count {count}")
+        if count and not reader.has_room(element):
+            raise Untyped
+        for place in range(count):
+            reader.value(element, f"{path}[{place}]")
+        return count
+
+    @cached_property
+    def depth(self) -> int:
+        return 2
+
+
 def counted(reader: Reader, bound: Optional[int]) -> int:
     """The count of a sequence."""
     count = reader.number(4)

@@ -136,6 +136,16 @@ class Array:
         return made, [self.length, *lengths]
 
 
+@dataclass(eq=False)
+class Announced:
+    """A struct or a union that is declared later, as the element of a sequence; `made` is what it is once that is known."""
+
+    word: str
+    scoped: Tuple[str, ...]
+    depth: int = field(default=1, init=False)
+    made: Named = field(init=False)
+
+
 @dataclass(frozen=True)
 class Item:
     """A member, a case's member or a parameter."""
@@ -212,7 +222,8 @@ class Raised(Declared):
         return [member.type for member in self.members]
 
 
-Type = Either[Scalar, Described, Text, Reference, Series, Array, Enum, Struct, Union]
+Named = Either[Enum, Struct, Union]
+Type = Either[Scalar, Described, Text, Reference, Series, Array, Announced, Named]
 
 
 @dataclass(frozen=True)

@@ -10,7 +10,7 @@ from typing import Dict, Iterable, Iterator, List, Optional, Sequence, Set, Tupl
 from omniidl import idlast
 
 from .model import (
-    MOST_DECLARATIONS, MOST_INTERFACES, RETURNED, Array, Cut, Declared, Half, Item, Operation, Place, Raised, Scalar, Series,
+    MOST_DECLARATIONS, MOST_INTERFACES, RETURNED, Announced, Array, Cut, Declared, Half, Item, Operation, Place, Raised, Scalar, Series,
     Slot, Text, Type, Unsayable, at_most, place_in, spelled,
 )  # fmt: skip
 from .shown import shown
@@ -52,7 +52,8 @@ class Section:
     exceptions: List[idlast.Exception]
 
 
-Entry = Either[Declared, Operation, str]  # a str is a comment
+Needed = Either[Declared, Announced]
+Entry = Either[Needed, Operation, str]  # a str is a comment
 Written = TypeVar("Written", Operation, Raised)
 
 YES_OR_NO = Slot("out", RETURNED, Item("return", Scalar("boolean")))
@@ -227,7 +228,7 @@ class Selection:
         self.interfaces: Dict[str, None] = {}  # of which operations are said to be, in the order of the file
         self._version = version
         self._lines: Counter[str] = Counter()
-        self._placed: Set[Declared] = set()
+        self._placed: Set[Needed] = set()
         self._exceptions: Dict[str, Either[Raised, Unsayable]] = {}
         self._named: List[idlast.Exception] = []
         parts = self._parts(tree, only)
@@ -344,10 +345,7 @@ class Selection:
             outcome = self._within_limits(kind, outcome)
         if isinstance(outcome, Unsayable):
             return outcome
-        for declared in self._new_types(outcome):
-            self._placed.add(declared)
-            entries.append(declared)
-            self.whole["type"] += 1
+        self._place_types(entries, self._new_types(outcome))
         if isinstance(outcome, Operation):
             entries.extend(f"{cut.where}: rest ({cut.why})" for cut in outcome.cuts)
             self.interfaces.update(dict.fromkeys(outcome.interfaces))
@@ -367,7 +365,7 @@ class Selection:
         """What is to be added, where there is room for it and the types that it needs."""
         try:
             at_most(self._lines[kind] + 1, MOST_DECLARATIONS, f"{kind}s")
-            at_most(self.whole["type"] + len(self._new_types(made)), MOST_DECLARATIONS, "types")
+            self._have_room(self._new_types(made))
             if isinstance(made, Operation):
                 at_most(len({*self.interfaces, *made.interfaces}), MOST_INTERFACES, "interfaces")
         except Unsayable as refusal:
@@ -382,12 +380,10 @@ class Selection:
                 continue
             try:
                 found = self._new([self.translator.declared(decl, decl.scopedName())])
-                at_most(self.whole["type"] + len(found), MOST_DECLARATIONS, "types")
+                self._have_room(found)
             except Unsayable:
                 continue  # it is told with the others
-            self._placed.update(found)
-            self.whole["type"] += len(found)
-            entries.extend(found)
+            self._place_types(entries, found)
         if entries:
             self.sections.append(("Types that only an any may have", entries))
 
@@ -400,24 +396,40 @@ class Selection:
         more = [f"left out: {len(refused) - MOST_REFUSED} more types"] if len(refused) > MOST_REFUSED else []
         return [*refused[:MOST_REFUSED], *more]
 
-    def _new_types(self, made: Either[Operation, Raised]) -> List[Declared]:
+    def _have_room(self, types: Sequence[Needed]) -> None:
+        """Refuses types for which there is no room."""
+        count = sum(isinstance(each, Declared) for each in types)
+        at_most(self.whole["type"] + count, MOST_DECLARATIONS, "types")
+
+    def _place_types(self, entries: List[Entry], types: Sequence[Needed]) -> None:
+        """Adds types."""
+        self._placed.update(types)
+        self.whole["type"] += sum(isinstance(each, Declared) for each in types)
+        entries.extend(types)
+
+    def _new_types(self, made: Either[Operation, Raised]) -> List[Needed]:
         """The declarations that something needs and that aren't there yet, each after those that it needs."""
         return self._new(made.parts if isinstance(made, Raised) else made.types)
 
-    def _new(self, types: Iterable[Type]) -> List[Declared]:
-        """The declarations in these types that aren't there yet, each after those that it needs."""
-        found: Dict[Declared, None] = {}
+    def _new(self, types: Iterable[Type]) -> List[Needed]:
+        """The declarations in these types that aren't there yet, each after those that it needs, which are announced if they
+        need it."""
+        found: Dict[Needed, None] = {}
 
         def visit(each: Type) -> None:
             if isinstance(each, (Series, Array)):
                 visit(each.element)
-            elif isinstance(each, Declared) and each not in self._placed and each not in found:
-                for part in each.parts:
-                    visit(part)
+            elif isinstance(each, (Declared, Announced)) and each not in self._placed and each not in found:
+                if isinstance(each, Declared):
+                    for part in each.parts:
+                        visit(part)
                 found[each] = None
 
-        for part in types:
+        left = list(types)
+        for part in left:
+            known = len(found)
             visit(part)
+            left.extend(each.made for each in list(found)[known:] if isinstance(each, Announced))
         return list(found)
 
 

@@ -8,6 +8,7 @@ from textwrap import wrap
 from typing import Sequence, Tuple
 
 from .model import (
+    Announced,
     Array,
     Declared,
     Described,
@@ -60,6 +61,8 @@ class Sheet:
             end = ")" if entry.interfaces else ");"
             line = self._laid_out(f"operation {result} {entry.name}(", parameters, ", ", end, "")
             return line + self._of(entry, len(line.splitlines()[-1]))
+        if isinstance(entry, Announced):
+            return f"{entry.word} {self._names[entry.made]};"
         name = self._names[entry] + self._identity(entry)
         if isinstance(entry, Enum):
             return self._laid_out(f"enum {name} {{", entry.names, ", ", "};", " ")
@@ -110,6 +113,8 @@ class Sheet:
             return "Object"
         if isinstance(made, Series):
             return f"sequence<{self._type(made.element)}" + (f", {made.bound}>" if made.bound else ">")
+        if isinstance(made, Announced):
+            return self._names[made.made]
         assert isinstance(made, Declared)
         return self._names[made]
 

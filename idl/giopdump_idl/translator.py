@@ -2,13 +2,13 @@
 
 from __future__ import annotations
 
-from typing import Callable, Dict, Iterable, List, Optional, Sequence, Set, Tuple
+from typing import Any, Callable, Dict, Iterable, List, Optional, Sequence, Set, Tuple
 
 from omniidl import idlast, idltype
 
 from .model import (
-    MOST_ENUMERATORS, MOST_LABELS, MOST_MEMBERS, MOST_NESTING, MOST_OPERATION_NAME, MOST_PARAMETERS, RETURNED, Array,
-    Case, Described, Enum, Item, Operation, Place, Raised, Reference, Scalar, Series, Slot, Struct, Text, TooDeep, Type, Union,
+    MOST_ENUMERATORS, MOST_LABELS, MOST_MEMBERS, MOST_NESTING, MOST_OPERATION_NAME, MOST_PARAMETERS, RETURNED, Announced,
+    Array, Case, Described, Enum, Item, Named, Operation, Place, Raised, Reference, Scalar, Series, Slot, Struct, Text, TooDeep, Type, Union,
     Unsayable, at_most, checked_depth, spelled,
 )  # fmt: skip
 from .names import fresh_names
@@ -43,6 +43,10 @@ FORMLESS: Dict[int, str] = {
     idltype.tk_local_interface: "local interface",
 }
 
+STRUCTURES: Dict[int, str] = {
+    idltype.tk_struct: "struct", idltype.ot_structforward: "struct", idltype.tk_union: "union", idltype.ot_unionforward: "union",
+}  # fmt: skip
+
 DISCRIMINATORS = frozenset("char boolean short ushort long ulong longlong ulonglong".split())
 
 DIRECTIONS = ("in", "out", "inout")  # by omniidl's numbers
@@ -53,10 +57,12 @@ class Translator:
 
     def __init__(self, version: int) -> None:
         self._formless = FORMLESS if version == 3 else {**FORMLESS, **DESCRIBED, **WIDE}
-        self._has_arrays_of_arrays = version == 3
+        self._is_third = version == 3
         self.refused: Dict[Tuple[str, ...], Tuple[Place, Unsayable]] = {}
         self._made: Dict[Tuple[str, ...], Type] = {}
         self._begun: Set[Tuple[str, ...]] = set()
+        self._announced: Dict[Tuple[str, ...], Announced] = {}
+        self._later: Dict[Tuple[str, ...], idltype.Type] = {}  # those that are made after what is begun
         self._around: Dict[Array, Struct] = {}
         self._aliases: Dict[Tuple[str, ...], Type] = {}
         self._nesting = 0
@@ -80,7 +86,8 @@ class Translator:
         made = self._aliases[tuple(idl.scopedName())] if idl.kind() == idltype.tk_alias else self.plain(idl)
         for declarator in reversed(chain):
             made = self.array_of(made, declarator.sizes())
-            self._aliases[tuple(declarator.scopedName())] = made
+            if not is_announced(made):
+                self._aliases[tuple(declarator.scopedName())] = made
         return made
 
     def plain(self, idl: idltype.Type) -> Type:
@@ -99,14 +106,47 @@ class Translator:
         if kind == idltype.tk_objref:
             return Reference()
         if kind == idltype.tk_sequence:
-            return Series(self.element_of(self.type_of(idl.seqType())), unsigned(idl.bound()))
+            element = self.announced(idl.seqType()) or self.element_of(self.type_of(idl.seqType()))
+            return Series(element, unsigned(idl.bound()))
         return self.declared(idl.decl(), idl.scopedName())
+
+    def announced(self, idl: idltype.Type) -> Optional[Announced]:
+        """The type of a sequence's elements, if that is a struct or a union which can't be made before what the sequence
+        stands in."""
+        while idl.kind() == idltype.tk_alias and not idl.decl().sizes():
+            idl = idl.decl().alias().aliasType()
+        if not self._is_third or idl.kind() not in STRUCTURES or not self._holds_begun(idl):
+            return None
+        scoped = tuple(idl.scopedName())
+        if scoped not in self._begun:
+            self._later[scoped] = idl
+        return self._announced.setdefault(scoped, Announced(STRUCTURES[idl.kind()], scoped))
+
+    def _holds_begun(self, idl: idltype.Type) -> bool:
+        """Whether a type is one that is begun, or has a part that is, the elements of sequences aside."""
+        left, seen = [idl], set(self._begun)
+        while left and seen:
+            each = left.pop()
+            while each.kind() == idltype.tk_alias:
+                each = each.decl().alias().aliasType()
+            scoped = tuple(each.scopedName()) if each.kind() in STRUCTURES else ()
+            if scoped in self._begun:
+                return True
+            if not scoped or scoped in seen or scoped in self._made or scoped in self.refused:
+                continue
+            seen.add(scoped)
+            decl = each.decl().fullDecl()
+            if isinstance(decl, idlast.Struct):
+                left += [member.memberType() for member in decl.members()]
+            elif isinstance(decl, idlast.Union):
+                left += [case.caseType() for case in decl.cases()]
+        return False
 
     def array_of(self, element: Type, sizes: Sequence[int]) -> Type:
         """The type of a declarator with these sizes, the outermost first."""
         made = element
         for length in reversed(sizes or []):
-            made = Array(made if self._has_arrays_of_arrays else self.element_of(made), unsigned(length))
+            made = Array(made if self._is_third else self.element_of(made), unsigned(length))
             if made.depth > MOST_NESTING:
                 raise TooDeep()
         return made
@@ -128,20 +168,39 @@ class Translator:
             raise Unsayable("type within itself", f"{spelled(scoped)} within itself")
         if scoped not in self.refused:
             self._begun.add(scoped)
+            before = [len(each) for each in (self._made, self._aliases, self._later)]
             try:
-                self._made[scoped] = self.made(decl.fullDecl())
-                return self._made[scoped]
-            except TooDeep:
-                raise
+                return self._finished(scoped, self.made(decl.fullDecl()))
             except Unsayable as refusal:
+                self._forget(scoped, before)
+                if isinstance(refusal, TooDeep):
+                    raise
                 self.refused[scoped] = (Place.of(decl.fullDecl() or decl), refusal)
-            finally:
-                self._begun.discard(scoped)
         raise Unsayable(self.refused[scoped][1].cause, f"needs {spelled(scoped)}")
 
-    def made(self, decl: Optional[idlast.Decl]) -> Type:
+    def _finished(self, scoped: Tuple[str, ...], made: Named) -> Named:
+        """A type that is made, after which those are made that can't be before it."""
+        self._made[scoped] = made
+        if scoped in self._announced:
+            self._announced[scoped].made = made
+        self._begun.discard(scoped)
+        while self._later and not self._begun:
+            later = next(iter(self._later))
+            self.declared(self._later.pop(later).decl(), later)
+        return made
+
+    def _forget(self, scoped: Tuple[str, ...], before: Sequence[int]) -> None:
+        """Forgets a type that has no form, and all that was made and announced since it began, which may need it."""
+        self._begun.discard(scoped)
+        self._announced.pop(scoped, None)
+        kept: Sequence[Dict[Tuple[str, ...], Any]] = (self._made, self._aliases, self._later)
+        for known, count in zip(kept, before):
+            for name in list(known)[count:]:
+                del known[name]
+
+    def made(self, decl: Optional[idlast.Decl]) -> Named:
         """The type of an enum, a struct or a union."""
-        makers: Dict[type, Callable[..., Type]] = {
+        makers: Dict[type, Callable[..., Named]] = {
             idlast.Enum: self.enum,
             idlast.Struct: self.struct,
             idlast.Union: self.union,
@@ -261,6 +320,13 @@ def written_id(decl: idlast.Decl) -> str:
     repository_id: str = decl.repoId()
     octets_fit = all("!" <= each <= "~" and each != '"' for each in repository_id)
     return repository_id if 1 <= len(repository_id) <= MOST_OPERATION_NAME and octets_fit else ""
+
+
+def is_announced(made: Type) -> bool:
+    """Whether a sequence or an array is of a type that is declared later."""
+    while isinstance(made, (Series, Array)):
+        made = made.element
+    return isinstance(made, Announced)
 
 
 def word_of(made: Type) -> str:

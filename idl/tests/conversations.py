@@ -151,6 +151,48 @@ m5 end
     + "m6 end\n",
 )
 
+RECURSIVE = Conversation(
+    "recursive",
+    [
+        request(1, "all", ("boolean", False), ("ulong", 2), ("boolean", True), ("octet", 7), ("boolean", False), ("ulong", 0)),
+        reply(1, ("ulong", 1), ("long", 5), ("ulong", 1), ("long", 6), ("ulong", 0), ("boolean", True), ("octet", 9)),
+        request(3, "calls", ("string", "f"), ("ulong", 1), ("string", "g"), ("ulong", 0), ("short", 0), *[("ulong", 0)] * 7),
+    ],
+    "1 all\n",
+    """\
+m1 call 1 all
+m1 body.t.switch boolean false
+m1 body.t.two count 2
+m1 body.t.two[0].switch boolean true
+m1 body.t.two[0].leaf octet 7
+m1 body.t.two[1].switch boolean false
+m1 body.t.two[1].two count 0
+m1 end
+m2 body.return count 1
+m2 body.return[0].v long 5
+m2 body.return[0].kids count 1
+m2 body.return[0].kids[0].v long 6
+m2 body.return[0].kids[0].kids count 0
+m2 body.t.switch boolean true
+m2 body.t.leaf octet 9
+m2 end
+m3 call 3 calls
+m3 body.c.fn string @0 "f"
+m3 body.c.args count 1
+m3 body.c.args[0].made.fn string @0 "g"
+m3 body.c.args[0].made.args count 0
+m3 body.c.args[0].t.switch short 0
+m3 body.c.args[0].t.more count 0
+m3 body.c.args[0].grid[0][0] count 0
+m3 body.c.args[0].grid[0][1] count 0
+m3 body.c.args[0].grid[0][2] count 0
+m3 body.c.args[0].grid[1][0] count 0
+m3 body.c.args[0].grid[1][1] count 0
+m3 body.c.args[0].grid[1][2] count 0
+m3 end
+""",
+)
+
 ATTRIBUTES = Conversation(
     "attributes",
     [
@@ -449,4 +491,4 @@ m7 end
 """,
 )
 
-CONVERSATIONS = [UNIONS, ARRAYS, ATTRIBUTES, HALF, HALF_EQUAL, INTERFACES, WIDE]
+CONVERSATIONS = [UNIONS, ARRAYS, RECURSIVE, ATTRIBUTES, HALF, HALF_EQUAL, INTERFACES, WIDE]

@@ -1,7 +1,7 @@
 signatures 3;
 
 // Written by giopdump_signatures from left_out.idl.
-// whole: 9 operations, 2 exceptions, 4 types; by half: 0 operations; left out: 6 operations, 0 exceptions.
+// whole: 10 operations, 2 exceptions, 5 types; by half: 0 operations; left out: 5 operations, 0 exceptions.
 
 // Every object
 operation boolean _is_a(in string logical_type_id);
@@ -16,7 +16,9 @@ exception Odd "IDL:L/Odd:1.0" { sequence<Pair> all; };
 exception Even "IDL:L/Even:1.0" { long two; };
 operation void with_any(in any one);
 operation void with_pairs(in sequence<Pair> some);
-// left out: L::Bag::with_node (left_out.idl:19): parameter top: needs L::Node
+struct Node;
+struct Node "IDL:L/Node:1.0" { long v; sequence<Node> kids; };
+operation void with_node(out Node top);
 // left out: L::Bag::with_money (left_out.idl:20): parameter sum: fixed
 // left out: L::Bag::with_long_double (left_out.idl:21): parameter one: long double
 // left out: L::Bag::with_value (left_out.idl:22): parameter one: value type
@@ -44,6 +46,3 @@ struct ValueMember "IDL:omg.org/CORBA/ValueMember:1.0" {
   Object type_def;
   short access;
 };
-
-// Types that can't be said, or that need one
-// left out: L::Node (left_out.idl:8): member kids: L::Node within itself

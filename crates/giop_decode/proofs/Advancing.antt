@@ -1,10 +1,10 @@
 -- A decoder before and after an octet.
-use Rattle.std.proofs.Common.{◌≡◌, ℕ, ◌+◌, ◌-◌, ◌<◌, Bool, true, false, List, [], ◌++◌, length, Option, Some, None, refl, sym, ◌∙◌, ap, append-nil, arith}
+use Rattle.std.proofs.Common.{◌≡◌, ℕ, ◌+◌, ◌-◌, ◌%◌, ◌<◌, Bool, true, false, List, [], ◌++◌, length, Option, Some, None, refl, sym, ◌∙◌, add_assoc, ap, append-nil, arith}
 use Rattle.giop_decode.specs.declared.leaf.Transition.{Transition}
 use Rattle.giop_decode.specs.declared.leaf.Transition.TheVariants as transitions
 use Rattle.giop_decode.specs.declared.progress.Progress.{Progress}
 use Rattle.giop_decode.specs.declared.progress.Progress.TheVariants as progress
-use Rattle.giop_decode.specs.ReadResult.{Coding, PathSegment, Line, OpenPart, Read, Done, Short, Fault, lines_of, Leaf, coded, with_front}
+use Rattle.giop_decode.specs.ReadResult.{Coding, IsEvenFrom, PathSegment, Line, OpenPart, Read, Done, Short, Fault, lines_of, Leaf, coded, with_front}
 use Rattle.giop_decode.specs.Reading.{cut_off}
 use Rattle.giop_decode.specs.ReadingSteps.{around, heard_parts, IsRule}
 use Rattle.giop_decode.proofs.OctetResults.{Mute, around_mute, mute_enclosed, mute_lines}
@@ -15,13 +15,13 @@ use Rattle.giop_decode.specs.declared.progress.Kind.TheVariants as kinds
 use Rattle.giop_decode.proofs.Resuming.{lines_front}
 use Rattle.giop_decode.proofs.Enclosing.{with_front-enclosed}
 use Rattle.giop_decode.specs.Begins.{start_leaf, start_outer}
-use Rattle.giop_sig.specs.Types.{Ty, part_of}
+use Rattle.giop_sig.specs.Types.{Ty, part_of, elements_fit}
 use Rattle.giop_decode.specs.declared.decoder.Decoder.{Decoder}
 use Rattle.giop_decode.specs.declared.leaf.Leaf.{Leaf as Innermost}
 use Rattle.giop_decode.specs.declared.leaf.Leaf.TheVariants as innermost
 use Rattle.giop_decode.specs.declared.frame.Frame.{Frame}
 use Rattle.giop_decode.specs.Fits.{FitsIn, OpenFrom, Sound, leaf_ty}
-use Rattle.giop_decode.specs.Transitions.{open_parts, has_ended, is_inside, leaf_of, leaf_type, after_transition, tree_in, AreKnown, HaveOctetsLeft, Link, IsClean, TransitionFits}
+use Rattle.giop_decode.specs.Transitions.{open_parts, has_ended, is_inside, leaf_of, leaf_type, after_transition, tree_in, AreKnown, HaveOctetsLeft, Link, IsClean, StandAt, TransitionFits, recursed}
 use Rattle.giop_decode.specs.NameBuffer.{FitsName, string_offset}
 use Rattle.giop_decode.specs.Noted.{is_header_root, names_operation}
 use Rattle.giop_decode.specs.SeenState.{AreOfRoot, Fits, GoesOn, CanStandAt, read_by_fields}
@@ -116,10 +116,46 @@ fits_in : (T : Ty) (end at : ℕ) (C : Table) (d : Decoder) (lines : List Line) 
     (leaf_of C d.outer.items leaf d.carry d.piece.items)
 fits_in T end at C d lines leaf r sound is goes_on = search (arith)
 
+-- a coding by which a decoder can be at an offset
+abbrev pub own_coding : Decoder → ℕ → Coding
+own_coding d here = record { order = d.order; phase = λ at. d.at + (at - here) }
+
+pub own_stands : (C : Table) (d : Decoder) (f : Fits C d) →
+    CanStandAt (own_coding d f.here) d f.here
+own_stands C d f =
+    let small = f.at in
+    record {
+      order = refl;
+      phase = omega (arith, small);
+      even = λ k. omega arith;
+      outer = f.stands;
+    }
+
+even_next : (coding : Coding) (here : ℕ) → IsEvenFrom coding here → IsEvenFrom coding (here + 1)
+even_next coding here even k =
+    let same : coding.phase ((here + 1) + k) % 8 ≡ (coding.phase here + (1 + k)) % 8 =
+    ap (λ at. coding.phase at % 8) (add_assoc here 1 k) ∙ even (1 + k) in
+    let next = even 1 in
+    omega (arith, same, next)
+
+-- one octet further
+pub one_further : (coding : Coding) (d new : Decoder) (here : ℕ) → new.order ≡ d.order →
+    new.at ≡ (d.at + 1) % 8 → StandAt (here + 1) new.outer.items → CanStandAt coding d here →
+    CanStandAt coding new (here + 1)
+one_further coding d new here order at outer h =
+    let phase = h.phase in
+    let next = h.even 1 in
+    record {
+      order = order ∙ h.order;
+      phase = omega (arith, at, phase, next);
+      even = even_next coding here h.even;
+      outer = outer;
+    }
+
 -- What a step leaves of a decoder that fits, fits as well.
-pub step_fits : (C : Table) (d new : Decoder) (f : Fits C d) (octet : ℕ)
-    (g : Goes C new (f.here + 1) (decoder_step C d f.here octet)) → new.narrow ≡ C.narrow →
-    CanStandAt new (f.here + 1) →
+pub step_fits : (C : Table) (d new : Decoder) (f : Fits C d) (octet : ℕ) (coding : Coding)
+    (g : Goes C new (f.here + 1) (decoder_step coding C d f.here octet)) → new.narrow ≡ C.narrow →
+    CanStandAt coding new (f.here + 1) →
     HaveOctetsLeft new.outer.items →
     new.inside ≡ is_inside new.outer.items → Link C f.root new.outer.items (leaf_type g.leaf) →
     AreKnown C new.outer.items → leaf_type g.leaf < length C.types →
@@ -127,7 +163,8 @@ pub step_fits : (C : Table) (d new : Decoder) (f : Fits C d) (octet : ℕ)
     AreOfRoot C new.head.root new.notes →
     FitsName new.head.root (string_offset (tree_in C new.outer.items (leaf_type g.leaf)) g.leaf)
     new.notes.buffer new.notes.name.items → Fits C new
-step_fits C d new f octet g narrow here ahead inside link known_outer known clean of_root name =
+step_fits C d new f octet coding g narrow here ahead inside link known_outer known clean of_root
+    name =
     search (arith, whole_step_keeps, surrounds, stands, fits_in)
 
 -- where a rule is broken, it is one
@@ -140,6 +177,11 @@ pub fits_allowed : (T : Ty) (of : ℕ) (transition : Transition) (carry piece : 
 fits_allowed T of (transitions.Refused kind) carry piece fits = fits
 fits_allowed T of transition carry piece fits = tt
 
+recursed_front : (T : Ty) (fits : Bool) (count : ℕ) (lines : List Line) (at : ℕ) →
+    recursed T fits count lines at ≡ with_front lines (recursed T fits count [] at)
+recursed_front T true count lines at = rw append-nil refl
+recursed_front T false count lines at = rw append-nil refl
+
 -- the lines of a transition stand in front of what it makes
 pub transition_front : (T : Ty) (transition : Transition) (carry piece : List ℕ) (lines : List Line)
     (at : ℕ) → after_transition T transition carry piece lines at
@@ -147,6 +189,9 @@ pub transition_front : (T : Ty) (transition : Transition) (carry piece : List �
 transition_front T (transitions.More leaf) carry piece lines at = rw append-nil refl
 transition_front T transitions.Ended carry piece lines at = rw append-nil refl
 transition_front T (transitions.Opened count) carry piece lines at = rw append-nil refl
+transition_front T (transitions.Recursed count) carry piece lines at =
+    recursed_front T (elements_fit T) count lines at
+transition_front T transitions.Stopped carry piece lines at = rw append-nil refl
 transition_front T (transitions.Selected i) carry piece lines at = rw append-nil refl
 transition_front T (transitions.Refused kind) carry piece lines at = rw append-nil refl
 transition_front T (transitions.Entered order count) carry piece lines at =
@@ -164,6 +209,10 @@ lines_mute coding path ps lines at r mute =
     ∙ (lines_front lines inner
     ∙ (ap (λ ls. lines ++ ls) (mute_lines at inner
     (around_mute at coding path (heard_parts lines ps) r mute)) ∙ append-nil lines))
+
+recursed_mute : (T : Ty) (fits : Bool) (count at : ℕ) → Mute at (recursed T fits count [] at)
+recursed_mute T true count at = (refl, refl)
+recursed_mute T false count at = (refl, refl, tt)
 
 lines_turned : (coding : Coding) (path : List PathSegment) (ps : List OpenPart)
     (T : Ty) (transition : Transition) (carry piece : List ℕ) (lines : List Line) (at : ℕ) →
@@ -197,6 +246,16 @@ lines_turned coding path ps T (transitions.Selected i) carry piece lines at rule
     ∙ lines_mute coding path ps lines at (after_transition T (transitions.Selected i) carry piece []
     at)
     (refl, refl)
+lines_turned coding path ps T (transitions.Recursed count) carry piece lines at rule =
+    ap (λ r. lines_of (around coding path ps r))
+    (transition_front T (transitions.Recursed count) carry piece lines at)
+    ∙ lines_mute coding path ps lines at
+    (after_transition T (transitions.Recursed count) carry piece [] at)
+    (recursed_mute T (elements_fit T) count at)
+lines_turned coding path ps T transitions.Stopped carry piece lines at rule =
+    ap (λ r. lines_of (around coding path ps r))
+    (transition_front T transitions.Stopped carry piece lines at)
+    ∙ lines_mute coding path ps lines at (Fault [] at kinds.Untyped T) (refl, refl, tt)
 lines_turned coding path ps T transitions.Ended carry piece lines at rule =
     ap (λ r. lines_of (around coding path ps r))
     (transition_front T transitions.Ended carry piece lines at)

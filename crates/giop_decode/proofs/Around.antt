@@ -1,6 +1,6 @@
 -- The step of an octet in the parts around the innermost one: before the first octet, and where a
 -- part ends.
-use Rattle.std.proofs.Common.{◌≡◌, ℕ, zero, suc, ◌-◌, ◌<◌, ◌≤◌, List, [], ◌∷◌, ◌++◌, refl, ap, arith, add-zero, lit<, lt-ltb}
+use Rattle.std.proofs.Common.{◌≡◌, ℕ, zero, suc, ◌-◌, ◌<◌, ◌≤◌, List, [], ◌∷◌, ◌++◌, refl, ap, arith, add-zero, lt-ltb}
 use Rattle.giop_decode.specs.Begins.{start_leaf, start_outer}
 use Rattle.giop_decode.specs.Fits.{HasParts, Surrounds}
 use Rattle.giop_decode.specs.Pieces.{Partial, block}
@@ -11,9 +11,8 @@ use Rattle.giop_sig.specs.Hearings.{hearing_in}
 use Rattle.giop_decode.specs.declared.progress.Kind.{Kind}
 use Rattle.giop_decode.specs.declared.progress.Kind.TheVariants as kinds
 use Rattle.giop_sig.specs.Fits.{IsFit}
-use Rattle.giop_sig.specs.Types.{Array, Sequence, Single, Struct, Ty, Union, part_of, Led}
-use Rattle.giop_decode.proofs.OctetResults.{number_none}
-use Rattle.giop_decode.proofs.Law.{with_front-followed, with_front-led, with_front-within, block_waits, width_pos}
+use Rattle.giop_sig.specs.Types.{Array, Sequence, Single, Struct, Ty, Union, part_of, Led, Recursive}
+use Rattle.giop_decode.proofs.Law.{with_front-followed, with_front-led, with_front-within, block_waits, number_none}
 use Rattle.giop_decode.proofs.Enclosing.{with_front-enclosed}
 
 pub around-append : (coding : Coding) (path : List PathSegment) (outer : List OpenPart)
@@ -117,12 +116,9 @@ pub read_none : (coding : Coding) (path : List PathSegment) (d : ℕ) (T : Ty) (
     read coding path T at [] ≡ Short [] at (start_outer T) (start_leaf T)
 unfolding IsFit
 read_none coding path zero T at h = absurd h
-read_none coding path (suc d) (Single scalar) at h = search (arith, number_none, width_pos)
-read_none coding path (suc d) (Union choice scalar select names cases) at h = search (
-  arith,
-  number_none,
-  width_pos,
-)
+read_none coding path (suc d) (Single scalar) at h = search (arith, number_none)
+read_none coding path (suc d) (Union choice scalar select names cases) at h =
+    search (arith, number_none)
 read_none coding path (suc d) (Struct zero names parts) at h = absurd (omega (arith, h.0))
 read_none coding path (suc d) (Struct (suc more) names parts) at h = search (
   arith,
@@ -140,7 +136,7 @@ read_none coding path (suc d) (Led k F parts) at h = search (
   arith,
   read_none coding (path ++ led_segment 0 ∷ []) d F at h.0,
 )
-read_none coding path (suc d) T at h = search (arith, number_none, lit<)
+read_none coding path (suc d) T at h = search (arith, number_none)
 
 -- A part that has ended: its whole goes on with the next, or ends too.
 pub fit_part : (d : ℕ) (T : Ty) (i count : ℕ) → IsFit (suc d) T → HasParts T count → i < count →
@@ -149,6 +145,7 @@ unfolding IsFit
 fit_part d (Struct n names parts) i count fit kind below = fit.1 i (rw kind at below)
 fit_part d (Array n T) i count fit kind below = fit.1
 fit_part d (Sequence bound T) i count fit kind below = fit
+fit_part d (Recursive bound fits T) i count fit kind below = fit kind
 fit_part d T i count fit kind below = absurd kind
 
 pub next_part : (coding : Coding) (path : List PathSegment) (d : ℕ) (T : Ty) (i count at : ℕ) →

@@ -13,7 +13,7 @@ use Rattle.giop_sig.proofs.Unled.{HasNoLed, room_none}
 use Rattle.giop_sig.specs.HeaderTypes.{ArePlain, IsTable}
 use Rattle.giop_sig.specs.Table.{Table}
 use Rattle.giop_sig.specs.Trees.{catalogue_depth, depth_of, tree}
-use Rattle.giop_sig.specs.Types.{Encapsulation, places_of, Ty, Struct, Union, Sequence, Array, part_of, depth, most, Led}
+use Rattle.giop_sig.specs.Types.{Encapsulation, places_of, Ty, Struct, Union, Sequence, Array, part_of, depth, most, Led, Recursive}
 
 most_at : (n i : ℕ) (f : ℕ → ℕ) → i < n → f i ≤ most n f
 most_at zero i f lt = absurd (omega arith)
@@ -28,14 +28,15 @@ unfolding depth
 depth_some (Struct n names parts) = omega arith
 depth_some T = omega arith
 
-part_shallower : (T : Ty) (i count : ℕ) → HasParts T count → i < count →
+part_shallower : (T : Ty) (i count : ℕ) → HasNoLed T → HasParts T count → i < count →
     depth (part_of T i) < depth T
 unfolding depth
-part_shallower (Struct n names parts) i count kind lt = let below : i < n = omega (arith, kind) in
-    omega (arith, most_at n i (λ j. depth (parts j)) below)
-part_shallower (Array n T) i count kind lt = omega arith
-part_shallower (Sequence bound T) i count kind lt = omega arith
-part_shallower T i count kind lt = absurd kind
+part_shallower (Struct n names parts) i count none kind lt =
+    omega (arith, most_at n i (λ j. depth (parts j)) (omega (arith, kind)))
+part_shallower (Array n T) i count none kind lt = omega arith
+part_shallower (Sequence bound T) i count none kind lt = omega arith
+part_shallower (Recursive bound fits T) i count none kind lt = absurd none
+part_shallower T i count none kind lt = absurd kind
 
 case_none : (T : Ty) (i : ℕ) → HasNoLed T → HasNoLed (part_of T i)
 case_none (Struct count names parts) i h = h i
@@ -43,6 +44,7 @@ case_none (Union choice scalar select names cases) i h = h i
 case_none (Sequence bound T) i h = h
 case_none (Array count T) i h = h
 case_none (Encapsulation T) i h = h
+case_none (Recursive bound fits T) i h = absurd h
 case_none (Led k F parts) i h = absurd h
 case_none T i h = h
 
@@ -70,7 +72,7 @@ fits_shallow (Part U i count ∷ ps) T leaf none fits =
     omega (
       arith,
       fits_shallow ps (part_of T i) leaf (case_none T i none) fits.1,
-      part_shallower T i count fits.0.kind fits.0.below,
+      part_shallower T i count none fits.0.kind fits.0.below,
     )
 fits_shallow (Member U i ∷ ps) T leaf none fits = search
     (arith, fits_shallow ps (part_of T i) leaf (case_none T i none) fits.1, case_shallower)

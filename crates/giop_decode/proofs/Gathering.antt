@@ -1,5 +1,5 @@
 -- Octets that only add to what is held, taken together.
-use Rattle.std.proofs.Common.{◌≡◌, ℕ, suc, ◌+◌, ◌-◌, ◌%◌, ◌<◌, ◌≤◌, List, [], ◌∷◌, ◌++◌, length, Some, refl, sym, ◌∙◌, ap, subst, append-nil, append_assoc, arith, length-append}
+use Rattle.std.proofs.Common.{◌≡◌, ℕ, suc, ◌+◌, ◌-◌, ◌%◌, ◌<◌, ◌≤◌, List, [], ◌∷◌, ◌++◌, length, Some, sym, ◌∙◌, ap, subst, append-nil, append_assoc, arith, length-append}
 use Rattle.giop_cdr.specs.Numbers.{num}
 use Rattle.giop_sig.specs.declared.types.TypeId.{TypeId}
 use Rattle.giop_decode.specs.declared.decoder.Decoder.{Decoder}
@@ -12,10 +12,10 @@ use Rattle.giop_decode.specs.SeenState.{Fits, CanStandAt}
 use Rattle.giop_decode.specs.Reading.{after_leading_number}
 use Rattle.giop_decode.specs.Runs.{added_lines_of_run, AllGathered}
 use Rattle.giop_decode.specs.Pieces.{tail}
-use Rattle.giop_decode.specs.ReadResult.{plain, lines_of}
+use Rattle.giop_decode.specs.ReadResult.{Coding, lines_of}
 use Rattle.giop_decode.specs.ReadingSteps.{after, coding_in, leading_width, AreHeld}
 use Rattle.giop_decode.specs.Transitions.{coding_by, open_parts, tree_in, ticked, ticked_by, HaveOctetsLeft, IsClean}
-use Rattle.giop_decode.proofs.Advancing.{same_some}
+use Rattle.giop_decode.proofs.Advancing.{own_coding, own_stands, same_some}
 use Rattle.giop_decode.proofs.Counting.{ahead_first, coding_ticked, ticked_more, ticked_none}
 use Rattle.giop_decode.proofs.PieceLaws.{content_held}
 use Rattle.giop_decode.proofs.Runs.{dues_both, dues_none, takes_one, takes_both}
@@ -44,9 +44,9 @@ IsCountedBy d new count =
     × HaveOctetsLeft (ticked_by count d.outer.items)
 
 module _ (C : Table) (d new : Decoder) where
-  still_here : (here : ℕ) → IsFurther d new 0 d.outer.items → d.at < 8 → CanStandAt d here →
-      CanStandAt new here
-  still_here here on small h = search (arith)
+  still_here : (coding : Coding) (here : ℕ) → IsFurther d new 0 d.outer.items → d.at < 8 →
+      CanStandAt coding d here → CanStandAt coding new here
+  still_here coding here on small h = search (arith)
 
   -- no octet
   pub none_gathered : IsFurther d new 0 d.outer.items → new.carry ≡ d.carry →
@@ -64,38 +64,40 @@ module _ (C : Table) (d new : Decoder) (leaf : Innermost) (b : ℕ) where
   -- one octet that is held, and at which no encapsulation ends
   one_gathered : HaveOctetsLeft (ticked d.outer.items) → IsFurther d new 1 (ticked d.outer.items) →
       Fits C d → d.leaf ≡ Some leaf → IsClean leaf new.carry new.piece.items →
-      ((here : ℕ) → CanStandAt d here → Holds C d new leaf here b) →
+      ((coding : Coding) (here : ℕ) → CanStandAt coding d here →
+      Holds coding C d new leaf here b) →
       Fits C new × AllGathered C d new (b ∷ [])
   one_gathered ahead on f e clean holds =
       let e' = on.leaf ∙ e in (
         held_fits C d new leaf b ahead f e e' on.outer on.head on.narrow on.notes on.inside
-            on.at clean
-            (holds f.here f.stands),
-        λ T order at message root s r. record {
-          takes = takes_one C T order at message root new s b progress.More
-              (takes_to C T order at message root d new s b progress.More f on.order on.head
-              on.narrow
-              (λ here h. held_here C d new leaf b ahead f e e' on.outer here on.at h)
-              (λ here h. held_comes C d new leaf b ahead f e e' on.outer here h (holds here h))
-              (λ here front h old. held_keeps_noted C d new leaf b ahead f e e' on.outer here front
-              on.notes h (holds here h) old) r);
-          quiet = due_is C T order at message root d s b f r
-              ∙ ap lines_of (step_held C d new leaf b ahead f e e' on.outer (at + length s) r.offset
-              (holds (at + length s) r.offset));
+            on.order on.at clean
+            (holds (own_coding d f.here) f.here (own_stands C d f)),
+        λ T coding at message root s r. record {
+          takes = takes_one C T coding at message root new s b progress.More
+              (takes_to C T coding at message root d new s b progress.More f on.head on.narrow
+              (λ here h. held_here C d new leaf b ahead f e e' on.outer coding here on.order on.at
+              h)
+              (λ here h. held_comes C d new leaf b ahead f e e' on.outer coding here h
+              (holds coding here h))
+              (λ here front h old. held_keeps_noted C d new leaf b ahead f e e' on.outer coding here
+              front on.notes h (holds coding here h) old) r);
+          quiet = due_is C T coding at message root d s b f r
+              ∙ ap lines_of (step_held C d new leaf b ahead f e e' on.outer coding (at + length s)
+              r.offset (holds coding (at + length s) r.offset));
         },
       )
 
   -- one octet and then the others
   then_gathered : (mid : Decoder) (bs : List ℕ) → AllGathered C d mid (b ∷ []) →
       AllGathered C mid new bs → AllGathered C d new (b ∷ bs)
-  then_gathered mid bs g h T order at message root s r =
-      let one = g T order at message root s r in
-      let others = h T order at message root (s ++ b ∷ []) (one.takes.reads (λ fault. fault)) in
+  then_gathered mid bs g h T coding at message root s r =
+      let one = g T coding at message root s r in
+      let others = h T coding at message root (s ++ b ∷ []) (one.takes.reads (λ fault. fault)) in
       record {
-        takes = takes_both C T order at message root new s (b ∷ []) bs progress.More
+        takes = takes_both C T coding at message root new s (b ∷ []) bs progress.More
             one.takes.answers others.takes;
-        quiet = dues_both order T at s (b ∷ []) bs
-            ∙ (ap (λ z. z ++ added_lines_of_run order T at (s ++ b ∷ []) bs) one.quiet
+        quiet = dues_both coding T at s (b ∷ []) bs
+            ∙ (ap (λ z. z ++ added_lines_of_run coding T at (s ++ b ∷ []) bs) one.quiet
             ∙ others.quiet);
       }
 
@@ -147,7 +149,7 @@ module _ (C : Table) (of : TypeId) (total offset most : ℕ) (T : Ty)
       subst (λ x. IsClean x d.carry d.piece.items) it f.clean in
       let one = one_gathered C d mid leaf b (ahead_first (length bs) d.outer.items on.1)
       (next_on d d.carry held) f e clean
-      (λ here h path. content_held (tree_in C d.outer.items of.0) path total offset here
+      (λ coding here h path. content_held (tree_in C d.outer.items of.0) path total offset here
       d.piece.items b
       (λ large. omega (arith, full large, room))
       (λ small. omega (arith, last small, room, ap tail same))) in
@@ -171,13 +173,13 @@ number_counted C of d new (b ∷ bs) on piece f e held =
     let clean : IsClean leaf d.carry d.piece.items =
     subst (λ l. IsClean l d.carry d.piece.items) it f.clean in
     let one = one_gathered C d mid leaf b (ahead_first (length bs) d.outer.items on.1)
-    (next_on d held.0 d.piece.items) f e clean (λ here h path.
-    let c = coding_in (plain d.order) (open_parts C here d.outer.items) in
-    let k = coded_in C 24 here (plain d.order) d.order d.at d.outer.items f.known_outer h.1
-    (record { order = refl; at = omega (arith, h.0) }) in
+    (next_on d held.0 d.piece.items) f e clean (λ coding here h path.
+    let c = coding_in coding (open_parts C here d.outer.items) in
+    let k = coded_in C 24 here coding d.order d.at d.outer.items f.known_outer h.outer
+    (record { order = sym h.order; at = h.phase }) in
     let T = tree_in C d.outer.items of.0 in
     ap (after_leading_number T (λ xs at rest. after c path T (num c.order xs) at rest))
-    (held.1 c.origin here k.at)) in
+    (held.1 c.phase here k.at)) in
     let rest = subst (λ (c : Order × ℕ). AreHeld (leading_width (tree_in C (ticked d.outer.items)
     of.0)) c.1 held.0 bs new.carry) (sym (coding_ticked d.order d.at d.outer.items))
     (subst (λ T. AreHeld (leading_width T) (((coding_by d.order d.at d.outer.items).1 + 1) % 8)

@@ -13,7 +13,7 @@ use Rattle.giop_decode.specs.NextParts.{frames_above}
 use Rattle.giop_decode.proofs.TransitionLaws.{content_none}
 use Rattle.giop_decode.proofs.Beginning.{places_push}
 use Rattle.giop_decode.proofs.Around.{around-append, next_part, last_part}
-use Rattle.giop_sig.specs.Types.{Cases, Led, Ty, Struct, Union, Sequence, Array, part_of, shape_in, HasPlace, Tag, Encapsulation}
+use Rattle.giop_sig.specs.Types.{Cases, Led, Ty, Struct, Union, Sequence, Array, part_of, shape_in, HasPlace, Tag, Encapsulation, Recursive}
 use Rattle.giop_sig.specs.Fits.{IsFit}
 use Rattle.giop_cdr.specs.declared.order.Order.{Order}
 use Rattle.giop_sig.specs.Trees.{tree_at}
@@ -50,6 +50,7 @@ pub next_in : (d : ℕ) (T : Ty) (i count : ℕ) → IsOpen d (part_in T i count
 next_in d (Struct n names parts) i count h none below = search (arith)
 next_in d (Array n E) i count h none below = search (arith)
 next_in d (Sequence bound E) i count h none below = search (arith)
+next_in d (Recursive bound fits E) i count h none below = search (arith)
 next_in d (Union (Cases n) scalar select names cases) i count h none below = search (arith)
 next_in d (Union Tag scalar select names cases) i count h none below = search (arith)
 next_in d (Led h F parts) i count k none below = search (arith)
@@ -255,6 +256,7 @@ pub parts_within : (T : Ty) (count : ℕ) → HasParts T count → 0 < count →
 parts_within (Struct n names parts) count has some = search (arith)
 parts_within (Array n E) count has some = search (arith)
 parts_within (Sequence bound E) count has some = search (arith)
+parts_within (Recursive bound fits E) count has some = search (arith)
 parts_within T count has some = absurd has
 
 pub case_within : (T : Ty) (i : ℕ) → HasCase T i → IsWithin None i 0 T

@@ -1,21 +1,20 @@
 -- Reading a list with one octet more is one step on the parts that reading the list has begun.
-use Rattle.std.proofs.Common.{◌≡◌, ℕ, zero, suc, ◌+◌, ◌-◌, ◌/◌, ◌%◌, ◌<◌, ◌≤◌, List, [], ◌∷◌, ◌++◌, length, take, drop, Option, Some, None, refl, sym, ◌∙◌, ap, append_assoc, arith, length-append, ◌⊎◌, inl, inr, ◌*◌, add_assoc, add-zero, div-add-mod', mod-lt, mod-eq_of_lt, lt-ltb, le-ltb, le_of_eq, lit<, subst}
-use Rattle.std.proofs.lemmas.Nat.{mod-mul-add}
-use Rattle.std.proofs.Math.Nat.{mul-mod_left, mod_self, sub-zero}
+use Rattle.std.proofs.Common.{◌≡◌, ℕ, zero, suc, ◌+◌, ◌-◌, ◌<◌, ◌≤◌, List, [], ◌∷◌, ◌++◌, length, take, drop, Bool, true, false, Option, Some, None, refl, sym, ◌∙◌, ap, append_assoc, arith, length-append, ◌⊎◌, inl, inr, add_assoc, add-zero, lt-ltb, le-ltb, le_of_eq, lit<}
 use Rattle.std.proofs.Math.Seq.{take-length, drop-length}
-use Rattle.std.proofs.lemmas.List.{take-append-le, drop-append-le, drop_all}
+use Rattle.std.proofs.lemmas.List.{take-append-le, drop-append-le}
 use Rattle.std.proofs.lemmas.Bool.{cases_lt}
+use Rattle.std.specs.Prelude.{cond, ltb}
 use Rattle.giop_cdr.specs.Alignment.{padding}
 use Rattle.giop_cdr.specs.Numbers.{num}
 use Rattle.giop_cdr.specs.Primitives.{size_of}
 use Rattle.giop_cdr.specs.declared.prim.Primitive.{Primitive}
-use Rattle.giop_decode.specs.Pieces.{Complete, Block, Partial, block, content, full_piece, full_pieces, last_piece, number, octets, tail, text, unless}
-use Rattle.giop_decode.specs.Reading.{after_leading_number, member, parts_from, read, single, following, heard, led, sign_of, told_after}
-use Rattle.giop_decode.specs.ReadResult.{Coding, Done, Fault, Line, Member, Name, Part, OpenPart, Read, PathSegment, Short, followed, with_front, within}
+use Rattle.giop_decode.specs.Pieces.{Complete, Block, over, Partial, block, content, full_piece, full_pieces, last_piece, number, octets, tail, text, unless}
+use Rattle.giop_decode.specs.Reading.{after_leading_number, member, parts_from, read, single, elements, following, heard, led, sign_of, told_after}
+use Rattle.giop_decode.specs.ReadResult.{Coding, Done, Fault, Line, Member, Name, Part, OpenPart, Read, PathSegment, Short, followed, with_front, within, Count, line}
 use Rattle.giop_decode.specs.ReadingSteps.{advance, after, block_step, leading_width, inner_path, number_step, part_at, after_told}
 use Rattle.giop_sig.specs.Hearings.{hearing_in}
 use Rattle.giop_decode.specs.declared.progress.Kind.{Kind}
-use Rattle.giop_sig.specs.Types.{Choice, Enum, OctetKind, Plain, Scalar, Sequence, Ty, Union, part_of, width, Hearing, Told, Sequel, Then, Marked}
+use Rattle.giop_sig.specs.Types.{Choice, Enum, OctetKind, Plain, Recursive, Scalar, Sequence, Ty, Union, part_of, width, Hearing, Told, Sequel, Then, Marked}
 use Rattle.giop_sig.specs.declared.types.Selected.{Selected}
 use Rattle.giop_sig.specs.declared.types.Selected.TheVariants.{Case}
 use Rattle.giop_cdr.specs.declared.prim.Primitive.TheVariants as prims
@@ -136,114 +135,74 @@ block_goes n at s b = go (cases_lt (length s) n) (cases_lt (length s + 1) n)
         ∙ ap (λ g. more_of (block_step n) g b) (sym (block_waits n at s h))))
     go (inr h) _ = search (arith, length_one_more, block_got, take-append-le, drop-append-le)
 
--- padding is what is left up to the next multiple
-pad_at : (q r n : ℕ) → 0 < r → r < n → padding (q * n + r) n ≡ n - r
-unfolding padding
-pad_at q r n l h = search (arith, mod-mul-add, mod-eq_of_lt)
+-- a number after its padding
 
-pad_at_multiple : (q n : ℕ) → 0 < n → padding (q * n) n ≡ 0
-unfolding padding
-pad_at_multiple q n h = rw (mul-mod_left, sub-zero) (mod_self n)
-
-pub pad_more : (at k n : ℕ) → 0 < n → k < padding at n → 0 < padding (at + k) n
-pad_more at k n h l = go (at % n) refl
-  where
-    is : (q r : ℕ) → at ≡ q * n + r → r < n → k < padding (q * n + r) n → 0 < padding (at + k) n
-    is q zero e below k_below = absurd (omega (
-      arith,
-      pad_at_multiple q n h,
-      rw add-zero at k_below,
-    ))
-    is q (suc r) e below k_below =
-        let p = pad_at q (suc r) n (omega arith) below in
-        let room : suc r + k < n = omega arith in
-        rw (e, add_assoc, pad_at q (suc r + k) n (omega arith) room) (omega arith)
-
-    go : (r : ℕ) → at % n ≡ r → 0 < padding (at + k) n
-    go r e = is (at / n) r (rw (← e) (sym (div-add-mod' at n))) (rw (← e) (mod-lt at h))
-        (rw (← e, div-add-mod' at n) l)
-
-pub pad_end : (at n : ℕ) → 0 < n → padding (at + padding at n) n ≡ 0
-pad_end at n h = go (at % n) refl
-  where
-    is : (q r : ℕ) → at ≡ q * n + r → r < n → padding (at + padding at n) n ≡ 0
-    is q zero e below = rw (e, add-zero, pad_at_multiple q n h, add-zero) (pad_at_multiple q n h)
-    is q (suc r) e below =
-        let whole : (q * n + suc r) + (n - suc r) ≡ suc q * n = omega arith in
-        rw (e, pad_at q (suc r) n (omega arith) below, whole) (pad_at_multiple (suc q) n h)
-
-    go : (r : ℕ) → at % n ≡ r → padding (at + padding at n) n ≡ 0
-    go r e = is (at / n) r (rw (← e) (sym (div-add-mod' at n))) (rw (← e) (mod-lt at h))
-
--- padding counted from an origin
-pad_none : (n : ℕ) → 0 < n → padding 0 n ≡ 0
-pad_none n h = let e : 0 * n ≡ 0 = omega arith in
-    subst (λ x. padding x n ≡ 0) e (pad_at_multiple 0 n h)
-
-pub pad_more_from : (o at k n : ℕ) → 0 < n → k < padding (at - o) n → 0 < padding ((at + k) - o) n
-pad_more_from o at k n h l = go (cases_lt at o)
-  where
-    go : (at < o) ⊎ (o ≤ at) → 0 < padding ((at + k) - o) n
-    go (inl below) = search (arith, pad_none)
-    go (inr above) =
-        let e : (at + k) - o ≡ (at - o) + k = omega arith in
-        rw e (pad_more (at - o) k n h l)
-
-pub pad_end_from : (o at n : ℕ) → 0 < n → padding ((at + padding (at - o) n) - o) n ≡ 0
-pad_end_from o at n h = go (cases_lt at o)
-  where
-    go : (at < o) ⊎ (o ≤ at) → padding ((at + padding (at - o) n) - o) n ≡ 0
-    go (inl below) = search (arith, pad_none)
-    go (inr above) =
-        let e : (at + padding (at - o) n) - o ≡ (at - o) + padding (at - o) n = omega arith in
-        rw e (pad_end (at - o) n h)
-
-pub number_waits : (o n at : ℕ) (s : List ℕ) → length s < padding (at - o) n →
-    number o n at s ≡ Partial [] (at + length s)
+pub number_pads : (phase : ℕ → ℕ) (n at b : ℕ) (s : List ℕ) → 0 < padding (phase at) n →
+    number phase n at (b ∷ s) ≡ number phase n (at + 1) s
 unfolding number
-number_waits o n at s h = rw lt-ltb refl
+number_pads phase n at b s h = rw lt-ltb refl
 
-pub number_blocks : (o n at : ℕ) (s : List ℕ) → padding (at - o) n ≤ length s →
-    number o n at s ≡ block n (at + padding (at - o) n) (drop (padding (at - o) n) s)
+pub number_blocks : (phase : ℕ → ℕ) (n at b : ℕ) (s : List ℕ) → padding (phase at) n ≡ 0 →
+    number phase n at (b ∷ s) ≡ block n at (b ∷ s)
 unfolding number
-number_blocks o n at s h = rw le-ltb refl
+number_blocks phase n at b s h = rw h refl
 
-pub number_step_pads : (o n at b : ℕ) → 0 < padding (at - o) n →
-    number_step o n at [] b ≡ Partial [] (at + 1)
+pub number_none : (phase : ℕ → ℕ) (n at : ℕ) → number phase n at [] ≡ Partial [] at
+unfolding number
+number_none phase n at = refl
+
+pub number_step_pads : (phase : ℕ → ℕ) (n at b : ℕ) → 0 < padding (phase at) n →
+    number_step phase n at [] b ≡ Partial [] (at + 1)
 unfolding number_step
-number_step_pads o n at b h = rw lt-ltb refl
+number_step_pads phase n at b h = rw lt-ltb refl
 
-pub number_step_blocks : (o n at : ℕ) (carry : List ℕ) (b : ℕ) →
-    (0 < length carry) ⊎ (padding (at - o) n ≡ 0) →
-    number_step o n at carry b ≡ block_step n at carry b
+pub number_step_blocks : (phase : ℕ → ℕ) (n at : ℕ) (carry : List ℕ) (b : ℕ) →
+    (0 < length carry) ⊎ (padding (phase at) n ≡ 0) →
+    number_step phase n at carry b ≡ block_step n at carry b
 unfolding number_step
-number_step_blocks o n at [] b (inl h) = absurd (omega arith)
-number_step_blocks o n at (x ∷ xs) b (inl h) = refl
-number_step_blocks o n at [] b (inr h) = rw h refl
-number_step_blocks o n at (x ∷ xs) b (inr h) = refl
+number_step_blocks phase n at [] b (inl h) = absurd (omega arith)
+number_step_blocks phase n at (x ∷ xs) b (inl h) = refl
+number_step_blocks phase n at [] b (inr h) = rw h refl
+number_step_blocks phase n at (x ∷ xs) b (inr h) = refl
 
-pub number_goes : (o n at : ℕ) (s : List ℕ) (b : ℕ) → 0 < n →
-    number o n at (s ++ b ∷ []) ≡ more_of (number_step o n) (number o n at s) b
-number_goes o n at s b pos = search (
+-- an octet is padding, or begins the number
+pub padding_or : (at n : ℕ) → (0 < padding at n) ⊎ (padding at n ≡ 0)
+padding_or at n = search (arith, cases_lt)
+
+-- one more, where some octet of the number has come
+block_more : (phase : ℕ → ℕ) (n at x b : ℕ) (s : List ℕ) →
+    more_of (block_step n) (block n at (x ∷ s)) b
+    ≡ more_of (number_step phase n) (block n at (x ∷ s)) b
+block_more phase n at x b s = search (
   arith,
   cases_lt,
   block_waits,
-  add-zero,
-  number_step_blocks,
-  pad_end_from,
   block_got,
-  length_one_more,
-  number_waits,
-  number_step_pads,
-  pad_more_from,
-  add_assoc,
-  number_blocks,
-  le_of_eq,
-  drop_all,
-  drop-append-le,
-  block_goes,
-  drop,
+  number_step_blocks,
 )
+
+block_first : (n at b : ℕ) → 0 < n → block n at (b ∷ []) ≡ block_step n at [] b
+block_first n at b pos =
+    block_goes n at [] b
+    ∙ (ap (λ g. more_of (block_step n) g b) (block_waits n at [] pos)
+    ∙ ap (λ k. block_step n k [] b) (add-zero at))
+
+either_goes : (on : ℕ → List ℕ → ℕ → Block) (padded : Bool) (f g f' g' : Block) (b : ℕ) →
+    f ≡ more_of on f' b → g ≡ more_of on g' b →
+    cond padded f g ≡ more_of on (cond padded f' g') b
+either_goes on true f g f' g' b h k = h
+either_goes on false f g f' g' b h k = k
+
+pub number_goes : (phase : ℕ → ℕ) (n at : ℕ) (s : List ℕ) (b : ℕ) → 0 < n →
+    number phase n at (s ++ b ∷ []) ≡ more_of (number_step phase n) (number phase n at s) b
+unfolding number number_step
+number_goes phase n at [] b pos =
+    ap (cond (ltb 0 (padding (phase at) n)) (Partial [] (at + 1))) (block_first n at b pos)
+number_goes phase n at (x ∷ s) b pos =
+    either_goes (number_step phase n) (ltb 0 (padding (phase at) n)) _ _
+    (number phase n (at + 1) s) (block n at (x ∷ s)) b
+    (number_goes phase n (at + 1) s b pos)
+    (block_goes n at (x ∷ s) b ∙ block_more phase n at x b s)
 
 -- content
 
@@ -299,7 +258,7 @@ headed_by coding path T g =
 
 pub headed_goes : (coding : Coding) (path : List PathSegment) (T : Ty) → 0 < leading_width T →
     ((n : ℕ) → Goes coding path (after coding path T n)) →
-    Goes coding path (λ at s. headed_by coding path T (number coding.origin (leading_width T) at s))
+    Goes coding path (λ at s. headed_by coding path T (number coding.phase (leading_width T) at s))
 headed_goes coding path T pos goes at s b = search (arith, number_goes, with_front_none)
 
 pub single_goes : (coding : Coding) (path inner : List PathSegment) (scalar : Scalar) (n : ℕ) →
@@ -319,6 +278,28 @@ pub counted_goes : (coding : Coding) (path : List PathSegment) (bound : Option �
     Goes coding path (parts_from (part_at coding path (Sequence bound T) n) n 0) →
     Goes coding path (after coding path (Sequence bound T) n)
 counted_goes coding path bound T n goes at s b = search (arith, with_front-advance)
+
+elements_go : (coding : Coding) (path : List PathSegment) (T : Ty) (fits : Bool) (n : ℕ)
+    (parts : ℕ → List ℕ → Read) → Goes coding path parts →
+    Goes coding path (elements T fits n parts)
+elements_go coding path T true n parts goes at s b = goes at s b
+elements_go coding path T false zero parts goes at s b = refl
+elements_go coding path T false (suc n) parts goes at s b = refl
+
+pub recursive_goes : (coding : Coding) (path : List PathSegment) (bound : Option ℕ) (fits : Bool)
+    (T : Ty) (n : ℕ) →
+    Goes coding path (parts_from (part_at coding path (Recursive bound fits T) n) n 0) →
+    Goes coding path (after coding path (Recursive bound fits T) n)
+recursive_goes coding path bound fits T n goes at s b =
+    let S = Recursive bound fits T in
+    let front : List Line = line at path (Count n) ∷ [] in
+    let parts = parts_from (part_at coding path S n) n 0 in
+    ap (λ r. unless S (over bound n) at (with_front front r))
+    (elements_go coding path S fits n parts goes at s b)
+    ∙ (ap (unless S (over bound n) at)
+    (with_front-advance coding path front (elements S fits n parts at s) b)
+    ∙ unless_goes coding path S (over bound n) at
+    (with_front front (elements S fits n parts at s)) b)
 
 pub selected_goes : (coding : Coding) (path : List PathSegment) (T : Ty) (selected : Selected) →
     ((i : ℕ) → Goes coding (inner_path path T i) (read coding (inner_path path T i) (part_of T i)))

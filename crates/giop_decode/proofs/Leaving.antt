@@ -8,10 +8,10 @@ use Rattle.giop_decode.specs.ReadResult.{Coding, Content, LeadingNumber, Leaf, M
 use Rattle.giop_decode.specs.ReadingSteps.{block_step, content_step, leading_width, leaf_step, number_step, part_at, segment_of, step, held}
 use Rattle.giop_sig.specs.Fits.{IsFit}
 use Rattle.giop_sig.specs.Types.{Encapsulation, Led, Ty, Union, part_of}
-use Rattle.giop_decode.proofs.Law.{headed_by, block_step_waits, block_step_got, number_step_pads, number_step_blocks, length_one_more}
+use Rattle.giop_decode.proofs.Law.{headed_by, block_step_waits, block_step_got, number_step_pads, number_step_blocks, padding_or, length_one_more}
 use Rattle.giop_decode.proofs.Around.{fit_none, fit_part}
 use Rattle.giop_decode.proofs.OctetResults.{step_now}
-use Rattle.giop_decode.proofs.Sound.{Takes, now_leaves, sound_led, ordered_sound, sound_enclosed, sound_followed, sound_part, sound_member, parts_keep, after_keeps, read_keeps, full_piece_sound, last_piece_sound, content_keeps}
+use Rattle.giop_decode.proofs.Sound.{Takes, begun_later, now_leaves, sound_led, ordered_sound, sound_enclosed, sound_followed, sound_part, sound_member, parts_keep, after_keeps, read_keeps, full_piece_sound, last_piece_sound, content_keeps}
 
 -- the leaf, with how much depth is left for it
 pub record LeafAt (d : ℕ) (outer : List OpenPart) (leaf : Leaf) : Type 0 where
@@ -79,16 +79,16 @@ block_step_takes n at held b room = search (
   block_step_got,
 )
 
-number_step_takes : (o n at : ℕ) (carry : List ℕ) (b : ℕ) → length carry < n →
-    Takes n (at + 1) (number_step o n at carry b)
-number_step_takes o n at [] b room = search (
+number_step_takes : (phase : ℕ → ℕ) (n at : ℕ) (carry : List ℕ) (b : ℕ) → length carry < n →
+    Takes n (at + 1) (number_step phase n at carry b)
+number_step_takes phase n at [] b room = search (
   arith,
-  cases_lt,
+  padding_or,
   number_step_pads,
   number_step_blocks,
   block_step_takes,
 )
-number_step_takes o n at (x ∷ xs) b room = search (arith, number_step_blocks, block_step_takes)
+number_step_takes phase n at (x ∷ xs) b room = search (arith, number_step_blocks, block_step_takes)
 
 headed_sound : (d : ℕ) (coding : Coding) (path : List PathSegment) (T : Ty) (end : ℕ) → IsFit d T →
     HasLeadingNumber T → (g : Block) → Takes (leading_width T) end g →
@@ -166,7 +166,7 @@ step_keeps zero coding path T (Inside U c end ∷ outer) leaf at b fit fits arou
     absurd (fit_none T fit)
 step_keeps (suc d) coding path T (Inside U c end ∷ outer) leaf at b fit fits around =
     let inner = step c (path ++ Held ∷ []) outer leaf at b in
-    let began : c.origin < at + 1 = omega (arith, around.0.1) in
+    let began = begun_later c at (at + 1) (omega arith) around.0.1 in
     rw fits.0.same (subst (λ m. Sound T m (enclosed path T c end none_left inner []))
     (add-zero (at + 1))
     (sound_enclosed T path c end (at + 1) none_left fits.0.kind began inner []

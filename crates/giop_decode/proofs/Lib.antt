@@ -1,4 +1,5 @@
 mod OctetKinds
+mod Codings
 mod Law
 mod OctetResults
 mod Enclosing
@@ -30,6 +31,7 @@ mod Segments
 mod FieldsRead
 mod TransitionsInFrames
 mod Advancing
+mod Settled
 mod Telling
 mod PartialBlocks
 mod Starting

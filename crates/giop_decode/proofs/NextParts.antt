@@ -29,13 +29,13 @@ use Rattle.giop_decode.specs.SeenState.{AreOfRoot, Fits, HoldsNoted}
 use Rattle.giop_decode.specs.DecoderSteps.{emitted, transition_result}
 use Rattle.giop_decode.specs.Noted.{Noted, first_of, noted, is_header_root}
 use Rattle.giop_decode.specs.NextParts.{IsAtNext, IsNextNumber, IsPartAhead, frames_above, front_text, next_of}
-use Rattle.giop_decode.specs.ReadResult.{Coding, PathSegment, Line, Number, LeadingNumber, Short, line, plain, with_front, Done}
+use Rattle.giop_decode.specs.ReadResult.{Coding, PathSegment, Line, Number, LeadingNumber, Short, line, with_front, Done}
 use Rattle.giop_decode.specs.ReadingSteps.{around, path_in}
 use Rattle.giop_decode.specs.Passes.{IsBehind, Gives, Passes}
 use Rattle.giop_decode.specs.Runs.{TakenTogether, TakesSome}
 use Rattle.giop_decode.specs.Transitions.{AreKnown, HaveOctetsLeft, IsClean, IsKnown, IsWholeNumber, Link, StandAt, gone_on, is_inside, leaf_type, open_parts, part_in, tree_in}
 use Rattle.giop_decode.specs.Reading.{none_left, rooted}
-use Rattle.giop_decode.proofs.Advancing.{rooted_result, comes_by, same_some, stands_at}
+use Rattle.giop_decode.proofs.Advancing.{rooted_result, comes_by, one_further, same_some, stands_at}
 use Rattle.giop_decode.proofs.Beginning.{all_push, places_push}
 use Rattle.giop_decode.proofs.Counting.{ahead_free, free_ticked_by}
 use Rattle.giop_decode.proofs.Going.{PartPopped, Next, part_popped, next_in, goes_next, part_is}
@@ -323,19 +323,19 @@ module _ (C : Table) (d : Decoder) (part : PartAhead) (f : Fits C d)
         (rw add-one at follower.below)
         ∙ (left ∙ sym right)))
 
-    come : (here : ℕ) (lines : List Line) →
-        emitted C d part.of.0 transitions.Ended (outputs.Number part.number) lines here
+    come : (coding : Coding) (here : ℕ) (lines : List Line) →
+        emitted coding C d part.of.0 transitions.Ended (outputs.Number part.number) lines here
         ≡ transition_result C (tree_in C d.outer.items part.of.0) new transitions.Ended lines (here
         + 1)
-    come here lines =
+    come coding here lines =
         let ps = open_parts C (here + 1) d.outer.items in
         let leaf = innermost.Number next in
-        ap (rooted none_left) (ap (λ qs. around (plain d.order) [] qs (Done lines (here + 1) []))
+        ap (rooted none_left) (ap (λ qs. around coding [] qs (Done lines (here + 1) []))
         (places_free C here d.outer.items free f.ahead f.known_outer)
-        ∙ ((around_done (plain d.order) [] ps lines (here + 1)
-        ∙ ap (λ qs. with_front lines (around (plain d.order) [] qs (Done [] (here + 1) [])))
+        ∙ ((around_done coding [] ps lines (here + 1)
+        ∙ ap (λ qs. with_front lines (around coding [] qs (Done [] (here + 1) [])))
         (unheard C 24 (here + 1) lines d.outer.items (untelling d.outer.items free)))
-        ∙ (ap (with_front lines) (gone (plain d.order) [] (here + 1))
+        ∙ (ap (with_front lines) (gone coding [] (here + 1))
         ∙ (front_gone C lines (here + 1) new.outer.items (Some leaf)
         ∙ (behind_stopped C new.outer.items new.carry new.piece.items (Some leaf) lines (here + 1)
         (n.carry ∙ h.empty)
@@ -366,10 +366,9 @@ module _ (C : Table) (d : Decoder) (part : PartAhead) (f : Fits C d)
           order = n.order;
           head = n.head;
           narrow = n.narrow;
-          here = λ here k. (
-            let some = taken_together.some in omega (arith, k.0, n.at, some),
-            stand_free (here + 1) new.outer.items new_free,
-          );
+          here = λ coding here k. one_further coding there new here n.order
+              (let some = taken_together.some in omega (arith, n.at, some))
+              (stand_free (here + 1) new.outer.items new_free) k;
           next = λ goes_on. record {
             known_outer = known_new;
             inside = n.inside ∙ (h.outside ∙ sym new_free);
@@ -391,13 +390,13 @@ module _ (C : Table) (d : Decoder) (part : PartAhead) (f : Fits C d)
                 ≡ transition_offset (tree_in C d.outer.items part.of.0) transitions.Ended)
                 (at_next leaf is) refl;
           };
-          steps = λ here lines says.
+          steps = λ coding here lines says.
               let k = plain_says here (here + 1) lines says in
               comes_by C (tree_in C d.outer.items part.of.0) new false false transitions.Ended lines
               (here + 1) progress.More _
               (rw (k.4, body_new) refl) (sym (free_ended new.outer.items new_free))
-              (come here lines) (rw n.leaf refl);
-          inside = λ here lines says. ap ends_in_string (come here lines)
+              (come coding here lines) (rw n.leaf refl);
+          inside = λ coding here lines says. ap ends_in_string (come coding here lines)
               ∙ stopped_silent C new.outer.items new.carry new.piece.items new.leaf lines (here + 1)
               (rw n.leaf refl);
           of_root = λ was. subst (AreOfRoot C d.head.root) (sym n.notes) was;

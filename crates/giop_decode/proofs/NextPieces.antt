@@ -18,13 +18,13 @@ use Rattle.giop_decode.specs.NextPieces.{IsPieceAhead, IsQuiet, behind_piece}
 use Rattle.giop_decode.specs.Noted.{Noted, ends_in_string, is_header_root, names_operation, noted}
 use Rattle.giop_decode.specs.NotingSteps.{transition_in_string, transition_offset}
 use Rattle.giop_decode.specs.Passes.{Gives, Passes}
-use Rattle.giop_decode.specs.ReadResult.{Line, PathSegment, Piece, line}
+use Rattle.giop_decode.specs.ReadResult.{Coding, Line, PathSegment, Piece, line}
 use Rattle.giop_decode.specs.ReadingSteps.{path_in}
 use Rattle.giop_decode.specs.Runs.{TakenTogether, TakesSome}
 use Rattle.giop_decode.specs.Segments.{frames_text}
 use Rattle.giop_decode.specs.Spelling.{value_text}
 use Rattle.giop_decode.specs.Transitions.{IsClean, Link, is_inside, leaf_type, open_parts, tree_in}
-use Rattle.giop_decode.proofs.Advancing.{comes_by, same_some, rooted_gone}
+use Rattle.giop_decode.proofs.Advancing.{comes_by, one_further, same_some, rooted_gone}
 use Rattle.giop_decode.proofs.Counting.{ahead_free, free_ticked_by}
 use Rattle.giop_decode.proofs.FieldsRead.{path_spelled}
 use Rattle.giop_decode.proofs.FieldsRead.{headed_is}
@@ -120,11 +120,11 @@ module _ (C : Table) (d : Decoder) (ahead : PieceAhead) (f : Fits C d)
   abbrev new : Decoder
   new = behind_piece d ahead
 
-  come : (here : ℕ) (lines : List Line) →
-      emitted C there ahead.of.0 step.transition step.output lines here
+  come : (coding : Coding) (here : ℕ) (lines : List Line) →
+      emitted coding C there ahead.of.0 step.transition step.output lines here
       ≡ transition_result C (tree_in C d.outer.items ahead.of.0) new step.transition lines (here +
       1)
-  come here lines = search (arith, rooted_gone, places_free, free, around_free)
+  come coding here lines = search (arith, rooted_gone, places_free, free, around_free)
 
   -- a piece that isn't the last names no operation
   unnamed : (here at : ℕ) (lines : List Line) → Gives C there ahead.of.0 step rest here at lines →
@@ -148,10 +148,10 @@ module _ (C : Table) (d : Decoder) (ahead : PieceAhead) (f : Fits C d)
       rw (given here at lines says) (kept_by quiet asked o at
       (path_in [] (open_parts C here d.outer.items)) held)
 
-  silent : (here : ℕ) (lines : List Line) →
-      ends_in_string (emitted C there ahead.of.0 step.transition step.output lines here)
+  silent : (coding : Coding) (here : ℕ) (lines : List Line) →
+      ends_in_string (emitted coding C there ahead.of.0 step.transition step.output lines here)
       ≡ transition_in_string (tree_in C d.outer.items ahead.of.0) step.transition
-  silent here lines = search (arith, come, stopped_silent, is_here)
+  silent coding here lines = search (arith, come, stopped_silent, is_here)
 
   piece_passes : Passes C there new ahead.of.0 step rest progress.More
   piece_passes =
@@ -159,10 +159,9 @@ module _ (C : Table) (d : Decoder) (ahead : PieceAhead) (f : Fits C d)
         order = refl;
         head = refl;
         narrow = refl;
-        here = λ here k. (
-          let small = f.at in omega (arith, k.0, small),
-          stand_free (here + 1) d.outer.items free,
-        );
+        here = λ coding here k. one_further coding there new here refl
+            (let small = f.at in omega (arith, small))
+            (stand_free (here + 1) d.outer.items free) k;
         next = λ goes_on. record {
           known_outer = f.known_outer;
           inside = f.inside;
@@ -179,12 +178,12 @@ module _ (C : Table) (d : Decoder) (ahead : PieceAhead) (f : Fits C d)
               ≡ transition_offset (tree_in C d.outer.items ahead.of.0) step.transition)
               (at_next leaf is) refl;
         };
-        steps = λ here lines says.
+        steps = λ coding here lines says.
             comes_by C (tree_in C d.outer.items ahead.of.0) new false false step.transition lines
             (here + 1) progress.More _
             (unnamed here (here + 1) lines says) (sym (free_ended d.outer.items free))
-            (come here lines) refl;
-        inside = λ here lines says. silent here lines;
+            (come coding here lines) refl;
+        inside = λ coding here lines says. silent coding here lines;
         of_root = λ was. was;
         notes = λ asked o here at lines held says. kept asked o here at lines held says;
       }

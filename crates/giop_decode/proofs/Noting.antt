@@ -26,7 +26,7 @@ use Rattle.giop_sig.specs.declared.types.Shape.TheVariants as shapes
 use Rattle.giop_decode.specs.declared.notes.Notes.{Notes}
 use Rattle.giop_decode.specs.SeenState.{HoldsNoted, IsWhose, held_key, interface_of, whose}
 use Rattle.std.proofs.Math.Bool.{and-false}
-use Rattle.giop_sig.specs.Types.{Scalar, Ty, Single, Text, Octets, Raw, WideText, WideChar, Struct, Union, Sequence, Array, Plain, HasShape, shape_in, Encapsulation, Led}
+use Rattle.giop_sig.specs.Types.{Scalar, Ty, Single, Text, Octets, Raw, WideText, WideChar, Struct, Union, Sequence, Array, Plain, HasShape, shape_in, Encapsulation, Led, Recursive}
 
 content_in : (T : Ty) (total offset : ℕ) (piece : List ℕ) →
     in_content (Content T total offset piece) ≡ is_text T
@@ -105,6 +105,9 @@ piece_noted header (Encapsulation T) false more h path at offset octets k = refl
 piece_noted header (Encapsulation T) true more h path at offset octets k = let e = k refl in cc
 piece_noted header (Array n T) false more h path at offset octets k = refl
 piece_noted header (Array n T) true more h path at offset octets k = let e = k refl in cc
+piece_noted header (Recursive bound fits T) false more h path at offset octets k = refl
+piece_noted header (Recursive bound fits T) true more h path at offset octets k =
+    let e = k refl in cc
 piece_noted header (Led g F parts) false more h path at offset octets k = refl
 piece_noted header (Led g F parts) true more h path at offset octets k = let e = k refl in cc
 

@@ -4,19 +4,19 @@ use Rattle.std.specs.Prelude.{cond}
 use Rattle.std.specs.List.{AllByRecursion as Each}
 use Rattle.std.proofs.Math.Seq.{take-nil, drop-nil}
 use Rattle.std.proofs.lemmas.Bool.{cases_lt, lt-ltb, le-ltb}
-use Rattle.giop_decode.specs.Pieces.{Complete, Block, Partial, block, content, full_piece, last_piece, number, unless}
-use Rattle.giop_decode.specs.Reading.{member, parts_from, read, refused, single, wrong, enclosed, opening, ordered, rest_of, sized, following, led, none_left, told_after, cut_off}
-use Rattle.giop_decode.specs.ReadResult.{Coding, Content, Done, Fault, LeadingNumber, Index, Leaf, Line, Member, Name, Part, OpenPart, Read, PathSegment, Short, Switch, followed, line, with_front, within, lines_of, Held, Inside, Opening, Size, Telling}
+use Rattle.giop_decode.specs.Pieces.{Complete, Block, Partial, block, content, full_piece, last_piece, unless, over}
+use Rattle.giop_decode.specs.Reading.{member, parts_from, read, refused, single, wrong, enclosed, opening, ordered, rest_of, sized, following, led, none_left, told_after, cut_off, elements}
+use Rattle.giop_decode.specs.ReadResult.{Coding, Content, Done, Fault, LeadingNumber, Index, Leaf, Line, Member, Name, Part, OpenPart, Read, PathSegment, Short, Switch, followed, line, with_front, within, lines_of, Held, Inside, Opening, Size, Telling, Count}
 use Rattle.giop_decode.specs.ReadingSteps.{OneAt, IsOctetResult, IsEmptyResult, inner_path, after, around, block_step, leaf_step, number_step, part_at, segment_of, step, Faulted, held, after_told}
 use Rattle.giop_sig.specs.Hearings.{hearing_in}
 use Rattle.giop_decode.specs.declared.progress.Kind.{Kind}
 use Rattle.giop_decode.specs.declared.progress.Kind.TheVariants as kinds
 use Rattle.giop_cdr.specs.declared.order.Order.{Order}
-use Rattle.giop_sig.specs.Types.{tag_of, Array, Encapsulation, Octets, Scalar, Sequence, Single, Struct, Text, Ty, Union, part_of, Led, Hearing, Told, Untold, Sequel, Then, Ends, Stops, sequel}
+use Rattle.giop_sig.specs.Types.{tag_of, Array, Encapsulation, Octets, Scalar, Sequence, Single, Struct, Text, Ty, Union, part_of, Led, Hearing, Told, Untold, Sequel, Then, Ends, Stops, sequel, Recursive}
 use Rattle.giop_sig.specs.declared.types.Selected.{Selected}
 use Rattle.giop_sig.specs.declared.types.Selected.TheVariants.{Case}
 use Rattle.giop_decode.specs.ReadResult
-use Rattle.giop_decode.proofs.Law.{headed_by, block_waits, number_waits, number_blocks, width_pos}
+use Rattle.giop_decode.proofs.Law.{headed_by, block_waits, number_none, width_pos}
 
 pub each_append : {A : Type 0} (P : A → Type 0) (xs ys : List A) → Each P xs → Each P ys →
     Each P (xs ++ ys)
@@ -93,9 +93,6 @@ now_unless n T (Some kind) r h = (faulted_none n kind, refl)
 
 -- no octets
 
-pub number_none : (o w n : ℕ) → 0 < w → number o w n [] ≡ Partial [] n
-number_none o w n pos = search (arith, cases_lt, number_waits, add-zero, number_blocks, block_waits)
-
 pub quiet_parts : (n : ℕ) (part : ℕ → ℕ → List ℕ → Read) →
     ((i : ℕ) → IsEmptyResult n (part i n [])) →
     (more i : ℕ) → IsEmptyResult n (parts_from part more i n [])
@@ -115,7 +112,7 @@ quiet_led n T h part (Fault lines at kind S) k = k
 
 pub read_quiet : (coding : Coding) (path : List PathSegment) (T : Ty) (n : ℕ) →
     IsEmptyResult n (read coding path T n [])
-read_quiet coding path (Single scalar) n = search (arith, number_none, width_pos)
+read_quiet coding path (Single scalar) n = search (arith, number_none)
 read_quiet coding path (Struct count names parts) n =
     quiet_parts n (part_at coding path (Struct count names parts) count)
     (λ i. quiet_within n (Part (Struct count names parts) i count) _
@@ -134,7 +131,7 @@ read_quiet coding path (Led h F parts) n = search (
   quiet_led,
   read_quiet coding (inner_path path (Led h F parts) 0) F n,
 )
-read_quiet coding path T n = search (arith, number_none, lit<)
+read_quiet coding path T n = search (arith, number_none)
 
 pub part_quiet : (coding : Coding) (path : List PathSegment) (T : Ty) (count n i : ℕ) →
     IsEmptyResult n (part_at coding path T count i n [])
@@ -168,10 +165,11 @@ number_by : (w at : ℕ) (test : Bool) (b : ℕ) →
 number_by w at true b = refl
 number_by w at false b = block_now w at [] b
 
-number_now : (o w at : ℕ) (carry : List ℕ) (b : ℕ) → BlockNow (at + 1) (number_step o w at carry b)
+number_now : (phase : ℕ → ℕ) (w at : ℕ) (carry : List ℕ) (b : ℕ) →
+    BlockNow (at + 1) (number_step phase w at carry b)
 unfolding number_step
-number_now o w at [] b = search (arith, number_by)
-number_now o w at (x ∷ carry) b = block_now w at (x ∷ carry) b
+number_now phase w at [] b = search (arith, number_by)
+number_now phase w at (x ∷ carry) b = block_now w at (x ∷ carry) b
 
 last_now : (n : ℕ) (T : Ty) (path : List PathSegment) (total offset : ℕ) (g : Block) →
     BlockNow n g →
@@ -358,6 +356,14 @@ sized_now : (n : ℕ) (path : List PathSegment) (T : Ty) (k m : ℕ) →
 sized_now n path T zero m = (refl, refl)
 sized_now n path T (suc k) m = search (arith, block_waits, lit<, add-zero)
 
+elements_now : (n : ℕ) (T : Ty) (fits : Bool) (k : ℕ) (l : Line) (parts : ℕ → List ℕ → Read) →
+    l.at ≡ n → IsEmptyResult n (parts n []) →
+    IsOctetResult n (with_front (l ∷ []) (elements T fits k parts n []))
+elements_now n T true k l parts one h = now_front n (l ∷ []) (parts n []) one h
+elements_now n T false zero l parts one h =
+    now_front n (l ∷ []) (Done [] n []) one (refl, refl, refl)
+elements_now n T false (suc k) l parts one h = (one, refl)
+
 after_now : (n : ℕ) (coding : Coding) (path : List PathSegment) (T : Ty) (k : ℕ) →
     IsOctetResult n (after coding path T k n [])
 after_now n coding path (Single scalar) k = single_now n path scalar k
@@ -366,6 +372,11 @@ after_now n coding path (Text bound) (suc k) = search (arith, now_unless, conten
 after_now n coding path (Octets kind) k = search (arith, now_unless, content_now)
 after_now n coding path (Encapsulation T) k = search (arith, sized_now)
 after_now n coding path (Sequence bound T) k = search (arith, now_unless, now_front, parts_quiet)
+after_now n coding path (Recursive bound fits T) k =
+    let S = Recursive bound fits T in
+    now_unless n S (over bound k) _
+    (elements_now n S fits k (line n path (Count k)) (parts_from (part_at coding path S k) k 0) refl
+    (parts_quiet coding path S k n k 0))
 after_now n coding path (Union choice scalar select names cases) k =
     let T = Union choice scalar select names cases in
     let next : ℕ → List ℕ → Read = member (select k)

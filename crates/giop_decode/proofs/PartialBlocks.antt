@@ -7,10 +7,10 @@ use Rattle.giop_decode.specs.declared.leaf.Leaf.{Leaf as Innermost}
 use Rattle.giop_decode.specs.declared.progress.Progress.TheVariants as progress
 use Rattle.giop_decode.specs.SeenState.{Fits, CanStandAt, KeepsNoted, read_by_fields}
 use Rattle.giop_decode.specs.DecoderSteps.{decoder_step, Comes, leaf_in}
-use Rattle.giop_decode.specs.ReadResult.{plain, Line, PathSegment, Short, with_front}
+use Rattle.giop_decode.specs.ReadResult.{Coding, Line, PathSegment, Short, with_front}
 use Rattle.giop_decode.specs.ReadingSteps.{coding_in, leaf_step, root_step, around, heard_parts, path_in}
 use Rattle.giop_decode.specs.Transitions.{open_parts, leaf_of, leaf_type, ticked, HaveOctetsLeft, AreKnown, IsClean}
-use Rattle.giop_decode.proofs.Advancing.{same_some, step_fits}
+use Rattle.giop_decode.proofs.Advancing.{one_further, own_coding, own_stands, same_some, step_fits}
 use Rattle.giop_decode.proofs.Noting.{leaf_inside}
 use Rattle.giop_decode.proofs.Around.{around-short, heard_none}
 use Rattle.giop_decode.proofs.Surrounding.{inside_ticked, known_ticked, leaf_ticked, places_ticked, stand_ticked, surrounds, tree_ticked}
@@ -33,9 +33,9 @@ held_in d carry piece = record {
 }
 
 -- the innermost part goes on after the octet, with what is now held
-abbrev pub Holds : Table → Decoder → Decoder → Innermost → ℕ → ℕ → Type 0
-Holds C d new leaf here octet = (path : List PathSegment) →
-    leaf_step (coding_in (plain d.order) (open_parts C here d.outer.items)) path
+abbrev pub Holds : Coding → Table → Decoder → Decoder → Innermost → ℕ → ℕ → Type 0
+Holds coding C d new leaf here octet = (path : List PathSegment) →
+    leaf_step (coding_in coding (open_parts C here d.outer.items)) path
     (leaf_of C d.outer.items leaf d.carry d.piece.items) here octet
     ≡ Short [] (here + 1) [] (leaf_of C d.outer.items leaf new.carry new.piece.items)
 
@@ -46,55 +46,64 @@ module _ (C : Table) (d new : Decoder) (leaf : Innermost) (octet : ℕ)
   known_on : AreKnown C (ticked d.outer.items)
   known_on = search (arith, known_ticked)
 
-  pub step_held : (here : ℕ) → CanStandAt d here → Holds C d new leaf here octet →
-      decoder_step C d here octet ≡ Short [] (here + 1) (open_parts C (here + 1) new.outer.items)
+  pub step_held : (coding : Coding) (here : ℕ) → CanStandAt coding d here →
+      Holds coding C d new leaf here octet → decoder_step coding C d here octet
+      ≡ Short [] (here + 1) (open_parts C (here + 1) new.outer.items)
       (leaf_of C d.outer.items leaf new.carry new.piece.items)
-  step_held here h holds =
+  step_held coding here h holds =
       let ps = open_parts C here d.outer.items in
       let qs = open_parts C (here + 1) (ticked d.outer.items) in
       let held = leaf_of C d.outer.items leaf new.carry new.piece.items in
       let stands = surrounds C 24 (here + 1) (ticked d.outer.items) known_on on
-      (stand_ticked here d.outer.items h.1) in
-      ap (λ l. root_step (plain d.order) [] ps (leaf_in C d l) here octet) e
-      ∙ ap (rooted none_left) (ap (around (plain d.order) [] ps) (holds (path_in [] ps))
-      ∙ (ap (λ zs. around (plain d.order) [] zs (Short [] (here + 1) [] held))
+      (stand_ticked here d.outer.items h.outer) in
+      ap (λ l. root_step coding [] ps (leaf_in C d l) here octet) e
+      ∙ ap (rooted none_left) (ap (around coding [] ps) (holds (path_in [] ps))
+      ∙ (ap (λ zs. around coding [] zs (Short [] (here + 1) [] held))
       (sym (places_ticked C 24 here d.outer.items f.ahead f.known_outer))
-      ∙ (around-short (plain d.order) [] qs [] (here + 1) [] held stands
+      ∙ (around-short coding [] qs [] (here + 1) [] held stands
       ∙ (ap (λ zs. Short [] (here + 1) zs held) (append-nil (heard_parts [] qs) ∙ heard_none qs)
       ∙ ap (λ fs. Short [] (here + 1) (open_parts C (here + 1) fs) held) (sym counts)))))
 
-  held_stands : (here : ℕ) → CanStandAt d here → Holds C d new leaf here octet →
-      decoder_step C d here octet ≡ read_by_fields C new [] (here + 1)
-  held_stands here h holds = search (arith, step_held, leaf_ticked)
+  held_stands : (coding : Coding) (here : ℕ) → CanStandAt coding d here →
+      Holds coding C d new leaf here octet →
+      decoder_step coding C d here octet ≡ read_by_fields C new [] (here + 1)
+  held_stands coding here h holds = search (arith, step_held, leaf_ticked)
 
-  pub held_comes : (here : ℕ) → CanStandAt d here → Holds C d new leaf here octet →
-      Comes C new progress.More (here + 1) (decoder_step C d here octet)
-  held_comes here h holds = search (arith, held_stands)
+  pub held_comes : (coding : Coding) (here : ℕ) → CanStandAt coding d here →
+      Holds coding C d new leaf here octet →
+      Comes C new progress.More (here + 1) (decoder_step coding C d here octet)
+  held_comes coding here h holds = search (arith, held_stands)
 
-  pub held_here : (here : ℕ) → new.at ≡ (d.at + 1) % 8 → CanStandAt d here →
-      CanStandAt new (here + 1)
-  held_here here at h = search (arith, stand_ticked)
+  pub held_here : (coding : Coding) (here : ℕ) → new.order ≡ d.order → new.at ≡ (d.at + 1) % 8 →
+      CanStandAt coding d here → CanStandAt coding new (here + 1)
+  held_here coding here order at h = one_further coding d new here order at
+      (rw counts (stand_ticked here d.outer.items h.outer)) h
 
   pub held_fits : new.head ≡ d.head → new.narrow ≡ d.narrow → new.notes ≡ d.notes →
-      new.inside ≡ d.inside →
+      new.inside ≡ d.inside → new.order ≡ d.order →
       new.at ≡ (d.at + 1) % 8 →
-      IsClean leaf new.carry new.piece.items → Holds C d new leaf f.here octet → Fits C new
-  held_fits root narrow notes encloses at clean holds =
+      IsClean leaf new.carry new.piece.items →
+      Holds (own_coding d f.here) C d new leaf f.here octet → Fits C new
+  held_fits root narrow notes encloses order at clean holds =
       let it : f.leaf ≡ leaf = same_some f.leaf leaf (sym f.goes_on ∙ e) in
-      step_fits C d new f octet (record {
+      let own = own_coding d f.here in
+      let stands = own_stands C d f in
+      step_fits C d new f octet own (record {
         lines = [];
-        is = held_stands f.here f.stands holds;
+        is = held_stands own f.here stands holds;
         leaf =
             leaf;
         goes_on = e';
       })
-      (narrow ∙ f.narrow) (held_here f.here at f.stands) (rw counts on)
+      (narrow ∙ f.narrow) (held_here own f.here order at stands) (rw counts on)
       (rw (encloses, counts, inside_ticked d.outer.items) f.inside)
       (rw (counts, ← it) (link_ticked C f.root d.outer.items (leaf_type f.leaf) f.link))
       (rw counts known_on) (rw (← it) f.known) clean (rw (root, notes) f.of_root)
       (rw (root, notes, counts, tree_ticked C d.outer.items (leaf_type leaf), ← it) f.name)
 
-  pub held_keeps_noted : (here : ℕ) (front : List Line) → new.notes ≡ d.notes → CanStandAt d here →
-      Holds C d new leaf here octet → KeepsNoted C d.head.root d (read_by_fields C d front here) →
-      KeepsNoted C d.head.root new (with_front front (decoder_step C d here octet))
-  held_keeps_noted here front notes h holds old = search (arith, leaf_inside, step_held, append-nil)
+  pub held_keeps_noted : (coding : Coding) (here : ℕ) (front : List Line) → new.notes ≡ d.notes →
+      CanStandAt coding d here → Holds coding C d new leaf here octet →
+      KeepsNoted C d.head.root d (read_by_fields C d front here) →
+      KeepsNoted C d.head.root new (with_front front (decoder_step coding C d here octet))
+  held_keeps_noted coding here front notes h holds old =
+      search (arith, leaf_inside, step_held, append-nil)

@@ -1,22 +1,21 @@
 -- Octets that are taken together, the last of which is passed: they are taken as a run.
 use Rattle.std.proofs.Common.{true, false, ◌≡◌, Result, Ok, IsErr, ℕ, ◌+◌, ◌-◌, ◌<◌, List, ◌++◌, length, take, get_or, sym, subst, arith, ap, ◌∙◌}
-use Rattle.giop_cdr.specs.declared.order.Order.{Order}
 use Rattle.giop_decode.specs.declared.decoder.Decoder.{Decoder}
 use Rattle.giop_decode.specs.declared.leaf.Step.{Step}
 use Rattle.giop_decode.specs.declared.progress.Progress.{Progress}
 use Rattle.giop_decode.specs.declared.progress.Progress.TheVariants as progress
-use Rattle.giop_decode.specs.SeenState.{AreOfRoot, Fits, GoesOn, IsDone, Reads}
+use Rattle.giop_decode.specs.SeenState.{AreOfRoot, CanStandAt, Fits, GoesOn, IsDone, Reads}
 use Rattle.giop_decode.specs.DecoderSteps.{decoder_step}
 use Rattle.giop_decode.specs.NameBuffer.{FitsName, string_offset}
 use Rattle.giop_decode.specs.Passes.{Gives, Passes}
-use Rattle.giop_decode.specs.ReadResult.{Line}
+use Rattle.giop_decode.specs.ReadResult.{Coding, Line}
 use Rattle.giop_decode.specs.Runs.{TakenTogether, TakesSome}
 use Rattle.giop_decode.specs.Spelling.{lines_text}
 use Rattle.giop_decode.specs.Transitions.{Link, leaf_type, tree_in}
-use Rattle.giop_decode.proofs.Advancing.{goes, step_fits}
+use Rattle.giop_decode.proofs.Advancing.{goes, own_coding, own_stands, step_fits}
 use Rattle.giop_decode.proofs.SoFar.{AllSay, AllTake, TakenSoFar, gathered_so_far, step_says, then_one, then_one_broken}
 use Rattle.giop_decode.proofs.Taking.{done, takes_to}
-use Rattle.giop_decode.proofs.Whole.{IsAtLast, before_last, fits_then, gathered_whole, keeps_noted_whole, lines_at, lines_whole, name_whole, same_type, says_at, told_whole}
+use Rattle.giop_decode.proofs.Whole.{IsAtLast, before_last, fits_then, gathered_whole, keeps_noted_whole, lines_at, lines_whole, name_whole, same_type, says_at, stands_then, told_whole}
 use Rattle.giop_print.specs.Output.{OutLog, Wrote, WroteFront}
 use Rattle.giop_print.specs.declared.path.Root.{Root}
 use Rattle.giop_sig.specs.Types.{Ty}
@@ -34,21 +33,26 @@ module _ (C : Table) (d : Decoder) (octets : List ℕ) (of : TypeId) (count : �
   abbrev before : Decoder
   before = before_last C d octets of count step rest f m h on
 
-  abbrev lines : ℕ → List Line
-  lines here = lines_at C d octets of count step rest f m h on here
+  abbrev lines : Coding → ℕ → List Line
+  lines coding here = lines_at C d octets of count step rest f m h on coding here
 
-  abbrev says : (here : ℕ) → Gives C m of.0 step rest here (here + 1) (lines here)
-  says here = says_at C d octets of count step rest f m h on here
+  abbrev says : (coding : Coding) (here : ℕ) →
+      Gives C m of.0 step rest here (here + 1) (lines coding here)
+  says coding here = says_at C d octets of count step rest f m h on coding here
 
   abbrev fits_before : Fits C before
   fits_before = fits_then C d octets of count step rest f m h on
 
-  reads_before : (T : Ty) (order : Order) (at message : ℕ) (root : Root) (s : List ℕ) →
-      Reads C T order at message root d s →
-      Reads C T order at message root before (s ++ take (count - 1) octets)
-  reads_before T order at message root s r =
+  stands_m : (coding : Coding) (here : ℕ) → CanStandAt coding before here → CanStandAt coding m here
+  stands_m coding here stands =
+      stands_then C d octets of count step rest f m h on coding here stands
+
+  reads_before : (T : Ty) (coding : Coding) (at message : ℕ) (root : Root) (s : List ℕ) →
+      Reads C T coding at message root d s →
+      Reads C T coding at message root before (s ++ take (count - 1) octets)
+  reads_before T coding at message root s r =
       let all = (gathered_whole C d octets of count step rest f m h on).1 in
-      let held = all T order at message root s r in
+      let held = all T coding at message root s r in
       held.takes.reads (λ fault. fault)
 
   below : count - 1 < length octets
@@ -65,40 +69,45 @@ module _ (C : Table) (d : Decoder) (octets : List ℕ) (of : TypeId) (count : �
       ((here at : ℕ) (lines : List Line) → Gives C m of.0 step rest here at lines →
       Says (lines_text m.head.message m.head.root lines)) → AllSay C d octets (count - 1) Says
   last_says Says w =
-      step_says C d before octets (count - 1) fits_before reads_before Says (λ here stands.
-      rw (lines_whole C d octets of count step rest f m h on here stands)
-      (w here (here + 1) (lines here) (says here)))
+      step_says C d before octets (count - 1) fits_before reads_before Says (λ coding here stands.
+      rw (lines_whole C d octets of count step rest f m h on coding here stands)
+      (w here (here + 1) (lines coding here) (says coding here)))
 
   module _ (new : Decoder) (p : Progress) (e : Passes C m new of.0 step rest p) where
     pub last_takes : AllTake C d new octets (count - 1) p
-    last_takes T order at message root s r =
-        takes_to C T order at message root before new (s ++ take (count - 1) octets) octet p
-        fits_before e.order e.head e.narrow e.here
+    last_takes T coding at message root s r =
+        takes_to C T coding at message root before new (s ++ take (count - 1) octets) octet p
+        fits_before e.head e.narrow
+        (λ here stands. e.here coding here (stands_m coding here stands))
         (λ here stands.
-        rw (told_whole C d octets of count step rest f m h on here stands)
-        (e.steps here (lines here) (says here)))
+        rw (told_whole C d octets of count step rest f m h on coding here stands)
+        (e.steps coding here (lines coding here) (says coding here)))
         (λ here front stands old.
-        keeps_noted_whole C d octets of count step rest f m h on new here front stands
-        (e.inside here (lines here) (says here))
-        (λ o held. e.notes true o here (here + 1) (lines here) held (says here)) old)
-        (reads_before T order at message root s r)
+        keeps_noted_whole C d octets of count step rest f m h on new coding here front stands
+        (e.inside coding here (lines coding here) (says coding here))
+        (λ o held. e.notes true o here (here + 1) (lines coding here) held (says coding here)) old)
+        (reads_before T coding at message root s r)
 
     pub last_done : p ≡ progress.Done → IsDone new
     last_done =
         let g = fits_before in
-        done C new p (g.here + 1) _ (e.steps g.here (lines g.here) (says g.here))
+        let own = own_coding before g.here in
+        done C new p (g.here + 1) _ (e.steps own g.here (lines own g.here) (says own g.here))
 
     pub last_fits : GoesOn p → Fits C new
     last_fits goes_on =
         let g = fits_before in
-        let told = told_whole C d octets of count step rest f m h on g.here g.stands in
-        let k = goes C new p (g.here + 1) (decoder_step C before g.here octet)
-        (rw told (e.steps g.here (lines g.here) (says g.here))) goes_on in
+        let own = own_coding before g.here in
+        let stands = own_stands C before g in
+        let told = told_whole C d octets of count step rest f m h on own g.here stands in
+        let k = goes C new p (g.here + 1) (decoder_step own C before g.here octet)
+        (rw told (e.steps own g.here (lines own g.here) (says own g.here))) goes_on in
         let next = e.next goes_on in
         let link : Link C g.root m.outer.items of.0 =
         let same = same_type C d octets of count step rest f m h on in
         subst (Link C g.root m.outer.items) same g.link in
-        step_fits C before new g octet k (e.narrow ∙ g.narrow) (e.here g.here g.stands) next.ahead
+        step_fits C before new g octet own k (e.narrow ∙ g.narrow)
+        (e.here own g.here (stands_m own g.here stands)) next.ahead
         next.inside
         (next.link g.root k.leaf link k.goes_on) next.known_outer (next.known k.leaf k.goes_on)
         (next.clean k.leaf k.goes_on)
@@ -106,9 +115,10 @@ module _ (C : Table) (d : Decoder) (octets : List ℕ) (of : TypeId) (count : �
         (subst (λ r. FitsName r (string_offset (tree_in C new.outer.items (leaf_type k.leaf))
         k.leaf)
         new.notes.buffer new.notes.name.items) (sym (ap (λ h. h.root) e.head))
-        (name_whole C d octets of count step rest f m h on g.here _ new.notes next.going
+        (name_whole C d octets of count step rest f m h on own g.here _ new.notes next.going
         (next.offset k.leaf k.goes_on)
-        (λ o held. e.notes false o g.here (g.here + 1) (lines g.here) held (says g.here))))
+        (λ o held. e.notes false o g.here (g.here + 1) (lines own g.here) held
+        (says own g.here))))
 
     pub passed_some : {E : Type 0} (a c : OutLog) → AllSay C d octets (count - 1) (Wrote a c) →
         TakesSome {E = E} C d new octets a c (Ok (count, p))

@@ -24,6 +24,7 @@ use Rattle.giop_decode.specs.Fits.{HasParts, Sound}
 use Rattle.giop_decode.specs.Noted.{Noted, noted, in_content, ends_in_string, is_member, is_text}
 use Rattle.giop_decode.specs.Runs.{added_lines_of_run}
 use Rattle.giop_decode.specs.Spelling.{lines_text}
+use Rattle.giop_decode.proofs.Codings as codings
 use Rattle.giop_decode.proofs.Law as law
 use Rattle.giop_decode.proofs.Enclosing as enclosing
 use Rattle.giop_decode.proofs.OctetResults as now
@@ -112,8 +113,8 @@ parts_quiet coding path T count n more i = now.parts_quiet coding path T count n
 pub width_pos : (scalar : Scalar) → 0 < width scalar
 width_pos scalar = law.width_pos scalar
 
-pub number_none : (o w n : ℕ) → 0 < w → number o w n [] ≡ Partial [] n
-number_none o w n pos = now.number_none o w n pos
+pub number_none : (phase : ℕ → ℕ) (w n : ℕ) → number phase w n [] ≡ Partial [] n
+number_none phase w n = law.number_none phase w n
 
 pub block_waits : (n at : ℕ) (s : List ℕ) → length s < n → block n at s ≡ Partial s (at + length s)
 block_waits n at s h = law.block_waits n at s h
@@ -138,15 +139,15 @@ each_append P xs ys h k = now.each_append P xs ys h k
 
 -- The text of the lines that octets more give: of none, and of two lists one after the other.
 
-pub text_none : (message : ℕ) (root : Root) (order : Order) (T : Ty) (at : ℕ) (s : List ℕ) →
-    lines_text message root (added_lines_of_run order T at s []) ≡ []
-text_none message root order T at s = runs.text_none message root order T at s
+pub text_none : (message : ℕ) (root : Root) (coding : Coding) (T : Ty) (at : ℕ) (s : List ℕ) →
+    lines_text message root (added_lines_of_run coding T at s []) ≡ []
+text_none message root coding T at s = runs.text_none message root coding T at s
 
-pub text_both : (message : ℕ) (root : Root) (order : Order) (T : Ty) (at : ℕ) (s xs ys : List ℕ) →
-    lines_text message root (added_lines_of_run order T at s (xs ++ ys))
-    ≡ lines_text message root (added_lines_of_run order T at s xs) ++ lines_text message root
-    (added_lines_of_run order T at (s ++ xs) ys)
-text_both message root order T at s xs ys = runs.text_both message root order T at s xs ys
+pub text_both : (message : ℕ) (root : Root) (coding : Coding) (T : Ty) (at : ℕ) (s xs ys : List ℕ) →
+    lines_text message root (added_lines_of_run coding T at s (xs ++ ys))
+    ≡ lines_text message root (added_lines_of_run coding T at s xs) ++ lines_text message root
+    (added_lines_of_run coding T at (s ++ xs) ys)
+text_both message root coding T at s xs ys = runs.text_both message root coding T at s xs ys
 
 -- The parts of a decoder that are begun and not ended are fewer than the types of the table are
 -- deep.
@@ -178,3 +179,11 @@ reading_keeps d coding path T fit at s = rooted.whole_keeps d coding path T at s
 pub reading_quiet : (coding : Coding) (path : List PathSegment) (T : Ty) (n : ℕ) →
     IsEmptyResult n (reading coding path T n [])
 reading_quiet coding path T n = rooted.whole_quiet coding path T n
+
+-- Two codings whose phases are the same at the octets of a list have the same reading of it.
+pub reading_phased : (coding other : Coding) (path : List PathSegment) (T : Ty) (at : ℕ)
+    (s : List ℕ) → coding.order ≡ other.order →
+    ((here : ℕ) → here < at + length s → coding.phase here ≡ other.phase here) →
+    reading coding path T at s ≡ reading other path T at s
+reading_phased coding other path T at s order phases =
+    codings.reading_agrees coding other path T at s order phases

@@ -11,7 +11,7 @@ use Rattle.giop_sig.specs.Fits.{IsFit}
 use Rattle.giop_sig.specs.HeaderTypes.{IsTable}
 use Rattle.giop_sig.specs.Table.{Table}
 use Rattle.giop_sig.specs.Trees.{tree, tree_at}
-use Rattle.giop_sig.specs.Types.{Array, Cases, Encapsulation, Enum, HasMember, HasPlace, HasShape, IsUnion, Led, Marked, OctetKind, Octets, Plain, Raw, Sequence, Single, Struct, Tag, Ty, Union, WideChar, WideText, octets_shape, shape_in, switch_of}
+use Rattle.giop_sig.specs.Types.{Array, Cases, Encapsulation, Enum, HasMember, HasPlace, HasShape, IsUnion, Led, Marked, OctetKind, Octets, Plain, Raw, Recursive, Sequence, Single, Struct, Tag, Ty, Union, WideChar, WideText, octets_shape, shape_in, switch_of}
 use Rattle.giop_decode.proofs.OctetKinds.{octets_has, octets_is}
 use Rattle.giop_sig.specs.declared.types.Shape.{Shape}
 use Rattle.giop_sig.specs.declared.types.Shape.TheVariants as shapes
@@ -71,6 +71,7 @@ pub parts_bare : (T : Ty) (count : ℕ) → HasParts T count → IsUnion (shape_
 parts_bare (Struct n names parts) count is union = union
 parts_bare (Array n T) count is union = union
 parts_bare (Sequence bound T) count is union = union
+parts_bare (Recursive bound fits T) count is union = union
 parts_bare T count is union = is
 
 pub held_bare : (T : Ty) → IsEncapsulation T → IsUnion (shape_in T) → ⊥

@@ -38,6 +38,10 @@ head_tag T h = rw h.4 tt
 pub head_encapsulation : (T : Ty) → HasShape T shapes.Encapsulation → HasLeadingNumber T
 head_encapsulation T h = rw h.1 tt
 
+pub head_recursive : (T : Ty) (bound : Option ℕ) → HasShape T (shapes.Recursive bound) →
+    HasLeadingNumber T
+head_recursive T bound h = rw h.2 tt
+
 pub ruleset shape_laws = (
   whole_members,
   whole_array,
@@ -48,6 +52,7 @@ pub ruleset shape_laws = (
   head_union,
   head_tag,
   head_encapsulation,
+  head_recursive,
 )
 
 pub aligned : (p : Primitive) → IsAlignment (size_of p)
@@ -92,6 +97,10 @@ pub some_sequence : (T : Ty) (bound : Option ℕ) → HasShape T (shapes.Sequenc
     IsEmptyStruct T → ⊥
 some_sequence T bound h empty = rw h.1 at empty
 
+pub some_recursive : (T : Ty) (bound : Option ℕ) → HasShape T (shapes.Recursive bound) →
+    IsEmptyStruct T → ⊥
+some_recursive T bound h empty = rw h.2 at empty
+
 pub some_tag : (T : Ty) → HasShape T shapes.Tagged → IsEmptyStruct T → ⊥
 some_tag T h empty = rw h.4 at empty
 
@@ -110,4 +119,5 @@ pub ruleset empty_laws = (
   some_octets,
   some_union,
   some_sequence,
+  some_recursive,
 )

@@ -3,13 +3,12 @@ use Rattle.std.proofs.Common.{◌≡◌, Result, Ok, Err, IsErr, ℕ, ◌+◌, �
 use Rattle.std.specs.Prelude.{IfOk}
 use Rattle.std.proofs.lemmas.Bool.{false≢true}
 use Rattle.std.proofs.lemmas.List.{take-append-drop}
-use Rattle.giop_cdr.specs.declared.order.Order.{Order}
 use Rattle.giop_decode.specs.declared.decoder.Decoder.{Decoder}
 use Rattle.giop_decode.specs.declared.progress.Progress.{Progress}
 use Rattle.giop_decode.specs.declared.progress.Progress.TheVariants as progress
 use Rattle.giop_decode.specs.SeenState.{CanStandAt, Fits, GoesOn, IsDone, Reads, Takes, added_lines}
 use Rattle.giop_decode.specs.DecoderSteps.{decoder_step}
-use Rattle.giop_decode.specs.ReadResult.{lines_of}
+use Rattle.giop_decode.specs.ReadResult.{Coding, lines_of}
 use Rattle.giop_decode.specs.Runs.{added_lines_of_run, AllGathered, AreAnswered, BreaksOff, TakesRun, TakesSome}
 use Rattle.giop_decode.specs.Spelling.{lines_text}
 use Rattle.giop_decode.proofs.Runs.{breaks_both, breaks_off, takes_both, takes_near, takes_more, text_both, text_more, text_none, writes_near}
@@ -27,29 +26,31 @@ pub record TakenSoFar (C : Table) (old new : Decoder) (octets : List ℕ) (n : �
     (before after : OutLog) : Type 0 where
   pub within : n ≤ length octets
   pub fits : Fits C new
-  pub reads : (T : Ty) (order : Order) (at message : ℕ) (root : Root) (s : List ℕ) →
-      Reads C T order at message root old s →
-      Reads C T order at message root new (s ++ take n octets)
-  pub answers : (T : Ty) (order : Order) (at message : ℕ) (root : Root) (s : List ℕ) →
-      Reads C T order at message root old s →
-      AreAnswered order T at root s (take n octets) progress.More
-  pub text : (T : Ty) (order : Order) (at message : ℕ) (root : Root) (s : List ℕ) →
-      Reads C T order at message root old s →
-      Wrote before after (lines_text message root (added_lines_of_run order T at s (take n octets)))
+  pub reads : (T : Ty) (coding : Coding) (at message : ℕ) (root : Root) (s : List ℕ) →
+      Reads C T coding at message root old s →
+      Reads C T coding at message root new (s ++ take n octets)
+  pub answers : (T : Ty) (coding : Coding) (at message : ℕ) (root : Root) (s : List ℕ) →
+      Reads C T coding at message root old s →
+      AreAnswered coding T at root s (take n octets) progress.More
+  pub text : (T : Ty) (coding : Coding) (at message : ℕ) (root : Root) (s : List ℕ) →
+      Reads C T coding at message root old s →
+      Wrote before after
+      (lines_text message root (added_lines_of_run coding T at s (take n octets)))
 
 -- the octet after so many is taken with this answer
 abbrev pub AllTake : Table → Decoder → Decoder → List ℕ → ℕ → Progress → Type 0
 AllTake C old new octets n p =
-    (T : Ty) (order : Order) (at message : ℕ) (root : Root) (s : List ℕ) →
-    Reads C T order at message root old s →
-    Takes C T order at message root new (s ++ take n octets) (get_or octets n 0) p
+    (T : Ty) (coding : Coding) (at message : ℕ) (root : Root) (s : List ℕ) →
+    Reads C T coding at message root old s →
+    Takes C T coding at message root new (s ++ take n octets) (get_or octets n 0) p
 
 -- and this holds of the text of its lines
 abbrev pub AllSay : Table → Decoder → List ℕ → ℕ → (List ℕ → Type 0) → Type 0
 AllSay C old octets n Says =
-    (T : Ty) (order : Order) (at message : ℕ) (root : Root) (s : List ℕ) →
-    Reads C T order at message root old s →
-    Says (lines_text message root (added_lines order T at (s ++ take n octets) (get_or octets n 0)))
+    (T : Ty) (coding : Coding) (at message : ℕ) (root : Root) (s : List ℕ) →
+    Reads C T coding at message root old s →
+    Says (lines_text message root
+    (added_lines coding T at (s ++ take n octets) (get_or octets n 0)))
 
 pub none_taken : (C : Table) (d : Decoder) (octets : List ℕ) (a : OutLog) → Fits C d →
     TakenSoFar C d d octets 0 a a
@@ -62,38 +63,38 @@ gathered_so_far C d new octets n a within f h =
     record {
       within = within;
       fits = f;
-      reads = λ T order at message root s r.
-          (h T order at message root s r).takes.reads (λ fault. fault);
-      answers = λ T order at message root s r. (h T order at message root s r).takes.answers;
-      text = λ T order at message root s r.
-          rw (said_none message root _ (h T order at message root s r).quiet) (wrote-nil a);
+      reads = λ T coding at message root s r.
+          (h T coding at message root s r).takes.reads (λ fault. fault);
+      answers = λ T coding at message root s r. (h T coding at message root s r).takes.answers;
+      text = λ T coding at message root s r.
+          rw (said_none message root _ (h T coding at message root s r).quiet) (wrote-nil a);
     }
 
 -- the lines of the octet after so many, by one step on the decoder's fields
 pub step_says : (C : Table) (old mid : Decoder) (octets : List ℕ) (n : ℕ) → Fits C mid →
-    ((T : Ty) (order : Order) (at message : ℕ) (root : Root) (s : List ℕ) →
-    Reads C T order at message root old s →
-    Reads C T order at message root mid (s ++ take n octets)) →
+    ((T : Ty) (coding : Coding) (at message : ℕ) (root : Root) (s : List ℕ) →
+    Reads C T coding at message root old s →
+    Reads C T coding at message root mid (s ++ take n octets)) →
     (Says : List ℕ → Type 0) →
-    ((here : ℕ) → CanStandAt mid here →
+    ((coding : Coding) (here : ℕ) → CanStandAt coding mid here →
     Says (lines_text mid.head.message mid.head.root
-    (lines_of (decoder_step C mid here (get_or octets n 0))))) →
+    (lines_of (decoder_step coding C mid here (get_or octets n 0))))) →
     AllSay C old octets n Says
-step_says C old mid octets n f reads Says w T order at message root s r =
-    let k = reads T order at message root s r in
+step_says C old mid octets n f reads Says w T coding at message root s r =
+    let k = reads T coding at message root s r in
     let all = s ++ take n octets in
     rw (
-      due_is C T order at message root mid all (get_or octets n 0) f k,
+      due_is C T coding at message root mid all (get_or octets n 0) f k,
       ← k.same_message,
       ← k.same_root,
     )
-    (w (at + length all) k.offset)
+    (w coding (at + length all) k.offset)
 
 -- a put failed at one of the octets
 pub broken : {E : Type 0} (r : Result (ℕ × Progress) E) (C : Table) (old new : Decoder)
     (octets : List ℕ) (a b : OutLog) → IsErr r →
-    ((T : Ty) (order : Order) (at message : ℕ) (root : Root) (s : List ℕ) →
-    Reads C T order at message root old s → BreaksOff T order at message root s octets a b) →
+    ((T : Ty) (coding : Coding) (at message : ℕ) (root : Root) (s : List ℕ) →
+    Reads C T coding at message root old s → BreaksOff T coding at message root s octets a b) →
     TakesSome C old new octets a b r
 broken (Ok v) C old new octets a b e h = absurd (false≢true e)
 broken (Err v) C old new octets a b e h = search (arith)
@@ -115,13 +116,13 @@ near_some r C old new near octets a b e h = search (arith, writes_near, takes_ne
 
 module _ (C : Table) (old mid : Decoder) (octets : List ℕ) (n : ℕ) (a b : OutLog)
     (h : TakenSoFar C old mid octets n a b) where
-  pub takes_so_far : (T : Ty) (order : Order) (at message : ℕ) (root : Root) (s : List ℕ) →
-      Reads C T order at message root old s →
-      TakesRun C T order at message root mid s (take n octets) progress.More
-  takes_so_far T order at message root s r =
-      let now = h.reads T order at message root s r in
+  pub takes_so_far : (T : Ty) (coding : Coding) (at message : ℕ) (root : Root) (s : List ℕ) →
+      Reads C T coding at message root old s →
+      TakesRun C T coding at message root mid s (take n octets) progress.More
+  takes_so_far T coding at message root s r =
+      let now = h.reads T coding at message root s r in
       record {
-        answers = h.answers T order at message root s r;
+        answers = h.answers T coding at message root s r;
         reads = λ unfaulty. now;
         keeps_noted = now.keeps_noted;
       }
@@ -146,21 +147,22 @@ module _ (C : Table) (old mid : Decoder) (octets : List ℕ) (n : ℕ) (a b : Ou
         TakesSome {E = E} C old new octets a c (Ok (n + m, p))
     then_some m p t =
         record {
-          writes = λ T order at message root s r.
+          writes = λ T coding at message root s r.
               rw (
                 take-add n m octets,
-                text_both message root order T at s (take n octets)
+                text_both message root coding T at s (take n octets)
                     (take m (drop n octets)),
               )
-              (wrote-append a b c _ _ (h.text T order at message root s r)
-              (t.writes T order at message root (s ++ take n octets)
-              (h.reads T order at message root s r)));
-          takes = λ T order at message root s r.
+              (wrote-append a b c _ _ (h.text T coding at message root s r)
+              (t.writes T coding at message root (s ++ take n octets)
+              (h.reads T coding at message root s r)));
+          takes = λ T coding at message root s r.
               rw (take-add n m octets)
-              (takes_both C T order at message root new s (take n octets) (take m (drop n octets)) p
-              (h.answers T order at message root s r)
-              (t.takes T order at message root (s ++ take n octets)
-              (h.reads T order at message root s r)));
+              (takes_both C T coding at message root new s (take n octets) (take m (drop n octets))
+              p
+              (h.answers T coding at message root s r)
+              (t.takes T coding at message root (s ++ take n octets)
+              (h.reads T coding at message root s r)));
           within = let all = length-drop n octets in omega (arith, all, t.within, h.within);
           some = let one = t.some in omega (arith, one);
           fits = t.fits;
@@ -170,12 +172,13 @@ module _ (C : Table) (old mid : Decoder) (octets : List ℕ) (n : ℕ) (a b : Ou
     pub then_fails : {E : Type 0} (r : Result (ℕ × Progress) E) → IsErr r →
         TakesSome C mid new (drop n octets) b c r → TakesSome C old new octets a c r
     then_fails (Ok v) is t = absurd (false≢true is)
-    then_fails (Err e) is t = broken (Err e) C old new octets a c is (λ T order at message root s k.
-        subst (λ xs. BreaksOff T order at message root s xs a c) (take-append-drop n octets)
-        (breaks_both T order at message root s (take n octets) (drop n octets) a b c
-        (h.answers T order at message root s k) (h.text T order at message root s k)
-        (t.writes T order at message root (s ++ take n octets)
-        (h.reads T order at message root s k))))
+    then_fails (Err e) is t = broken (Err e) C old new octets a c is
+        (λ T coding at message root s k.
+        subst (λ xs. BreaksOff T coding at message root s xs a c) (take-append-drop n octets)
+        (breaks_both T coding at message root s (take n octets) (drop n octets) a b c
+        (h.answers T coding at message root s k) (h.text T coding at message root s k)
+        (t.writes T coding at message root (s ++ take n octets)
+        (h.reads T coding at message root s k))))
 
     pub then_broken : {E : Type 0} (r : Result (ℕ × Progress) E) (e : E) → IsErr r →
         TakesSome {E = E} C mid new (drop n octets) b c (Err e) → TakesSome C old new octets a c r
@@ -189,14 +192,14 @@ module _ (C : Table) (old mid : Decoder) (octets : List ℕ) (n : ℕ) (a b : Ou
         TakesSome {E = E} C old new octets a c (Ok (n + 1, p))
     then_one p below takes says fits done =
         record {
-          writes = λ T order at message root s r.
-              rw (text_more message root order T at s octets n below)
-              (wrote-append a b c _ _ (h.text T order at message root s r)
-              (says T order at message root s r));
-          takes = λ T order at message root s r.
-              takes_more C T order at message root new s octets n p below
-              (h.answers T order at message root s r)
-              (takes T order at message root s r);
+          writes = λ T coding at message root s r.
+              rw (text_more message root coding T at s octets n below)
+              (wrote-append a b c _ _ (h.text T coding at message root s r)
+              (says T coding at message root s r));
+          takes = λ T coding at message root s r.
+              takes_more C T coding at message root new s octets n p below
+              (h.answers T coding at message root s r)
+              (takes T coding at message root s r);
           within = omega (arith, below);
           some = omega arith;
           fits = fits;
@@ -206,10 +209,10 @@ module _ (C : Table) (old mid : Decoder) (octets : List ℕ) (n : ℕ) (a b : Ou
     pub then_one_broken : {E : Type 0} (r : Result (ℕ × Progress) E) → IsErr r → n < length octets →
         AllSay C old octets n (WroteFront b c) → TakesSome C old new octets a c r
     then_one_broken r is below says = broken r C old new octets a c is
-        (λ T order at message root s k.
-        breaks_off T order at message root s octets n a b c below
-        (h.answers T order at message root s k)
-        (h.text T order at message root s k) (says T order at message root s k))
+        (λ T coding at message root s k.
+        breaks_off T coding at message root s octets n a b c below
+        (h.answers T coding at message root s k)
+        (h.text T coding at message root s k) (says T coding at message root s k))
 
 -- a run after which the value goes on
 pub so_far : {E : Type 0} (C : Table) (old new : Decoder) (octets : List ℕ) (n : ℕ) (p : Progress)
@@ -219,9 +222,9 @@ so_far C old new octets n p a b e t =
     record {
       within = t.within;
       fits = t.fits (rw e tt);
-      reads = λ T order at message root s r. (t.takes T order at message root s r).reads
+      reads = λ T coding at message root s r. (t.takes T coding at message root s r).reads
           (rw e (λ fault. fault));
-      answers = λ T order at message root s r. rw e at
-          (t.takes T order at message root s r).answers;
+      answers = λ T coding at message root s r. rw e at
+          (t.takes T coding at message root s r).answers;
       text = t.writes;
     }

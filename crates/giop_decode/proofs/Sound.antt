@@ -1,24 +1,24 @@
 -- A reading ends at the offset after its last octet, and leaves open parts that fit the type.
-use Rattle.std.proofs.Common.{◌≡◌, ℕ, zero, suc, ◌+◌, ◌-◌, ◌<◌, ◌≤◌, List, [], ◌∷◌, ◌++◌, length, take, drop, Option, Some, None, refl, sym, subst, arith, add-zero, length-append, length-drop, lt-ltb, le-ltb, ◌⊎◌, inl, inr, lit<, length-take-le}
+use Rattle.std.proofs.Common.{◌≡◌, ℕ, zero, suc, ◌+◌, ◌-◌, ◌<◌, ◌≤◌, List, [], ◌∷◌, ◌++◌, length, take, drop, Option, Some, None, refl, sym, subst, arith, add_assoc, add-zero, length-append, length-drop, lt-ltb, le-ltb, ◌⊎◌, inl, inr, lit<, length-take-le, Bool, true, false}
 use Rattle.std.proofs.lemmas.Bool.{cases_lt}
 use Rattle.std.proofs.lemmas.List.{take_all, drop_all}
 use Rattle.giop_cdr.specs.declared.order.Order.{Order}
-use Rattle.giop_decode.specs.Fits.{Sound, HasCase, HasContent, HasLeadingNumber, HasParts, IsEncapsulation, IsLed}
+use Rattle.giop_decode.specs.Fits.{Sound, HasBegun, HasCase, HasContent, HasLeadingNumber, HasParts, IsEncapsulation, IsLed}
 use Rattle.giop_decode.specs.Pieces.{Complete, Block, Partial, block, content, full_piece, full_pieces, last_piece, number, octets, tail, text, unless}
 use Rattle.giop_decode.specs.Reading.{enclosed, inside, member, order_of, ordered, parts_from, read, rest_of, single, sized, following, left_after, led, led_segment, none_left, told_after}
-use Rattle.giop_decode.specs.ReadResult.{Coding, Done, Fault, Index, Line, Member, Name, Part, Read, PathSegment, Short, followed, with_front, within, Held}
+use Rattle.giop_decode.specs.ReadResult.{Coding, coded, Done, Fault, Index, Line, Member, Name, Part, Read, PathSegment, Short, followed, with_front, within, Held}
 use Rattle.giop_decode.specs.ReadingSteps.{inner_path, after, leading_width, part_at, held, IsOctetResult, after_told}
 use Rattle.giop_sig.specs.Hearings.{hearing_in}
 use Rattle.giop_decode.specs.declared.progress.Kind.{Kind}
 use Rattle.giop_decode.specs.declared.progress.Kind.TheVariants as kinds
 use Rattle.giop_sig.specs.Fits.{IsFit, SelectsBelow}
-use Rattle.giop_sig.specs.Types.{places_of, Choice, Array, OctetKind, Octets, Scalar, Sequence, Single, Struct, Text, Ty, Union, part_of, Encapsulation, Led, Told, Untold, Sequel, Then, Ends, Stops, sequel}
+use Rattle.giop_sig.specs.Types.{places_of, Choice, Array, OctetKind, Octets, Scalar, Sequence, Single, Struct, Text, Ty, Union, part_of, Encapsulation, Led, Told, Untold, Sequel, Then, Ends, Stops, sequel, Recursive}
 use Rattle.giop_sig.specs.declared.types.Selected.{Selected}
 use Rattle.giop_sig.specs.declared.types.Selected.TheVariants.{Case}
 use Rattle.giop_decode.proofs.Enclosing as enclosing
 use Rattle.giop_decode.proofs.Enclosing.{read_ends}
 use Rattle.giop_decode.proofs.OctetKinds.{size_pos}
-use Rattle.giop_decode.proofs.Law.{headed_by, block_waits, block_got, number_waits, number_blocks, width_pos}
+use Rattle.giop_decode.proofs.Law.{headed_by, block_waits, block_got, number_none, number_pads, number_blocks, padding_or, width_pos}
 
 abbrev pub Keeps : Ty → (ℕ → List ℕ → Read) → Type 0
 Keeps T reader = (at : ℕ) (s : List ℕ) → Sound T (at + length s) (reader at s)
@@ -58,13 +58,15 @@ Takes n end (Complete xs at rest) = (at + length rest ≡ end) × (length xs ≡
 block_takes : (n at : ℕ) (s : List ℕ) → Takes n (at + length s) (block n at s)
 block_takes n at s = search (arith, cases_lt, block_waits, block_got, length-drop, length-take-le)
 
-number_takes : (o n at : ℕ) (s : List ℕ) → 0 < n → Takes n (at + length s) (number o n at s)
-number_takes o n at s pos = search (
+pub number_takes : (phase : ℕ → ℕ) (n at : ℕ) (s : List ℕ) → 0 < n →
+    Takes n (at + length s) (number phase n at s)
+number_takes phase n at [] pos = search (arith, number_none)
+number_takes phase n at (b ∷ s) pos = search (
   arith,
-  cases_lt,
-  number_waits,
-  drop,
-  length-drop,
+  padding_or,
+  number_pads,
+  number_takes phase n (at + 1) s pos,
+  add_assoc,
   number_blocks,
   block_takes,
 )
@@ -83,7 +85,7 @@ parts_keep coding path T count kind each (suc more) i is at s =
 headed_keeps : (coding : Coding) (path : List PathSegment) (T : Ty) → HasLeadingNumber T →
     0 < leading_width T →
     ((n : ℕ) → Keeps T (after coding path T n)) →
-    Keeps T (λ at s. headed_by coding path T (number coding.origin (leading_width T) at s))
+    Keeps T (λ at s. headed_by coding path T (number coding.phase (leading_width T) at s))
 headed_keeps coding path T kind pos keeps at s = search (arith, number_takes, headed_by)
 
 pub last_piece_sound : (T : Ty) (path : List PathSegment) (total offset end : ℕ) → HasContent T →
@@ -150,6 +152,17 @@ elements_keep coding path bound T n each at s = search (
   parts_keep,
 )
 
+-- if the elements have room, their readings do
+pub recursion_keeps : (coding : Coding) (path : List PathSegment) (bound : Option ℕ) (fits : Bool)
+    (T : Ty) (n : ℕ) →
+    (fits ≡ true → (i : ℕ) → Keeps T (read coding (path ++ Index i ∷ []) T)) →
+    Keeps (Recursive bound fits T) (after coding path (Recursive bound fits T) n)
+recursion_keeps coding path bound true T n each at s =
+    let all : (i : ℕ) → Keeps T (read coding (path ++ Index i ∷ []) T) = each refl in
+    search (arith, sound_unless, sound_front, parts_keep)
+recursion_keeps coding path bound false T zero each at s = search (arith, sound_unless)
+recursion_keeps coding path bound false T (suc n) each at s = search (arith, sound_unless)
+
 pub cases_keep : (coding : Coding) (path : List PathSegment) (choice : Choice) (scalar : Scalar)
     (select : ℕ → Selected) (names : ℕ → List ℕ) (cases : ℕ → Ty) (n : ℕ) →
     SelectsBelow (places_of choice) select →
@@ -196,7 +209,7 @@ now_leaves n (Short lines at outer leaf) h = tt
 -- encapsulation goes on
 pub sound_enclosed : (T : Ty) (path : List PathSegment) (inner : Coding) (end here : ℕ)
     (left : ℕ → List ℕ) →
-    IsEncapsulation T → inner.origin < here → (r : Read) (more : List ℕ) →
+    IsEncapsulation T → HasBegun inner here → (r : Read) (more : List ℕ) →
     Sound (part_of T 0) here r → (here < end → more ≡ []) → Leaves here left r →
     Sound T (here + length more) (enclosed path T inner end left r more)
 sound_enclosed T path inner end here left kind began (Done lines at rest) more h none leaves =
@@ -230,9 +243,13 @@ sound_enclosed T path inner end here left kind began (Fault lines at kinds.Untyp
     (rest_keeps T path (end - at) (encapsulation_content T kind) at (left at ++ more)))
 sound_enclosed T path inner end here left kind began (Fault lines at why S) more h none leaves = tt
 
+pub begun_later : (coding : Coding) (at later : ℕ) → at ≤ later → HasBegun coding at →
+    HasBegun coding later
+begun_later coding at later h began here k = began here (omega (arith, h, k))
+
 inside_sound : (T : Ty) (path : List PathSegment) (value : Coding → ℕ → List ℕ → Read)
     (inner : Coding)
-    (n at : ℕ) (s : List ℕ) → IsEncapsulation T → inner.origin < at →
+    (n at : ℕ) (s : List ℕ) → IsEncapsulation T → HasBegun inner at →
     Keeps (part_of T 0) (value inner) →
     ((t : List ℕ) → enclosing.Ends at (at + length t) (value inner at t)) →
     Sound T (at + length s) (inside path T value inner n at s)
@@ -246,7 +263,8 @@ inside_sound T path value inner n at s kind began keeps ends = go (cases_lt (len
         (λ m. Sound T m (enclosed path T inner (at + n) (left_after at s) (value inner at s) []))
         (add-zero (at + length s))
         (sound_enclosed T path inner (at + n) (at + length s) (left_after at s) kind
-        (omega (arith, began)) (value inner at s) [] (keeps at s) (λ _. refl)
+        (begun_later inner at (at + length s) (omega arith) began) (value inner at s) []
+        (keeps at s) (λ _. refl)
         (ends_leave at s (value inner at s) (ends s))))
     go (inr h) =
         let l : length (take n s) ≡ n = length-take-le n s h in
@@ -254,7 +272,7 @@ inside_sound T path value inner n at s kind began keeps ends = go (cases_lt (len
         omega (arith, l, length-drop n s) in
         subst (λ m. Sound T m (inside path T value inner n at s)) e
         (sound_enclosed T path inner (at + n) (at + length (take n s)) (left_after at (take n s))
-        kind (omega (arith, began))
+        kind (begun_later inner at (at + length (take n s)) (omega arith) began)
         (value inner at (take n s)) (drop n s) (keeps at (take n s))
         (λ below. absurd (omega (arith, l, below)))
         (ends_leave at (take n s) (value inner at (take n s)) (ends (take n s))))
@@ -268,12 +286,9 @@ pub ordered_sound : (T : Ty) (path : List PathSegment) (origin n : ℕ) (order :
     (s : List ℕ) → IsEncapsulation T → origin < at → HeldKeeps T path →
     Sound T (at + length s) (ordered path T (held path T) origin n order at s)
 ordered_sound T path origin n None at s kind began keeps = tt
-ordered_sound T path origin n (Some order) at s kind began keeps = search (
-  arith,
-  sound_front,
-  inside_sound,
-  read_ends,
-)
+ordered_sound T path origin n (Some order) at s kind began keeps =
+    let begun : HasBegun (coded order origin) at = λ here h. omega (arith, began, h) in
+    search (arith, sound_front, inside_sound, read_ends, begun)
 
 sized_keeps : (T : Ty) (path : List PathSegment) (n : ℕ) → IsEncapsulation T → HeldKeeps T path →
     Keeps T (sized path T (held path T) n)
@@ -337,6 +352,10 @@ read_keeps (suc d) coding path (Sequence bound T) fit =
     headed_keeps coding path (Sequence bound T) tt (lit< tt)
     (λ n. elements_keep coding path bound T n
     (λ i. read_keeps d coding (path ++ Index i ∷ []) T fit))
+read_keeps (suc d) coding path (Recursive bound fits T) fit =
+    headed_keeps coding path (Recursive bound fits T) tt (lit< tt)
+    (λ n. recursion_keeps coding path bound fits T n
+    (λ is i. read_keeps d coding (path ++ Index i ∷ []) T (fit is)))
 read_keeps (suc d) coding path (Union choice scalar select names cases) fit =
     headed_keeps coding path (Union choice scalar select names cases) tt (width_pos scalar) (λ n.
     cases_keep coding path choice scalar select names cases n fit.0
@@ -359,6 +378,9 @@ after_keeps (suc d) coding path (Single scalar) n fit = search (arith, single_ke
 after_keeps (suc d) coding path (Text bound) n fit = text_keeps path bound n
 after_keeps (suc d) coding path (Octets kind) n fit = octets_keeps path kind n
 after_keeps (suc d) coding path (Sequence bound T) n fit = search (arith, elements_keep, read_keeps)
+after_keeps (suc d) coding path (Recursive bound fits T) n fit =
+    recursion_keeps coding path bound fits T n
+    (λ is i. read_keeps d coding (path ++ Index i ∷ []) T (fit is))
 after_keeps (suc d) coding path (Union choice scalar select names cases) n fit = search (
   arith,
   cases_keep,

@@ -1,15 +1,15 @@
 -- A decoder before the first octet.
-use Rattle.std.proofs.Common.{◌≡◌, ℕ, true, ◌+◌, ◌%◌, ◌<◌, [], length, Some, subst, add-zero, inl, inr, arith}
+use Rattle.std.proofs.Common.{◌≡◌, ℕ, true, ◌+◌, ◌%◌, ◌<◌, [], length, Some, subst, sym, add-zero, inl, inr, arith}
 use Rattle.giop_decode.proofs.Rooted.{whole_none}
-use Rattle.giop_cdr.specs.declared.order.Order.{Order}
 use Rattle.giop_decode.specs.declared.decoder.Decoder.{Decoder}
 use Rattle.giop_decode.specs.declared.leaf.Leaf.TheVariants as innermost
 use Rattle.giop_decode.specs.Begins.{start_outer, start_leaf}
 use Rattle.giop_decode.specs.Fits.{Sound}
 use Rattle.giop_decode.specs.Noted.{nothing_noted}
 use Rattle.giop_decode.proofs.NameBuffer.{nothing_fits, nothing_of_root}
-use Rattle.giop_decode.specs.SeenState.{Fits, Reads, HoldsNoKey, HoldsNoted}
-use Rattle.giop_decode.specs.ReadResult.{plain, LeadingNumber, Short}
+use Rattle.giop_decode.specs.SeenState.{CanStandAt, Fits, KeepsNoted, Reads, HoldsNoKey, HoldsNoted, read_by_fields}
+use Rattle.giop_decode.specs.Reading.{reading}
+use Rattle.giop_decode.specs.ReadResult.{Coding, IsEvenFrom, plain, LeadingNumber, Short}
 use Rattle.giop_decode.specs.Transitions.{open_parts, is_inside, AreKnown, Link, HaveOctetsLeft, StandAt, tree_in}
 use Rattle.giop_decode.proofs.Around.{read_none}
 use Rattle.giop_decode.proofs.Sound.{read_keeps}
@@ -20,17 +20,36 @@ use Rattle.giop_sig.specs.Table.{Table}
 use Rattle.giop_sig.specs.Trees.{tree}
 use Rattle.giop_sig.specs.Types.{Ty}
 
-module _ (C : Table) (T : Ty) (order : Order) (at message : ℕ) (root : Root) (d : Decoder) where
+pub begins_at : (coding : Coding) (d : Decoder) (at : ℕ) → d.order ≡ coding.order →
+    coding.phase at % 8 ≡ d.at → IsEvenFrom coding at → StandAt at d.outer.items →
+    CanStandAt coding d (at + length {A = ℕ} [])
+begins_at coding d at order phase even stand =
+    subst (CanStandAt coding d) (sym (add-zero at))
+    (record { order = order; phase = phase; even = even; outer = stand })
+
+module _ (C : Table) (T : Ty) (coding : Coding) (at message : ℕ) (root : Root) (d : Decoder) where
   -- a type that isn't the empty struct begins with a number
   pub first_reads : (first : TypeId) → IsFit 24 T → d.leaf ≡ Some (innermost.Number first) →
       d.carry ≡ [] → ((here : ℕ) → open_parts C here d.outer.items ≡ start_outer T) →
       StandAt at d.outer.items → start_leaf T ≡ LeadingNumber (tree_in C d.outer.items first.0) [] →
-      HoldsNoted C true d.notes nothing_noted → d.narrow ≡ C.narrow → d.order ≡ order →
+      HoldsNoted C true d.notes nothing_noted → d.narrow ≡ C.narrow → d.order ≡ coding.order →
       d.head.message ≡ message →
       d.head.root ≡ root →
-      d.at ≡ at % 8 → Reads C T order at message root d []
-  first_reads first fit goes_on empty are stand leaf recalls narrow same_order same_message
-      same_root offset = search (arith, whole_none, add-zero)
+      coding.phase at % 8 ≡ d.at → IsEvenFrom coding at → Reads C T coding at message root d []
+  first_reads first fit goes_on empty are stand leaf recalls narrow order same_message
+      same_root phase even =
+      let is : reading coding [] T at [] ≡ read_by_fields C d [] (at + length {A = ℕ} []) =
+      search (arith, whole_none, add-zero) in
+      let noted : KeepsNoted C root d (reading coding [] T at []) = search (arith, whole_none) in
+      record {
+        lines = [];
+        is = is;
+        keeps_noted = noted;
+        narrow = narrow;
+        same_message = same_message;
+        same_root = same_root;
+        offset = begins_at coding d at order phase even stand;
+      }
 
 pub first_fits : (C : Table) (of : ℕ) (d : Decoder) (first : TypeId) → of < length C.types →
     IsFit 24 (tree C of) → d.leaf ≡ Some (innermost.Number first) → d.carry ≡ [] →
@@ -56,7 +75,7 @@ first_fits C of d first known_root fit goes_on empty none are stand ahead inside
       fit = fit;
       narrow = narrow;
       here = d.at;
-      stands = (omega (arith, at), stand);
+      stands = stand;
       fits = rw (are d.at, empty, ← leaf) sound.1;
       ahead = ahead;
       inside = inside;

@@ -1,5 +1,5 @@
 -- The steps that a number does: at a broken rule, and at what ends or begins with it.
-use Rattle.std.proofs.Common.{◌≡◌, ℕ, suc, ◌<◌, ◌≤◌, false, true, List, [], ◌∷◌, Option, Some, refl, arith, le-ltb}
+use Rattle.std.proofs.Common.{◌≡◌, ℕ, suc, ◌<◌, ◌≤◌, Bool, false, true, List, [], ◌∷◌, Option, Some, refl, arith, le-ltb}
 use Rattle.giop_cdr.specs.declared.order.Order.{Order}
 use Rattle.giop_cdr.specs.declared.prim.Primitive.{Primitive}
 use Rattle.giop_cdr.specs.declared.prim.Primitive.TheVariants as prims
@@ -16,7 +16,7 @@ use Rattle.giop_decode.specs.Reading.{wrong}
 use Rattle.giop_decode.specs.ReadingSteps.{IsRule, after}
 use Rattle.giop_decode.specs.Runs.{IsStepBy}
 use Rattle.giop_decode.specs.Transitions.{TransitionGives, over_by}
-use Rattle.giop_sig.specs.Types.{Scalar, Plain, Enum, Marked, Ty, Single, Text, OctetKind, Octets, bound_of, Sequence, Union, Encapsulation, IsUnion, shape_in, switch_of}
+use Rattle.giop_sig.specs.Types.{Scalar, Plain, Enum, Marked, Ty, Single, Text, OctetKind, Octets, bound_of, Recursive, Sequence, Union, Encapsulation, IsUnion, shape_in, switch_of}
 use Rattle.giop_decode.proofs.OctetKinds.{octets_no_union}
 
 pub union_silent : (T : Ty) → IsUnion (shape_in T) → is_text T ≡ false
@@ -65,6 +65,11 @@ module _ (coding : Coding) (path : List PathSegment) (T : Ty) (at : ℕ) where
   pub sequence_over : (bound : Option ℕ) (E : Ty) (n : ℕ) → T ≡ Sequence bound E →
       over bound n ≡ over_by true → after coding path T n at [] ≡ Fault [] at kinds.Bound T
   sequence_over bound E n is great = rw (is, great) refl
+
+  pub recursive_over : (bound : Option ℕ) (fits : Bool) (E : Ty) (n : ℕ) →
+      T ≡ Recursive bound fits E → over bound n ≡ over_by true →
+      after coding path T n at [] ≡ Fault [] at kinds.Bound T
+  recursive_over bound fits E n is great = rw (is, great) refl
 
 same_single : (s t : Scalar) → Single s ≡ Single t → s ≡ t
 same_single s t e = cc

@@ -1,6 +1,5 @@
 -- A restored decoder fits, reads what the stored one read, and is stored in the same octets.
 use Rattle.std.proofs.Common.{true, arith, ◌≡◌, ℕ, List, Option, Some, None, refl}
-use Rattle.giop_cdr.specs.declared.order.Order.{Order}
 use Rattle.giop_decode.specs.declared.decoder.Decoder.{Decoder}
 use Rattle.giop_decode.specs.declared.leaf.Leaf.{Leaf as Innermost}
 use Rattle.giop_decode.specs.declared.notes.Buffer.{Buffer}
@@ -9,7 +8,7 @@ use Rattle.giop_decode.specs.declared.notes.Notes.{Notes}
 use Rattle.giop_decode.specs.NameBuffer.{FitsName}
 use Rattle.giop_decode.specs.Noted.{Noted}
 use Rattle.giop_decode.specs.SeenState.{Fits, IsHeld, KeepsNoted, Reads, HoldsNoted, read_by_fields}
-use Rattle.giop_decode.specs.ReadResult.{Line, Read}
+use Rattle.giop_decode.specs.ReadResult.{Coding, Line, Read}
 use Rattle.giop_decode.specs.Stored.{IsKept, IsRestored, Stored, fixed_octets, kept_name}
 use Rattle.giop_print.specs.declared.path.Root.{Root}
 use Rattle.giop_sig.specs.Table.{Table}
@@ -48,10 +47,10 @@ standing_again : (C : Table) (d e : Decoder) (lines : List Line) (at : ℕ) → 
     read_by_fields C d lines at ≡ read_by_fields C e lines at
 standing_again C d e lines at r = search (arith)
 
-pub restored_reads : (C : Table) (d e : Decoder) (T : Ty) (order : Order) (at message : ℕ)
-    (root : Root) (s : List ℕ) → IsRestored d e → Reads C T order at message root d s →
-    Reads C T order at message root e s
-restored_reads C d e T order at message root s r reads = search (
+pub restored_reads : (C : Table) (d e : Decoder) (T : Ty) (coding : Coding) (at message : ℕ)
+    (root : Root) (s : List ℕ) → IsRestored d e → Reads C T coding at message root d s →
+    Reads C T coding at message root e s
+restored_reads C d e T coding at message root s r reads = search (
   arith,
   standing_again,
   keeps_noted_again,

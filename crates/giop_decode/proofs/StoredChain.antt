@@ -1,6 +1,6 @@
 -- The test of a restored decoder is exact: it passes exactly if the decoder fits the table; how
 -- many parts that are begun fit in a type.
-use Rattle.std.proofs.Common.{◌≡◌, ◌∙◌, ap, drop, get_or, take, ℕ, zero, suc, true, pred, ◌+◌, ◌-◌, ◌*◌, ◌<◌, ◌≤◌, List, [], ◌∷◌, length, Option, Some, None, refl, sym, subst, arith}
+use Rattle.std.proofs.Common.{◌≡◌, ◌∙◌, ap, drop, get_or, take, ℕ, zero, suc, true, pred, ◌+◌, ◌-◌, ◌<◌, ◌≤◌, List, [], ◌∷◌, length, Option, Some, None, refl, sym, subst, arith}
 use Rattle.std.specs.Prelude.{Bool, IfSome, IsTrue, ◌↔◌}
 use Rattle.std.proofs.Math.Seq.{take-length}
 use Rattle.giop_cdr.specs.declared.order.Order.{Order}
@@ -23,7 +23,7 @@ use Rattle.giop_sig.specs.Hearings.{hearing_in}
 use Rattle.giop_sig.specs.Table.{Table}
 use Rattle.giop_sig.specs.Trees.{follows, part_number_in, tree, tree_at}
 use Rattle.giop_decode.proofs.Rooms.{place_in_room, within_as_in_room}
-use Rattle.giop_sig.specs.Types.{Cases, Tag, Encapsulation, Enum, Marked, Plain, Ty, Single, Text, Octets, Struct, Union, Sequence, Array, HasPlace, HasShape, Hearing, Is, part_of, shape_in, Led}
+use Rattle.giop_sig.specs.Types.{Cases, Tag, Encapsulation, Enum, Marked, Plain, Ty, Single, Text, Octets, Struct, Union, Sequence, Array, HasPlace, HasShape, Hearing, Is, Recursive, elements_fit, part_of, shape_in, Led}
 use Rattle.giop_sig.specs.declared.types.Shape.TheVariants as shapes
 use Rattle.giop_sig.proofs.HearingLaws.{follows_known, follows_led, led_follows}
 use Rattle.giop_sig.proofs.PartLaws.{part_in_is, part_in_known, root_is, shape_room}
@@ -54,6 +54,7 @@ fits_one_more (Union choice scalar select names cases) i count outer leaf has fi
 fits_one_more (Struct n names parts) i count outer leaf has fits = search (arith)
 fits_one_more (Array n T) i count outer leaf has fits = search (arith)
 fits_one_more (Sequence bound T) i count outer leaf has fits = search (arith)
+fits_one_more (Recursive bound fits T) i count outer leaf has fit = search (arith)
 fits_one_more (Led h F parts) i count outer leaf has fits = search (arith)
 fits_one_more T i count outer leaf has fits = absurd has.0
 
@@ -67,6 +68,7 @@ fits_part (Union Tag scalar select names cases) i count outer leaf fits uncounte
 fits_part (Struct n names parts) i count outer leaf fits uncounted = search (arith)
 fits_part (Array n T) i count outer leaf fits uncounted = search (arith)
 fits_part (Sequence bound T) i count outer leaf fits uncounted = search (arith)
+fits_part (Recursive bound fits T) i count outer leaf fit uncounted = search (arith)
 fits_part T i count outer leaf fits uncounted = absurd fits.0.kind
 
 part_bare : (T : Ty) (i count : ℕ) → HasPart T i count → IsEncapsulation T → ⊥
@@ -213,6 +215,16 @@ part_led T i count h none can = rw h.3 (rw h.3 at can, none)
 pub led_part : (T : Ty) (i count : ℕ) → HasShape T shapes.Led → HasPart T i count →
     CanFollow (hearing_in T) i × (count ≡ 0)
 led_part T i count h has = rw h.3 (rw h.3 at has)
+
+-- and elements are parts if they have room
+
+pub part_recursive : (T : Ty) (bound : Option ℕ) (i count : ℕ) → HasShape T (shapes.Recursive bound)
+    → i < count → elements_fit T ≡ true → HasPart T i count
+part_recursive T bound i count h below fit = rw h.2 (rw h.2 at fit, below)
+
+pub recursive_part : (T : Ty) (bound : Option ℕ) (i count : ℕ) → HasShape T (shapes.Recursive bound)
+    → HasPart T i count → (i < count) × (elements_fit T ≡ true)
+recursive_part T bound i count h has = let e = rw h.2 at has in (e.1, rw h.2 e.0)
 
 -- so a frame is of a part that is
 pub frame_known : (C : Table) (room id : ℕ) (told : Option Stage) (inside : Option Order)
@@ -398,7 +410,7 @@ pub chains_fits : (C : Table) (d : Decoder) → IsTable C → d.narrow ≡ C.nar
     Fits C d
 chains_fits C d laws narrow h =
     let root = root_of d.outer.items h.leaf in
-    let here = d.at + 8 * all_octets d.outer.items in
+    let here = all_octets d.outer.items in
     let few = h.few in
     let left = 24 - length d.outer.items in
     let c = chain_fits C 24 left here root d.outer.items h.leaf d.carry d.piece.items laws h.known
@@ -412,7 +424,7 @@ chains_fits C d laws narrow h =
       fit = fit_some (tree C root) (root_is C root laws h.known) h.some;
       narrow = narrow;
       here = here;
-      stands = (omega (arith, h.at), stand_above here d.outer.items (omega arith));
+      stands = stand_above here d.outer.items (omega arith);
       fits = c.fits;
       ahead = c.ahead;
       inside = h.inside;

@@ -124,7 +124,9 @@ surround_at : (here : ℕ) (inside : Option Order) (T : Ty) (i count : ℕ) →
     IsWithin inside i count T → IfSome inside (λ order. i < count) →
     IfSome inside (λ order. i ≤ here) → Surround here (open_part_in here inside T i count)
 surround_at here None T i count k a s = part_surrounds here T i count
-surround_at here (Some order) T i count k a s = search (arith)
+surround_at here (Some order) T i count k a s =
+    let some = k.1 in
+    (omega (arith, a), λ later h. omega (arith, some, s, h))
 
 surround_as : (told : Option Stage) (here : ℕ) (inside : Option Order) (T : Ty) (i count : ℕ) →
     IsWithinAs told inside i count T → IfSome inside (λ order. i < count) →
@@ -373,7 +375,7 @@ part_coding c T i count = refl
 -- a coding as a decoder has it, at an offset
 pub record IsCoded (here : ℕ) (c : Coding) (by : Order × ℕ) : Type 0 where
   pub order : c.order ≡ by.0
-  pub at : (here - c.origin) % 8 ≡ by.1
+  pub at : c.phase here % 8 ≡ by.1
 
 coded_at : (C : Table) (here : ℕ) (c : Coding) (by : Order × ℕ) (inside : Option Order) (T : Ty)
     (i count : ℕ) → IfSome inside (λ order. i ≤ here) → IsCoded here c by →

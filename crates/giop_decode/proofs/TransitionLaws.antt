@@ -1,5 +1,5 @@
 -- The transition after the number that begins a type, before any octet after it.
-use Rattle.std.proofs.Common.{◌≡◌, ◌≢◌, ℕ, zero, suc, ◌+◌, ◌-◌, ◌^◌, ◌<◌, false, List, [], ◌∷◌, ◌++◌, length, Option, Some, None, refl, ap, arith, add-zero, lit<, lt-ltb, ne_eqb}
+use Rattle.std.proofs.Common.{◌≡◌, ◌≢◌, ℕ, zero, suc, ◌+◌, ◌-◌, ◌^◌, ◌<◌, false, List, [], ◌∷◌, ◌++◌, length, Option, Some, None, refl, ap, arith, add-zero, lit<, lt-ltb, ne_eqb, Bool, true}
 use Rattle.std.proofs.lemmas.Bool.{cases_lt}
 use Rattle.giop_cdr.proofs.NumberLaws.{num_bound}
 use Rattle.giop_cdr.specs.Numbers.{AreOctets, num, interpreted_as}
@@ -19,14 +19,14 @@ use Rattle.giop_decode.specs.Reading.{order_of, wrong}
 use Rattle.giop_decode.specs.ReadingSteps.{leaf_step, inner_path, after, leading_width}
 use Rattle.giop_decode.specs.Begins.{start_outer, start_leaf}
 use Rattle.giop_decode.specs.Fits.{HasCase, IsEncapsulation}
-use Rattle.giop_decode.specs.Transitions.{IsNumberOf, TransitionGives, over_by}
+use Rattle.giop_decode.specs.Transitions.{IsNumberOf, TransitionGives, over_by, recursed}
 use Rattle.giop_decode.proofs.Law.{block_got, block_step_got}
 use Rattle.giop_decode.proofs.OctetKinds.{octets_no_union}
 use Rattle.giop_decode.proofs.Leaving.{fit_held}
 use Rattle.giop_decode.proofs.Enclosing.{with_front-enclosed}
 use Rattle.std.proofs.Math.Seq.{take-nil, drop-nil}
 use Rattle.giop_decode.proofs.Around.{block_none, first_part, read_none}
-use Rattle.giop_sig.specs.Types.{Cases, Scalar, Plain, Enum, Marked, Led, Ty, Single, Text, OctetKind, Octets, bound_of, Struct, Union, Sequence, Array, part_of, switch_of, shape_in, select_in, interpreted_in, IsUnion, HasMember, Tag, tag_of, Encapsulation}
+use Rattle.giop_sig.specs.Types.{Cases, Scalar, Plain, Enum, Marked, Led, Ty, Single, Text, OctetKind, Octets, bound_of, Struct, Union, Sequence, Array, part_of, switch_of, shape_in, select_in, interpreted_in, IsUnion, HasMember, Tag, tag_of, Encapsulation, Recursive, elements_fit}
 use Rattle.giop_sig.specs.declared.types.Selected.TheVariants.{Case, Nothing, Refused}
 use Rattle.giop_sig.specs.Fits.{IsFit}
 
@@ -75,6 +75,7 @@ switch_bound (Text bound) p order octets u is whole are = absurd u
 switch_bound (Encapsulation T) p order octets u is whole are = absurd u
 switch_bound (Octets kind) p order octets u is whole are = absurd (octets_no_union kind u)
 switch_bound (Single (Marked mark)) p order octets u is whole are = absurd u
+switch_bound (Recursive bound fits T) p order octets u is whole are = absurd u
 switch_bound (Led k F rest) p order octets u is whole are = absurd u
 
 abbrev pub number_prim : (T : Ty) (p : Primitive) (n : ℕ) (number : Taken) → T ≡ Single (Plain p) →
@@ -147,6 +148,24 @@ module _ (coding : Coding) (path : List PathSegment) (T : Ty) (at : ℕ) where
   sequence_open (suc d) bound E zero fit is ok pos = absurd (omega arith)
   sequence_open (suc d) bound E (suc n) fit is ok pos = search (arith, first_part, read_none)
 
+module _ (coding : Coding) (path : List PathSegment) (T : Ty) (at : ℕ) where
+  pub recursive_empty : (bound : Option ℕ) (fits : Bool) (E : Ty) (n : ℕ) →
+      T ≡ Recursive bound fits E → over bound n ≡ over_by false → n ≡ 0 →
+      after coding path T n at [] ≡ Done (line at path (Count n) ∷ []) at []
+  recursive_empty bound true E n is ok none = rw (is, ok, none) refl
+  recursive_empty bound false E n is ok none = rw (is, ok, none) refl
+
+  pub recursive_open : (d : ℕ) (bound : Option ℕ) (fits : Bool) (E : Ty) (n : ℕ) → IsFit d T →
+      T ≡ Recursive bound fits E → over bound n ≡ over_by false → 0 < n →
+      after coding path T n at []
+      ≡ recursed T (elements_fit T) n (line at path (Count n) ∷ []) at
+  unfolding IsFit
+  recursive_open zero bound fits E n fit is ok pos = absurd fit
+  recursive_open (suc d) bound fits E zero fit is ok pos = absurd (omega arith)
+  recursive_open (suc d) bound true E (suc n) fit is ok pos =
+      let below : IsFit d E = (rw is at fit) refl in search (arith, first_part, read_none)
+  recursive_open (suc d) bound false E (suc n) fit is ok pos = rw (is, ok) refl
+
 pub member_case : (T : Ty) (i : ℕ) → IsUnion (shape_in T) → HasMember (shape_in T) i → HasCase T i
 member_case (Union (Cases n) scalar select names cases) i u h = h
 member_case (Union Tag scalar select names cases) i u h = h
@@ -159,6 +178,7 @@ member_case (Single (Enum n names)) i u h = absurd u
 member_case (Text bound) i u h = absurd u
 member_case (Octets kind) i u h = absurd (octets_no_union kind u)
 member_case (Single (Marked mark)) i u h = absurd u
+member_case (Recursive bound fits T) i u h = absurd u
 member_case (Led k F rest) i u h = absurd u
 
 -- a union after a discriminator that is a value
@@ -195,6 +215,7 @@ module _ (coding : Coding) (path : List PathSegment) (at : ℕ) (number : Taken)
   case_transition (suc d) (Text bound) i is fit u e h = absurd u
   case_transition (suc d) (Octets kind) i is fit u e h = absurd (octets_no_union kind u)
   case_transition (suc d) (Single (Marked mark)) i is fit u e h = absurd u
+  case_transition (suc d) (Recursive bound fits T) i is fit u e h = absurd u
   case_transition (suc d) (Led k F rest) i is fit u e h = absurd u
   case_transition (suc d) (Encapsulation T) i is fit u e h = absurd u
 
@@ -220,6 +241,7 @@ module _ (coding : Coding) (path : List PathSegment) (at : ℕ) (number : Taken)
   turns_nothing (Text bound) is u e = absurd u
   turns_nothing (Octets kind) is u e = absurd (octets_no_union kind u)
   turns_nothing (Single (Marked mark)) is u e = absurd u
+  turns_nothing (Recursive bound fits T) is u e = absurd u
   turns_nothing (Led k F rest) is u e = absurd u
   turns_nothing (Encapsulation T) is u e = absurd u
 
@@ -236,6 +258,7 @@ module _ (coding : Coding) (path : List PathSegment) (at : ℕ) (number : Taken)
   turns_refused (Text bound) is u e = absurd u
   turns_refused (Octets kind) is u e = absurd (octets_no_union kind u)
   turns_refused (Single (Marked mark)) is u e = absurd u
+  turns_refused (Recursive bound fits T) is u e = absurd u
   turns_refused (Led k F rest) is u e = absurd u
   turns_refused (Encapsulation T) is u e = absurd u
 

@@ -1,6 +1,6 @@
 -- What holds by the table that a decoder's version sees, and by the table itself.
 use Rattle.std.proofs.Common.{ℕ, Bool, List, Result, Ok, Err, IfOk, sym, subst, take}
-use Rattle.giop_cdr.specs.declared.order.Order.{Order}
+use Rattle.giop_decode.specs.ReadResult.{Coding}
 use Rattle.giop_decode.specs.declared.decoder.Decoder.{Decoder}
 use Rattle.giop_decode.specs.declared.progress.Progress.{Progress}
 use Rattle.giop_decode.specs.DecoderState as public
@@ -33,35 +33,35 @@ module _ (narrow : Bool) (C : Table) where
   pub fits_own : (d : Decoder) → states.Fits (seen narrow C) d → public.Fits C d
   fits_own d h = subst (λ n. states.Fits (seen n C) d) (sym h.narrow) h
 
-  pub reads_own : (T : Ty) (order : Order) (at message : ℕ) (root : Root) (d : Decoder)
-      (s : List ℕ) → states.Reads (seen narrow C) T order at message root d s →
-      public.Reads C T order at message root d s
-  reads_own T order at message root d s h =
-      subst (λ n. states.Reads (seen n C) T order at message root d s) (sym h.narrow) h
+  pub reads_own : (T : Ty) (coding : Coding) (at message : ℕ) (root : Root) (d : Decoder)
+      (s : List ℕ) → states.Reads (seen narrow C) T coding at message root d s →
+      public.Reads C T coding at message root d s
+  reads_own T coding at message root d s h =
+      subst (λ n. states.Reads (seen n C) T coding at message root d s) (sym h.narrow) h
 
-  pub takes_own : (T : Ty) (order : Order) (at message : ℕ) (root : Root) (d : Decoder)
+  pub takes_own : (T : Ty) (coding : Coding) (at message : ℕ) (root : Root) (d : Decoder)
       (s octets : List ℕ) (p : Progress) →
-      runs.TakesRun (seen narrow C) T order at message root d s octets p →
-      public.TakesRun C T order at message root d s octets p
-  takes_own T order at message root d s octets p h = record {
+      runs.TakesRun (seen narrow C) T coding at message root d s octets p →
+      public.TakesRun C T coding at message root d s octets p
+  takes_own T coding at message root d s octets p h = record {
     answers = h.answers;
-    reads = λ unfaulty. reads_own T order at message root d _ (h.reads unfaulty);
+    reads = λ unfaulty. reads_own T coding at message root d _ (h.reads unfaulty);
     keeps_noted = h.keeps_noted;
   }
 
 -- the answer to a run, by the table that the version sees, is that by the table
 module _ {E : Type 0} (C : Table) (old new : Decoder) (octets : List ℕ) where
   pub run_own : (result : Result (ℕ × Progress) E) →
-      IfOk result (λ taken. (T : Ty) (order : Order) (at message : ℕ) (root : Root) (s : List ℕ) →
-      public.Reads C T order at message root old s →
-      runs.TakesRun (seen old.narrow C) T order at message root new s (take taken.0 octets)
+      IfOk result (λ taken. (T : Ty) (coding : Coding) (at message : ℕ) (root : Root) (s : List ℕ) →
+      public.Reads C T coding at message root old s →
+      runs.TakesRun (seen old.narrow C) T coding at message root new s (take taken.0 octets)
       taken.1) →
-      IfOk result (λ taken. (T : Ty) (order : Order) (at message : ℕ) (root : Root) (s : List ℕ) →
-      public.Reads C T order at message root old s →
-      public.TakesRun C T order at message root new s (take taken.0 octets) taken.1)
-  run_own (Ok taken) h = λ T order at message root s r.
-      takes_own old.narrow C T order at message root new s (take taken.0 octets) taken.1
-      (h T order at message root s r)
+      IfOk result (λ taken. (T : Ty) (coding : Coding) (at message : ℕ) (root : Root) (s : List ℕ) →
+      public.Reads C T coding at message root old s →
+      public.TakesRun C T coding at message root new s (take taken.0 octets) taken.1)
+  run_own (Ok taken) h = λ T coding at message root s r.
+      takes_own old.narrow C T coding at message root new s (take taken.0 octets) taken.1
+      (h T coding at message root s r)
   run_own (Err e) h = h
 
   pub run_fits : (result : Result (ℕ × Progress) E) →

@@ -31,7 +31,7 @@ use Rattle.giop_decode.specs.NameBuffer.{FitsName, string_offset}
 use Rattle.giop_decode.specs.declared.notes.Notes.{Notes}
 use Rattle.giop_decode.specs.NotingSteps.{transition_offset, StringGoesOn, OutputFitsString, clears_name, leaf_in_string, transition_in_string}
 use Rattle.giop_decode.specs.Runs.{Adds, AllGathered, IsHeldOf, IsParted, IsStep, IsStepBy, IsStepOf, TakenTogether}
-use Rattle.giop_decode.specs.ReadResult.{plain, line, Coding, Done, Line, Opening, PathSegment, Piece, lines_of, with_front}
+use Rattle.giop_decode.specs.ReadResult.{line, Coding, Done, Line, Opening, PathSegment, Piece, lines_of, with_front}
 use Rattle.giop_decode.specs.ReadingSteps.{after, coding_in, content_step, leading_width, leaf_step, path_in, IsRule}
 use Rattle.giop_decode.specs.Transitions.{AreKnown, HasOutput, HaveOctetsLeft, IsOutput, IsWholeLong, IsWholeNumber, NumberStands, TransitionGives, TransitionFits, after_transition, block_of, coding_by, leaf_by, leaf_of, leaf_type, open_parts, still_held, ticked, ticked_by, tree_in, IsClean}
 use Rattle.giop_decode.proofs.Advancing.{lines_after_transition, same_some, stands_at, fits_allowed}
@@ -130,12 +130,12 @@ module _ (C : Table) (d : Decoder) (of : TypeId) (octets : List ℕ) (count : �
         comes = λ coding path here ordered there.
             let t = gives coding path (here + 1) in
             let is : coding.order ≡ order = ordered ∙ ap (λ (k : Order × ℕ). k.0) coded in
-            let aligned : (here - coding.origin) % 8 ≡ (at + (count - 1)) % 8 =
+            let aligned : coding.phase here % 8 ≡ (at + (count - 1)) % 8 =
             there ∙ ap (λ (k : Order × ℕ). (k.1 + (count - 1)) % 8) coded in
             rw nothing_held
             (ap (after_leading_number (tree_in C d.outer.items of.0) (λ xs at rest.
             after coding path (tree_in C d.outer.items of.0) (num coding.order xs) at rest))
-            (stands.last coding.origin here aligned)
+            (stands.last coding.phase here aligned)
             ∙ (ap (λ o. after_leading_number (tree_in C d.outer.items of.0) (λ xs at rest.
             after coding path (tree_in C d.outer.items of.0) (num o xs) at rest) (block_of whole
             all (here + 1))) is
@@ -617,6 +617,16 @@ module _ (C : Table) (d : Decoder) (octets : List ℕ) (of : TypeId) (count : �
   abbrev pub before_last : Decoder
   before_last = held_in m h.carry (record { items = h.piece })
 
+  -- it stands as the one at the last of them does
+  pub stands_then : (coding : Coding) (here : ℕ) → CanStandAt coding before_last here →
+      CanStandAt coding m here
+  stands_then coding here h = record {
+    order = h.order;
+    phase = h.phase;
+    even = h.even;
+    outer = h.outer;
+  }
+
   leads : m.leaf ≡ Some h.leaf
   leads = on.further.leaf ∙ h.goes_on
 
@@ -678,29 +688,29 @@ module _ (C : Table) (d : Decoder) (octets : List ℕ) (of : TypeId) (count : �
   }
 
   -- the lines that the last gives
-  abbrev pub lines_at : ℕ → List Line
-  lines_at here =
+  abbrev pub lines_at : Coding → ℕ → List Line
+  lines_at coding here =
       let ps = open_parts C here m.outer.items in
-      h.lines (coding_in (plain m.order) ps) (path_in [] ps) here
+      h.lines (coding_in coding ps) (path_in [] ps) here
 
   -- as much room is left as before them
   same_room : 24 - length d.outer.items ≡ 24 - length m.outer.items
   same_room = ap (λ n. 24 - n) (sym (ap length on.further.outer
       ∙ length_ticked_by (count - 1) d.outer.items))
 
-  pub says_at : (here : ℕ) →
+  pub says_at : (coding : Coding) (here : ℕ) →
       IsOutput (tree_in C m.outer.items of.0) (path_in [] (open_parts C here m.outer.items))
-      (here + 1) s.output (m.piece.items ++ rest) (lines_at here)
-  says_at here =
+      (here + 1) s.output (m.piece.items ++ rest) (lines_at coding here)
+  says_at coding here =
       let ps = open_parts C here m.outer.items in
       subst (λ n. IsOutput (tree_at C n of.0) (path_in [] ps) (here + 1) s.output
-      (m.piece.items ++ rest) (lines_at here)) same_room
-      (h.says (coding_in (plain m.order) ps) (path_in [] ps) here)
+      (m.piece.items ++ rest) (lines_at coding here)) same_room
+      (h.says (coding_in coding ps) (path_in [] ps) here)
 
   -- what the last does, in that room
   comes_at : (coding : Coding) (path : List PathSegment) (here : ℕ) →
       coding.order ≡ (coding_by d.order d.at d.outer.items).0 →
-      (here - coding.origin) % 8 ≡ ((coding_by d.order d.at d.outer.items).1 + (count - 1)) % 8 →
+      coding.phase here % 8 ≡ ((coding_by d.order d.at d.outer.items).1 + (count - 1)) % 8 →
       leaf_step coding path (leaf_of C m.outer.items h.leaf h.carry h.piece) here
       (get_or octets (count - 1) 0)
       ≡ after_transition (tree_in C m.outer.items of.0) s.transition m.carry
@@ -726,29 +736,30 @@ module _ (C : Table) (d : Decoder) (octets : List ℕ) (of : TypeId) (count : �
       )
   coded = search (arith, coding_ticked_by)
 
-  pub told_whole : (here : ℕ) → CanStandAt before_last here →
-      decoder_step C before_last here (get_or octets (count - 1) 0)
-      ≡ emitted C m of.0 s.transition s.output
-      (lines_at here) here
-  told_whole here stands = search
+  pub told_whole : (coding : Coding) (here : ℕ) → CanStandAt coding before_last here →
+      decoder_step coding C before_last here (get_or octets (count - 1) 0)
+      ≡ emitted coding C m of.0 s.transition s.output
+      (lines_at coding here) here
+  told_whole coding here stands = search
       (arith, get_or, coded_in, coded, leads, comes_at, fits_then.known_outer)
 
-  pub lines_whole : (here : ℕ) → CanStandAt before_last here →
-      lines_of (decoder_step C before_last here (get_or octets (count - 1) 0)) ≡ lines_at here
-  lines_whole here stands = search
+  pub lines_whole : (coding : Coding) (here : ℕ) → CanStandAt coding before_last here →
+      lines_of (decoder_step coding C before_last here (get_or octets (count - 1) 0))
+      ≡ lines_at coding here
+  lines_whole coding here stands = search
       (arith, told_whole, lines_after_transition, fits_then, fits_allowed)
 
-  pub keeps_noted_whole : (new : Decoder) (here : ℕ) (front : List Line) →
-      CanStandAt before_last here →
-      ends_in_string (emitted C m of.0 s.transition s.output (lines_at here) here)
+  pub keeps_noted_whole : (new : Decoder) (coding : Coding) (here : ℕ) (front : List Line) →
+      CanStandAt coding before_last here →
+      ends_in_string (emitted coding C m of.0 s.transition s.output (lines_at coding here) here)
       ≡ transition_in_string (tree_in C m.outer.items of.0) s.transition →
       ((o : Noted) → HoldsNoted C true m.notes o →
       HoldsNoted C true new.notes (without_name_if (clears_name s.output)
-      (noted (is_header_root m.head.root) o (lines_at here)))) →
+      (noted (is_header_root m.head.root) o (lines_at coding here)))) →
       KeepsNoted C m.head.root before_last (read_by_fields C before_last front here) →
       KeepsNoted C m.head.root new (with_front front
-      (decoder_step C before_last here (get_or octets (count - 1) 0)))
-  keeps_noted_whole new here front stands inside notes old =
+      (decoder_step coding C before_last here (get_or octets (count - 1) 0)))
+  keeps_noted_whole new coding here front stands inside notes old =
       let T = tree_in C m.outer.items of.0 in
       let header = is_header_root m.head.root in
       let silent : in_content (leaf_of C m.outer.items h.leaf h.carry h.piece)
@@ -760,27 +771,29 @@ module _ (C : Table) (d : Decoder) (octets : List ℕ) (of : TypeId) (count : �
       rw (leads, silent) at old in
       subst (HoldsNoted C true new.notes) (noted_on header T h.leaf s.transition s.output
       (path_in [] (open_parts C here m.outer.items)) (here + 1) (m.piece.items ++ rest) front
-      (lines_at here) (decoder_step C before_last here (get_or octets (count - 1) 0)) fits_string
-      (says_at here) (ap ends_in_string (told_whole here stands) ∙ inside)
-      (lines_whole here stands)) (notes _ held)
+      (lines_at coding here)
+      (decoder_step coding C before_last here (get_or octets (count - 1) 0)) fits_string
+      (says_at coding here) (ap ends_in_string (told_whole coding here stands) ∙ inside)
+      (lines_whole coding here stands)) (notes _ held)
 
-  pub name_whole : (here : ℕ) (next : Option ℕ) (new : Notes) → IsNotRefused s.transition →
+  pub name_whole : (coding : Coding) (here : ℕ) (next : Option ℕ) (new : Notes) →
+      IsNotRefused s.transition →
       next ≡ transition_offset (tree_in C m.outer.items of.0) s.transition →
       ((o : Noted) → HoldsNoted C false m.notes o →
       HoldsNoted C false new (without_name_if (clears_name s.output)
-      (noted (is_header_root m.head.root) o (lines_at here)))) →
+      (noted (is_header_root m.head.root) o (lines_at coding here)))) →
       FitsName m.head.root next new.buffer new.name.items
-  name_whole here next new going to notes =
+  name_whole coding here next new going to notes =
       let T = tree_in C m.outer.items of.0 in
       let same = same_some fits_then.leaf h.leaf (sym fits_then.goes_on ∙ leads) in
       name_kept C (is_header_root m.head.root) m.head.root T (string_offset T h.leaf) next
       s.transition
       s.output
       (path_in [] (open_parts C here m.outer.items)) (here + 1) (m.piece.items ++ rest)
-      (lines_at here) m.notes new going
+      (lines_at coding here) m.notes new going
       (subst (λ n. StringGoesOn (tree_at C n of.0) (string_offset (tree_at C n of.0) h.leaf)
       s.transition s.output (length (m.piece.items ++ rest))) same_room h.string_goes_on)
-      to (says_at here) (λ none. fits_then.of_root.keyless none)
+      to (says_at coding here) (λ none. fits_then.of_root.keyless none)
       (subst (λ n. FitsName m.head.root (string_offset (tree_in C m.outer.items n) h.leaf)
       m.notes.buffer m.notes.name.items) h.same
       (subst (λ l. FitsName m.head.root (string_offset (tree_in C m.outer.items (leaf_type l)) l)

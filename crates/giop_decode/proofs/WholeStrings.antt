@@ -14,11 +14,11 @@ use Rattle.giop_decode.specs.ReadingSteps.{IsRule}
 use Rattle.giop_decode.specs.Noted.{ends_in_string}
 use Rattle.giop_decode.specs.NotedFromLines.{piece, text_of, text_pieces, cut_from, pieces_of, Strings}
 use Rattle.giop_decode.specs.Pieces.{Complete, Block, Partial, block, content, ends, full_piece, full_pieces, last_piece, octets, over, text, unless}
-use Rattle.giop_decode.specs.Reading.{enclosed, after_leading_number, inside, member, opening, ordered, parts_from, read, refused, rest_of, single, sized, wrong, following, led, led_segment}
+use Rattle.giop_decode.specs.Reading.{enclosed, after_leading_number, inside, member, opening, ordered, parts_from, read, refused, rest_of, single, sized, wrong, following, led, led_segment, elements}
 use Rattle.giop_decode.specs.ReadResult.{Coding, Count, Done, Fault, Held, Index, Line, Member, Name, Number, Part, Piece, OpenPart, Read, PathSegment, Short, Size, Switch, followed, line, with_front, within, lines_of}
 use Rattle.giop_decode.specs.declared.progress.Kind.TheVariants as kinds
 use Rattle.giop_decode.specs.declared.progress.Kind.{Kind}
-use Rattle.giop_sig.specs.Types.{tag_of, Array, Encapsulation, OctetKind, Octets, bound_of, Scalar, Sequence, Single, Struct, Text, Ty, Union, Led, Hearing, Told, Untold, Sequel, Then, Ends, Stops}
+use Rattle.giop_sig.specs.Types.{tag_of, Array, Encapsulation, OctetKind, Octets, bound_of, Scalar, Sequence, Single, Struct, Text, Ty, Union, Led, Hearing, Told, Untold, Sequel, Then, Ends, Stops, Recursive}
 use Rattle.giop_sig.specs.declared.types.Selected.{Selected}
 use Rattle.giop_sig.specs.declared.types.Selected.TheVariants.{Case}
 use Rattle.giop_decode.proofs.Noting.{cut_inside, front_inside}
@@ -294,6 +294,15 @@ led_strings T h told part (Done lines at rest) each k = search (
 led_strings T h told part (Short lines at outer leaf) each k = search (arith)
 led_strings T h told part (Fault lines at kind S) each k = k
 
+-- ---- elements of a type that was announced
+
+elements_strings : (T : Ty) (fits : Bool) (n : ℕ) (parts : ℕ → List ℕ → Read) →
+    ((at : ℕ) (s : List ℕ) → Strings (parts at s)) → (at : ℕ) (s : List ℕ) →
+    Strings (elements T fits n parts at s)
+elements_strings T true n parts h at s = h at s
+elements_strings T false zero parts h at s = no_strings (Done [] at s) refl
+elements_strings T false (suc n) parts h at s = no_strings (Fault [] at kinds.Untyped T) refl
+
 -- The strings of any reading.
 pub read_strings : (coding : Coding) (path : List PathSegment) (T : Ty) (at : ℕ) (s : List ℕ) →
     Strings (read coding path T at s)
@@ -319,6 +328,14 @@ read_strings coding path (Sequence bound T) at s =
     (then_strings (line at path (Count n) ∷ []) _ refl
     (parts_strings _ (λ i at s. within_strings (Part (Sequence bound T) i n) _
     (read_strings coding (path ++ Index i ∷ []) T at s)) n 0 at rest))) _
+read_strings coding path (Recursive bound fits T) at s =
+    headed_strings (Recursive bound fits T) _ (λ xs at rest.
+    let n = num coding.order xs in
+    unless_strings (Recursive bound fits T) (over bound n) at _
+    (then_strings (line at path (Count n) ∷ []) _ refl
+    (elements_strings (Recursive bound fits T) fits n _ (λ at s.
+    parts_strings _ (λ i at s. within_strings (Part (Recursive bound fits T) i n) _
+    (read_strings coding (path ++ Index i ∷ []) T at s)) n 0 at s) at rest))) _
 read_strings coding path (Union choice scalar select names cases) at s =
     headed_strings (Union choice scalar select names cases) _ (λ xs at rest.
     let T = Union choice scalar select names cases in

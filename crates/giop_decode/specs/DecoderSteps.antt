@@ -1,4 +1,4 @@
--- What one octet does to a decoder's fields (steps).
+-- What one octet does to the fields of a decoder (steps).
 use Rattle.std.specs.Prelude.{◌≡◌, ℕ, ◌+◌, ◌-◌, ◌<◌, Bool, true, false, List, [], length, Option, Some, None}
 use Rattle.giop_decode.specs.declared.decoder.Decoder.{Decoder}
 use Rattle.giop_decode.specs.declared.frame.Frame.{Frame}
@@ -8,7 +8,7 @@ use Rattle.giop_decode.specs.declared.leaf.Transition.TheVariants as transitions
 use Rattle.giop_decode.specs.declared.leaf.Output.{Output}
 use Rattle.giop_decode.specs.declared.progress.Progress.{Progress}
 use Rattle.giop_decode.specs.declared.progress.Progress.TheVariants as progress
-use Rattle.giop_decode.specs.ReadResult.{plain, Line, Leaf, LeadingNumber, Read, Fault, Done}
+use Rattle.giop_decode.specs.ReadResult.{Coding, Line, Leaf, LeadingNumber, Read, Fault, Done}
 use Rattle.giop_decode.specs.declared.progress.Kind.TheVariants as kinds
 use Rattle.giop_decode.specs.Fits.{OpenFrom}
 use Rattle.giop_decode.specs.Reading.{none_left, rooted}
@@ -23,8 +23,8 @@ use Rattle.giop_sig.specs.Fits.{IsFit}
 use Rattle.giop_sig.specs.Table.{Table}
 use Rattle.giop_sig.specs.Trees.{tree}
 
--- the reading that a decoder's fields stand for: a fault, where an encapsulation has ended before
--- its value
+-- the reading that the fields of a decoder stand for; it is a fault if an encapsulation has ended
+-- before its value
 abbrev pub stopped_with : Table → List Frame → List ℕ → List ℕ → Option Innermost → List Line → ℕ →
     Read
 stopped_with C frames carry piece None lines at = Done lines at []
@@ -34,7 +34,7 @@ stopped_with C frames carry piece (Some leaf) lines at =
 abbrev pub stopped : Table → Decoder → Option Innermost → List Line → ℕ → Read
 stopped C d leaf lines at = stopped_with C d.outer.items d.carry d.piece.items leaf lines at
 
--- the reading that the fields stand for after a transition of the innermost part
+-- the reading that the fields of a decoder stand for after a transition of the innermost part
 abbrev pub transition_result : Table → Ty → Decoder → Transition → List Line → ℕ → Read
 transition_result C T d (transitions.Refused kind) lines at = Fault lines at kind T
 transition_result C T d transition lines at = stopped C d d.leaf lines at
@@ -44,13 +44,13 @@ abbrev pub leaf_in : Table → Decoder → Option Innermost → Leaf
 leaf_in C d None = LeadingNumber (tree C 0) []
 leaf_in C d (Some leaf) = leaf_of C d.outer.items leaf d.carry d.piece.items
 
--- one octet more, on a decoder's fields
-abbrev pub decoder_step : Table → Decoder → ℕ → ℕ → Read
-decoder_step C d here octet =
-    root_step (plain d.order) [] (open_parts C here d.outer.items) (leaf_in C d d.leaf) here octet
+-- one more octet, from the fields of a decoder
+abbrev pub decoder_step : Coding → Table → Decoder → ℕ → ℕ → Read
+decoder_step coding C d here octet =
+    root_step coding [] (open_parts C here d.outer.items) (leaf_in C d d.leaf) here octet
 
--- the answer fits the decoder after a step with these lines, and the reading; a value that goes on
--- is named or isn't
+-- the answer agrees with the decoder after a step with these lines, and with the reading; `named`
+-- says whether a value that goes on has just named its operation
 abbrev pub progressed : Table → Decoder → Bool → Progress → List Line → ℕ → Read → Type 0
 progressed C d named progress.More lines at r =
     (r ≡ read_by_fields C d lines at) × ((leaf : Innermost) × (d.leaf ≡ Some leaf))
@@ -60,26 +60,26 @@ progressed C d named progress.Named lines at r =
 progressed C d named progress.Done lines at r = (r ≡ read_by_fields C d lines at) × (d.leaf ≡ None)
 progressed C d named (progress.Fault kind) lines at r = (T : Ty) × (r ≡ Fault lines at kind T)
 
--- the answer to an octet that breaks no rule: a value goes on as long as it has an innermost part
+-- the answer to an octet that breaks no rule: the value goes on as long as it has an innermost
+-- part; `ended` says whether an encapsulation has ended
 abbrev pub IsGoing : Bool → Bool → Option Innermost → Progress → Type 0
 IsGoing named ended None p = p ≡ progress.Done
 IsGoing named true (Some leaf) p = p ≡ progress.Fault kinds.EncapShort
 IsGoing true false (Some leaf) p = p ≡ progress.Named
 IsGoing false false (Some leaf) p = p ≡ progress.More
 
--- the answer to an octet, by its transition, where an encapsulation has or hasn't ended: a rule
--- that the octet breaks goes first
+-- the answer to an octet, from its transition; a rule that the octet breaks comes first
 abbrev pub IsProgress : Bool → Bool → Transition → Option Innermost → Progress → Type 0
 IsProgress named ended (transitions.Refused kind) leaf p = p ≡ progress.Fault kind
 IsProgress named ended transition leaf p = IsGoing named ended leaf p
 
--- the answer fits the reading after a step, with some lines
+-- the answer agrees with the reading after a step with some lines
 abbrev pub Comes : Table → Decoder → Progress → ℕ → Read → Type 0
 Comes C d p at r =
     (lines : List Line)
     × progressed C d (names_operation (is_header_root d.head.root) lines) p lines at r
 
--- a transition at which no rule is broken
+-- a transition that breaks no rule
 abbrev pub IsNotRefused : Transition → Type 0
 IsNotRefused (transitions.Refused kind) = ⊥
 IsNotRefused transition = Unit {0}
@@ -95,10 +95,10 @@ pub record IsAround (C : Table) (d : Decoder) (of : ℕ) : Type 0 where
   pub fit : IsFit (24 - length d.outer.items) (tree_in C d.outer.items of)
   pub at : d.at < 8
 
--- the reading after a transition of that part, in the parts around it, with these lines
-abbrev pub emitted : Table → Decoder → ℕ → Transition → Output → List Line → ℕ → Read
-emitted C d of transition output lines here =
-    rooted none_left (around (plain d.order) [] (open_parts C here d.outer.items)
+-- the reading after a transition of that part, within the parts around it, with these lines
+abbrev pub emitted : Coding → Table → Decoder → ℕ → Transition → Output → List Line → ℕ → Read
+emitted coding C d of transition output lines here =
+    rooted none_left (around coding [] (open_parts C here d.outer.items)
     (after_transition (tree_in C d.outer.items of) transition d.carry
     (still_held output d.piece.items) lines (here + 1)))
 

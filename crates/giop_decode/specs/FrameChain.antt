@@ -1,5 +1,5 @@
--- Which frames and innermost part fit a table, by the numbers of the types: what is tested of a
--- decoder that is restored from octets (state).
+-- Which frames and innermost part fit a table, from the numbers of their types: what is checked of
+-- a decoder that is restored from octets (state).
 use Rattle.std.specs.Prelude.{◌≡◌, ℕ, pred, ◌-◌, ◌<◌, List, [], ◌∷◌, length, Option, Some, None}
 use Rattle.giop_cdr.specs.declared.order.Order.{Order}
 use Rattle.giop_decode.specs.declared.decoder.Decoder.{Decoder}
@@ -15,30 +15,30 @@ use Rattle.giop_sig.specs.Table.{Table}
 use Rattle.giop_sig.specs.Trees.{part_number_in, tree, tree_at}
 use Rattle.giop_sig.specs.Types.{Ty, Led, Union, places_of}
 
--- a type has that part among so many; a union's cases are not counted
+-- a type has this part, and this many parts; the cases of a union aren't counted
 abbrev pub HasPart : Ty → ℕ → ℕ → Type 0
 HasPart (Union choice scalar select names cases) i count = (i < places_of choice) × (count ≡ 0)
 HasPart (Led h F parts) i count = CanFollow h i × (count ≡ 0)
 HasPart T i count = HasParts T count × (i < count)
 
--- a frame of a type: of a part of its own, or of an encapsulation, of whose octets so many were
--- taken and some are to come
+-- a frame of a type: for one of its parts, or for an encapsulation, some of whose octets were taken
+-- and some are to come
 abbrev pub HasFrame : Option Order → Ty → ℕ → ℕ → Type 0
 HasFrame None T i count = HasPart T i count
 HasFrame (Some order) T i count = IsEncapsulation T × (0 < i) × (i < count)
 
--- or of a type whose first part tells what follows
+-- the same, or a frame of a type whose first part tells what comes after it
 abbrev pub HasFrameAs : Option Stage → Option Order → Ty → ℕ → ℕ → Type 0
 HasFrameAs None inside T i count = HasFrame inside T i count
 HasFrameAs (Some stage) inside T i count = IsWithinAs (Some stage) inside i count T
 
--- an innermost part of this type in so much room, with what is held of it
+-- an innermost part of this type fits into a room, with what is held of it
 abbrev pub LeafFits : Table → ℕ → Innermost → List ℕ → List ℕ → Type 0
 LeafFits C room leaf carry piece = (let T = tree_at C room (leaf_type leaf) in
     FitsIn T [] (leaf_by T leaf carry piece) × IsClean leaf carry piece)
 
--- each frame is of the part that the one before is at, and the innermost part of that which the
--- last is at; the first is of a type in so much room
+-- each frame is for the part that the one before it is at, and the innermost part is the one that
+-- the last frame is at; the first frame is for a type in this room
 abbrev pub Chained : Table → ℕ → ℕ → List Frame → Innermost → Type 0
 Chained C room id [] leaf = leaf_type leaf ≡ id
 Chained C room id (f ∷ frames) leaf =
@@ -57,7 +57,7 @@ pub record Chains (C : Table) (d : Decoder) : Type 0 where
   pub known : root_of d.outer.items leaf < length C.types
   pub some : IsEmptyStruct (tree C (root_of d.outer.items leaf)) → ⊥
   pub chain : Chained C 24 (root_of d.outer.items leaf) d.outer.items leaf
-  -- room is left for the innermost part
+  -- there is room for the innermost part
   pub few : length d.outer.items < 24
   pub inside : d.inside ≡ is_inside d.outer.items
   pub fits : LeafFits C (24 - length d.outer.items) leaf d.carry d.piece.items

@@ -1,4 +1,4 @@
--- What the name buffer can have, by where in a string the innermost part is, if it is in one
+-- What the name buffer can have, depending on whether the innermost part is in a string, and where
 -- (state).
 use Rattle.std.specs.Prelude.{◌≡◌, ℕ, ◌<◌, ◌≤◌, List, [], length, Option, Some, None, cond}
 use Rattle.giop_decode.specs.declared.leaf.Leaf.{Leaf as Innermost}
@@ -16,14 +16,16 @@ abbrev pub string_offset : Ty → Innermost → Option ℕ
 string_offset T (innermost.Content of total offset) = cond (is_text T) (Some offset) None
 string_offset T leaf = None
 
--- So many octets are noted of a string whose unfinished piece begins here: all in front of it. Of a
--- body's string they may be fewer: a checkpoint of a version that noted nothing of bodies has none.
+-- This many octets are noted of a string whose unfinished piece begins at this offset: all before
+-- it. In a body there may be fewer: a checkpoint of a version that noted nothing of bodies has
+-- none.
 abbrev pub IsNotedOf : Root → ℕ → ℕ → Type 0
 IsNotedOf roots.Body offset n = n ≤ offset
 IsNotedOf root offset n = n ≡ offset
 
--- What the buffer can have in no string, or in one whose unfinished piece begins here: of an object
--- key also there, if nothing is noted of the string yet.
+-- What the buffer can have if the innermost part is in no string, or in one whose unfinished piece
+-- begins at this offset. It may have an object key in a string too, if nothing is noted of the
+-- string yet.
 abbrev pub FitsName : Root → Option ℕ → Buffer → List ℕ → Type 0
 FitsName root None buffers.Begun name = name ≡ []
 FitsName root None buffers.Whole name = Unit {0}

@@ -1,4 +1,4 @@
--- Numbers that are parts of one part, each of which another follows (steps).
+-- Numbers that are parts of the same part and come one after another (steps).
 use Rattle.std.specs.Prelude.{◌≡◌, ℕ, suc, ◌+◌, ◌-◌, ◌%◌, ◌<◌, List, [], ◌∷◌, ◌++◌, length, take, Some}
 use Rattle.giop_cdr.specs.declared.prim.Primitive.{Primitive}
 use Rattle.giop_decode.specs.declared.decoder.Decoder.{Decoder}
@@ -15,7 +15,7 @@ use Rattle.giop_sig.specs.Table.{Table, part_number}
 use Rattle.giop_sig.specs.Trees.{tree_at}
 use Rattle.giop_sig.specs.declared.types.TypeId.{TypeId}
 
--- a part that is begun, at its next part
+-- a frame, at its next part
 abbrev pub next_of : Frame → Frame
 next_of f = record {
   of = f.of;
@@ -29,14 +29,14 @@ next_of f = record {
 abbrev pub frames_above : List Frame → List Frame
 frames_above frames = take (length frames - 1) frames
 
--- what the lines of the innermost frame's parts begin with, up to its own segment
+-- what the lines of the innermost frame's parts begin with, up to the part's own segment
 abbrev pub front_text : Table → Decoder → List ℕ
 front_text C d =
     headed d.head.message (root_word d.head.root ++ frames_text C (frames_above d.outer.items))
     []
 
--- the number that stands whole at the head of its octets is a primitive's, and a part of the
--- innermost frame
+-- all octets of the number come at the front of these octets; the number is a primitive, and a part
+-- of the innermost frame
 pub record IsPartAhead (C : Table) (d : Decoder) (part : PartAhead) : Type 0 where
   pub leaf : d.leaf ≡ Some (innermost.Number part.of)
   pub known : part.of.0 < length C.types
@@ -47,7 +47,7 @@ pub record IsPartAhead (C : Table) (d : Decoder) (part : PartAhead) : Type 0 whe
   pub empty : d.carry ≡ []
   pub outer : d.outer.items ≡ frames_above d.outer.items ++ part.frame ∷ []
 
--- another primitive follows in a frame
+-- another primitive comes next in a frame
 pub record IsNextNumber (C : Table) (frame : Frame) (next : TypeId) : Type 0 where
   pub below : frame.index + 1 < frame.count
   pub known : next.0 < length C.types
@@ -57,7 +57,7 @@ pub record IsNextNumber (C : Table) (frame : Frame) (next : TypeId) : Type 0 whe
   pub prim : Primitive
   pub is : (room : ℕ) → tree_at C room next.0 ≡ Single (Plain prim)
 
--- the decoder at the part that follows
+-- the decoder at the part that comes next
 pub record IsAtNext (C : Table) (d new : Decoder) (part : PartAhead) (next : TypeId) : Type 0 where
   pub order : new.order ≡ d.order
   pub head : new.head ≡ d.head

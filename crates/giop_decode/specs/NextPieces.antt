@@ -1,4 +1,4 @@
--- Full pieces of an octet sequence, after each of which more comes (steps).
+-- Full pieces of an octet sequence, with more after each (steps).
 use Rattle.std.specs.Prelude.{◌≡◌, ℕ, ◌+◌, ◌-◌, ◌<◌, ◌≤◌, ◌⊎◌, false, List, [], ◌++◌, length, Option, Some, None}
 use Rattle.giop_decode.specs.declared.decoder.Decoder.{Decoder}
 use Rattle.giop_decode.specs.declared.leaf.Leaf.TheVariants as innermost
@@ -12,17 +12,17 @@ use Rattle.giop_sig.specs.Table.{Table, has_keys, interface_in}
 use Rattle.giop_sig.specs.Trees.{tree_at}
 use Rattle.giop_sig.specs.Types.{Octets, Raw}
 
--- nothing is noted of octet sequences: in no header, or by a table without KEYs
+-- nothing is noted of octet sequences: this isn't a header, or the table has no KEYs
 abbrev pub IsQuiet : Table → Root → Type 0
 IsQuiet C root = (is_header_root root ≡ false)
     ⊎ ((has_keys C ≡ false) × ((key : List ℕ) → interface_in C key ≡ None))
 
--- what a line begins with, up to the end of its path, where the frames are the parts around it
+-- what a line begins with, up to the end of its path, if the frames are the parts around it
 abbrev pub path_front : Table → Decoder → List ℕ
 path_front C d = headed d.head.message (root_word d.head.root ++ frames_text C d.outer.items) []
 
--- A full piece of an octet sequence stands whole at the head of its octets: none of it is held, and
--- more comes after it.
+-- All octets of a full piece of an octet sequence come at the front of these octets. None of them
+-- is held, and more come after the piece.
 pub record IsPieceAhead (C : Table) (d : Decoder) (ahead : PieceAhead) : Type 0 where
   pub leaf : d.leaf ≡ Some (innermost.Content ahead.of ahead.total ahead.offset)
   pub bound : Option ℕ
@@ -31,7 +31,7 @@ pub record IsPieceAhead (C : Table) (d : Decoder) (ahead : PieceAhead) : Type 0 
   pub whole : 32 ≤ length ahead.octets.now
   pub none_held : d.piece.items ≡ []
 
--- the decoder after that piece: 32 octets further it stands at the same offset modulo 8
+-- the decoder after that piece, 32 octets further on, with the same phase modulo 8
 abbrev pub behind_piece : Decoder → PieceAhead → Decoder
 behind_piece d ahead = record {
   order = d.order;

@@ -1,5 +1,5 @@
--- What is noted of a reading, line by line: a header's request id, whether it expects a reply, its
--- object key, the number of the last enum, and the last string that is complete (meaning).
+-- What is noted of a reading, line by line: the request id of a header, whether it expects a reply,
+-- its object key, the number of the last enum, and the last string that is complete (meaning).
 use Rattle.std.specs.Prelude.{ℕ, ◌%◌, ◌==◌, ◌&&◌, ◌||◌, Bool, true, false, cond, ltb, List, [], ◌∷◌, ◌++◌, length, Option, Some, None, codes}
 use Rattle.std.specs.Option.{is_none}
 use Rattle.std.specs.Str.{bytes_eq}
@@ -11,33 +11,33 @@ use Rattle.giop_decode.specs.declared.progress.Kind.TheVariants as kinds
 use Rattle.giop_sig.specs.Types.{Plain, Enum, Ty, Text, Octets, Raw}
 
 pub record Noted : Type 0 where
-  -- a header's: the first that has a line
+  -- the request id of a header, from the first line that has one
   pub request_id : Option ℕ
   -- the number of the last enum
   pub status : Option ℕ
-  -- whether a header expects a reply: the last member that says it
+  -- whether a header expects a reply, from the last member that says it
   pub expects_reply : Option Bool
-  -- the last string, where that has at most 128 octets
+  -- the last string, if it has at most 128 octets
   pub name : Option (List ℕ)
-  -- the octets so far of a string that has not ended
+  -- the octets that have come of a string that hasn't ended
   pub so_far : List ℕ
-  -- a header's object key, where that has at most 128 octets
+  -- the object key of a header, if it has at most 128 octets
   pub key : Option (List ℕ)
-  -- the octets so far of an object key that has not ended
+  -- the octets that have come of an object key that hasn't ended
   pub key_so_far : List ℕ
 
--- whether a segment is the name of a member
+-- whether a segment is that of the member with this name
 abbrev pub is_name : List ℕ → PathSegment → Bool
 is_name name (Name octets) = bytes_eq name octets
 is_name name segment = false
 
--- the path of the member of the root that has a name
+-- whether a path is that of the root's member with this name
 abbrev pub is_member : List ℕ → List PathSegment → Bool
 is_member name (segment ∷ []) = is_name name segment
 is_member name path = false
 
--- The path of a header's object key: a member of the header in GIOP 1.0 and 1.1, and in 1.2 of its
--- target (GIOP Message Formats, Request Header).
+-- The path of the object key in a header: a member of the header in GIOP 1.0 and 1.1, and of its
+-- target in 1.2 (GIOP Message Formats, Request Header).
 abbrev pub is_key_path : List PathSegment → Bool
 is_key_path (segment ∷ []) = is_name (codes "object_key") segment
 is_key_path (outer ∷ inner ∷ []) =
@@ -48,25 +48,25 @@ is_key_path path = false
 abbrev pub name_if : List ℕ → Option (List ℕ)
 name_if octets = cond (ltb 128 (length octets)) None (Some octets)
 
--- a piece of a string, whose end is still to come
+-- after a piece of a string whose end is to come
 abbrev pub with_piece : Noted → List ℕ → Noted
 with_piece h octets = record h { name = None; so_far = h.so_far ++ octets; key_so_far = [] }
 
--- the end of a string: it is the last one, and no piece of another has come
+-- after the end of a string: this is the last one, and no piece of another has come
 abbrev pub ended : Noted → Noted
 ended h = record h { name = name_if h.so_far; so_far = [] }
 
--- a piece, with whether more of its string follow
+-- after a piece of a string; `more` says whether more pieces come
 abbrev pub noted_piece : Noted → List ℕ → Bool → Noted
 noted_piece h octets true = with_piece h octets
 noted_piece h octets false = ended (with_piece h octets)
 
--- the first of two numbers, where it is there
+-- the first of two numbers, if there is one, or else the second
 abbrev pub first_of : Option ℕ → Option ℕ → Option ℕ
 first_of (Some n) later = Some n
 first_of None later = later
 
--- one value more, which is that of a request id or isn't
+-- after one more value; `is_id` says whether it is a request id
 abbrev pub note_value : Bool → Noted → Value → Noted
 note_value is_id h (Number (Plain prims.ULong) n) =
     record h { request_id = first_of h.request_id (cond is_id (Some n) None) }
@@ -74,33 +74,33 @@ note_value is_id h (Number (Enum count names) n) = record h { status = Some n; k
 note_value is_id h (Piece (Text bound) offset octets more) = noted_piece h octets more
 note_value is_id h value = h
 
--- An object key is noted before any string and any enum: in a Request's header the operation
--- follows it, and there is no enum.
+-- An object key is noted before all strings and enums: in the header of a Request the operation
+-- comes after it, and there is no enum.
 abbrev pub may_have_key : Noted → Bool
 may_have_key h = is_none h.name && ((length h.so_far == 0) && is_none h.status)
 
--- a piece of an object key, whose end is still to come
+-- after a piece of an object key whose end is to come
 abbrev pub with_key_piece : Noted → List ℕ → Noted
 with_key_piece h octets = record h { key = None; key_so_far = h.key_so_far ++ octets }
 
--- the end of an object key
+-- after the end of an object key
 abbrev pub key_ended : Noted → Noted
 key_ended h = record h { key = name_if h.key_so_far; key_so_far = [] }
 
--- a piece of an object key, with whether more of it follow
+-- after a piece of an object key; `more` says whether more pieces come
 abbrev pub noted_key : Noted → List ℕ → Bool → Noted
 noted_key h octets more =
     cond (may_have_key h)
     (cond more (with_key_piece h octets) (key_ended (with_key_piece h octets))) h
 
--- one value more, which stands where an object key does or doesn't
+-- after one more value; `is_key` says whether it is at the place of an object key
 abbrev pub note_key : Bool → Noted → Value → Noted
 note_key is_key h (Piece (Octets (Raw bound)) offset octets more) =
     cond is_key (noted_key h octets more) h
 note_key is_key h value = h
 
--- Whether a reply is expected, after one value more: GIOP 1.0 and 1.1 say it by a boolean, 1.2 by
--- bit 0 of an octet (GIOP Message Formats, Request Header).
+-- Whether a reply is expected, after one more value. GIOP 1.0 and 1.1 say it with a boolean, 1.2
+-- with bit 0 of an octet (GIOP Message Formats, Request Header).
 abbrev pub expects_after : Bool → List PathSegment → Value → Option Bool → Option Bool
 expects_after is_header path (Number (Plain prims.Boolean) n) before =
     cond (is_header && is_member (codes "response_expected") path) (Some (n % 2 == 1)) before
@@ -108,18 +108,18 @@ expects_after is_header path (Number (Plain prims.Octet) n) before =
     cond (is_header && is_member (codes "response_flags") path) (Some (n % 2 == 1)) before
 expects_after is_header path value before = before
 
--- the same but for that
+-- the same notes, but with this
 abbrev pub with_expects : Noted → Option Bool → Noted
 with_expects h expects = record h { expects_reply = expects }
 
--- one line more, of a header or not
+-- after one more line; `is_header` says whether it is one of a header
 abbrev pub note : Bool → Noted → Line → Noted
 note is_header h l =
     note_key (is_header && is_key_path l.path)
     (with_expects (note_value (is_header && is_member (codes "request_id") l.path) h l.value)
     (expects_after is_header l.path l.value h.expects_reply)) l.value
 
--- these lines, one after the other
+-- after these lines, one after another
 abbrev pub noted : Bool → Noted → List Line → Noted
 noted is_header h [] = h
 noted is_header h (l ∷ ls) = noted is_header (note is_header h l) ls
@@ -141,19 +141,19 @@ abbrev pub in_content : Leaf → Bool
 in_content (Content (Text bound) total offset piece) = true
 in_content leaf = false
 
--- a string's type
+-- whether a type is that of a string
 abbrev pub is_text : Ty → Bool
 is_text (Text bound) = true
 is_text T = false
 
--- whether a reading ends inside a string, or at a fault in one
+-- whether a reading ends within a string, or at a fault in one
 abbrev pub ends_in_string : Read → Bool
 ends_in_string (Done lines at rest) = false
 ends_in_string (Short lines at outer leaf) = in_content leaf
 ends_in_string (Fault lines at kinds.Untyped T) = false
 ends_in_string (Fault lines at kind T) = is_text T
 
--- inside a string there is no name
+-- within a string there is no name
 abbrev pub without_name_if : Bool → Noted → Noted
 without_name_if false h = h
 without_name_if true h = record h { name = None }
@@ -178,7 +178,7 @@ abbrev pub names_operation : Bool → List Line → Bool
 names_operation is_header [] = false
 names_operation is_header (l ∷ ls) = ends_operation is_header l || names_operation is_header ls
 
--- whether this is a header's root, below which request id and operation are known by their names
+-- whether this is the root of a header, whose request id and operation are known by their names
 abbrev pub is_header_root : Root → Bool
 is_header_root roots.Header = true
 is_header_root root = false

@@ -1,6 +1,5 @@
 -- What is noted of a reading, from all of its lines at once: the request id of a header, whether it
--- expects a reply, its object key, the last of the enums, and the last of the strings that are whole
--- (meaning).
+-- expects a reply, its object key, the last enum, and the last string that is whole (meaning).
 use Rattle.std.specs.Prelude.{◌≡◌, ℕ, zero, suc, ◌+◌, ◌&&◌, Bool, true, false, cond, List, [], ◌∷◌, ◌++◌, length, take, drop, Option, Some, None, filter_map, flat_map, codes}
 use Rattle.std.specs.List.{AllByRecursion as Each, last_or}
 use Rattle.giop_cdr.specs.declared.prim.Primitive.TheVariants as prims
@@ -11,45 +10,45 @@ use Rattle.giop_sig.specs.Types.{Plain, Enum, Octets, Raw, Text}
 
 -- ---- numbers
 
--- the number of a value that is an enum's
+-- the number of a value, if it is that of an enum
 abbrev pub enum_of : Value → Option ℕ
 enum_of (Number (Enum count names) n) = Some n
 enum_of value = None
 
--- the numbers of the lines that are enums
+-- the numbers of the lines that have enums
 abbrev pub enums : List Line → List ℕ
 enums lines = filter_map (λ l. enum_of l.value) lines
 
--- the number of a value that is an unsigned long
+-- the number of a value, if it is an unsigned long
 abbrev pub ulong_of : Value → Option ℕ
 ulong_of (Number (Plain prims.ULong) n) = Some n
 ulong_of value = None
 
--- the number of a line that is the root's member `request_id`, below a header
+-- the number of a line, if it is the root's member `request_id` in a header
 abbrev pub id_of : Bool → Line → Option ℕ
 id_of is_header l =
     cond (is_header && is_member (codes "request_id") l.path) (ulong_of l.value) None
 
--- the numbers of such lines, of which a header has one
+-- the numbers of such lines; a header has one
 abbrev pub request_ids : Bool → List Line → List ℕ
 request_ids is_header lines = filter_map (id_of is_header) lines
 
--- the first of them
+-- the first of these numbers
 abbrev pub first_in : List ℕ → Option ℕ
 first_in [] = None
 first_in (n ∷ ns) = Some n
 
--- whether a reply is expected, by a line that says it
+-- whether a reply is expected, if this line says it
 abbrev pub expected_by : Bool → Line → Option Bool
 expected_by is_header l = expects_after is_header l.path l.value None
 
--- what such lines say, of which a Request's header has one
+-- what such lines say; the header of a Request has one
 abbrev pub expectations : Bool → List Line → List Bool
 expectations is_header lines = filter_map (expected_by is_header) lines
 
 -- ---- strings
 
--- a piece of a string: where in the content it begins, its octets, and whether more follow
+-- a piece of a string: where in the content it begins, its octets, and whether more pieces come
 pub record TextPiece : Type 0 where
   pub offset : ℕ
   pub octets : List ℕ
@@ -59,16 +58,16 @@ pub record TextPiece : Type 0 where
 abbrev pub piece : ℕ → List ℕ → Bool → TextPiece
 piece offset octets more = record { offset = offset; octets = octets; more = more }
 
--- the piece of a string that a value is, if it is one
+-- the piece of a string that a value has, if it has one
 abbrev pub text_of : Value → Option TextPiece
 text_of (Piece (Text bound) offset octets more) = Some (piece offset octets more)
 text_of value = None
 
--- the lines that are pieces of strings
+-- the pieces of strings that lines have
 abbrev pub text_pieces : List Line → List TextPiece
 text_pieces lines = filter_map (λ l. text_of l.value) lines
 
--- a content from an offset in it on, so many of whose pieces aren't the last: these have 32 octets
+-- a content from an offset in it on; `full` of its pieces aren't the last, and have 32 octets each
 abbrev pub cut_from : ℕ → ℕ → List ℕ → List TextPiece
 cut_from zero offset octets = piece offset octets false ∷ []
 cut_from (suc full) offset octets =
@@ -78,11 +77,11 @@ cut_from (suc full) offset octets =
 abbrev pub pieces_of : List ℕ → List TextPiece
 pieces_of content = cut_from (full_pieces (length content)) 0 content
 
--- pieces of which none is the last
+-- pieces none of which is the last
 abbrev pub AreUnended : List TextPiece → Type 0
 AreUnended pieces = Each (λ p. p.more ≡ true) pieces
 
--- The strings of a reading, in their order: the contents of those that are whole, and the pieces of
+-- The strings of a reading, in order: the contents of the strings that are whole, and the pieces of
 -- one that has begun and not ended.
 pub record Strings (r : Read) : Type 0 where
   pub contents : List (List ℕ)
@@ -93,21 +92,21 @@ pub record Strings (r : Read) : Type 0 where
 
 -- ---- object keys
 
--- the piece of an object key that a value is, if one stands there
+-- the piece of an object key that a value has; `is_key` says whether one is at this place
 abbrev pub key_of : Bool → Value → Option TextPiece
 key_of is_key (Piece (Octets (Raw bound)) offset octets more) =
     cond is_key (Some (piece offset octets more)) None
 key_of is_key value = None
 
--- the piece of an object key that a line is, below a header
+-- the piece of an object key that a line in a header has
 abbrev pub key_piece : Bool → Line → Option TextPiece
 key_piece is_header l = key_of (is_header && is_key_path l.path) l.value
 
 abbrev pub key_pieces : Bool → List Line → List TextPiece
 key_pieces is_header lines = filter_map (key_piece is_header) lines
 
--- The last content that pieces give, of at most 128 octets, or none within one: after this one, and
--- so much of the next.
+-- The last content that these pieces give, if it has at most 128 octets; none within a content.
+-- `last` is the content before them, and `so_far` what has come of the next one.
 abbrev pub last_content : Option (List ℕ) → List ℕ → List TextPiece → Option (List ℕ)
 last_content last so_far [] = last
 last_content last so_far (p ∷ ps) =
@@ -121,19 +120,19 @@ abbrev pub name_of : Option (List ℕ) → Option (List ℕ)
 name_of None = None
 name_of (Some content) = name_if content
 
--- this is what is noted of a reading, of a header or not
+-- this is what is noted of a reading; `is_header` says whether it is one of a header
 pub record IsLeft (is_header : Bool) (r : Read) (h : Noted) : Type 0 where
-  -- the header's
+  -- the request id of the header
   pub request_id : h.request_id ≡ first_in (request_ids is_header (lines_of r))
-  -- the number of the last line that is an enum
+  -- the number of the last line that has an enum
   pub status : h.status ≡ last_or None (enums (lines_of r))
   -- what the last line says that says whether the header expects a reply
   pub expects_reply : h.expects_reply ≡ last_or None (expectations is_header (lines_of r))
   pub strings : Strings r
-  -- the last whole string, of at most 128 octets; none between the last octet of a later one's
-  -- length and its end
+  -- the last string that is whole, if it has at most 128 octets; none while a later string comes,
+  -- after the last octet of its length
   pub name : h.name ≡ cond (ends_in_string r) None (name_of (last_or None strings.contents))
-  -- where no line is an enum, and no string stands before an object key's last piece
+  -- if no line has an enum, and no string comes before the last piece of an object key
   pub key : (front back : List Line) → lines_of r ≡ front ++ back → enums (lines_of r) ≡ [] →
       text_pieces front ≡ [] → key_pieces is_header back ≡ [] →
       h.key ≡ last_content None [] (key_pieces is_header front)

@@ -16,13 +16,13 @@ use Rattle.giop_cdr.specs.declared.number.Number.{Number as Taken}
 use Rattle.giop_cdr.specs.declared.number.Number.TheVariants as numbers
 use Rattle.giop_sig.specs.Types.{Ty}
 
--- a boolean that is true, or a number whose bit 0 is set
+-- whether a boolean is true, or bit 0 of a number is set
 abbrev pub is_set : Taken → Bool
 is_set (numbers.Truth truth) = truth
 is_set (numbers.Unsigned n) = n % 2 == 1
 is_set number = false
 
--- the octets of an object key can be noted: no string, and no enum
+-- the octets of an object key may be noted: there is no string and no enum
 abbrev pub HasNoString : Buffer → List ℕ → Type 0
 HasNoString buffers.Begun octets = octets ≡ []
 HasNoString buffers.Whole octets = ⊥
@@ -32,25 +32,25 @@ HasNoString buffer octets = Unit {0}
 abbrev pub IsForKey : Notes → Type 0
 IsForKey m = HasNoString m.buffer m.name.items × (status_of m.last ≡ None)
 
--- a string's length clears the name
+-- whether an output clears the name: that of a string's length does
 abbrev pub clears_name : Output → Bool
 clears_name outputs.Length = true
 clears_name output = false
 
--- whether an innermost part of this type stands inside a string
+-- whether an innermost part of this type is within a string
 abbrev pub leaf_in_string : Ty → Innermost → Bool
 leaf_in_string T (innermost.Number of) = false
 leaf_in_string T (innermost.Opening of left) = false
 leaf_in_string T (innermost.Content of total offset) = is_text T
 
--- and whether it does after a transition
+-- whether it is within a string after a transition
 abbrev pub transition_in_string : Ty → Transition → Bool
 transition_in_string T (transitions.More leaf) = leaf_in_string T leaf
 transition_in_string T (transitions.Refused kind) = is_text T
 transition_in_string T transition = false
 
--- Inside a string no lines but its pieces are written: its length leads into it, and its last piece
--- out of it.
+-- Within a string, lines have only its pieces. Its length leads into it, and its last piece out of
+-- it.
 abbrev pub OutputFitsString : Ty → Bool → Transition → Output → Type 0
 OutputFitsString T was transition outputs.Nothing = transition_in_string T transition ≡ was
 OutputFitsString T was transition outputs.Length = transition_in_string T transition ≡ true
@@ -59,15 +59,15 @@ OutputFitsString T was transition (outputs.Piece offset more) =
 OutputFitsString T was transition output =
     (was ≡ false) × (transition_in_string T transition ≡ false)
 
--- where in its string the unfinished piece begins after a transition, if it leads into a string or
+-- where in its string the unfinished piece begins after a transition that leads into a string or
 -- goes on in one
 abbrev pub transition_offset : Ty → Transition → Option ℕ
 transition_offset T (transitions.More leaf) = string_offset T leaf
 transition_offset T transition = None
 
 -- Where in its string the unfinished piece begins before and after an octet with this output, whose
--- piece has so many octets: a length leads into a string, a piece that isn't the last goes on
--- after its 32 octets, and the last leads out.
+-- piece has n octets. A length leads into a string, a piece that isn't the last goes on after its
+-- 32 octets, and the last piece leads out.
 abbrev pub OffsetMoves : Ty → Option ℕ → Option ℕ → Output → ℕ → Type 0
 OffsetMoves T was next outputs.Nothing n = next ≡ was
 OffsetMoves T was next outputs.Length n = (was ≡ None) × (next ≡ Some 0)
@@ -78,7 +78,7 @@ OffsetMoves T was next (outputs.Piece offset false) n =
     (cond (is_text T) None was ≡ None) × (next ≡ None)
 OffsetMoves T was next output n = (was ≡ None) × (next ≡ None)
 
--- the same of a transition; where a rule is broken nothing is said
+-- the same for a transition; nothing is said if a rule is broken
 abbrev pub StringGoesOn : Ty → Option ℕ → Transition → Output → ℕ → Type 0
 StringGoesOn T was (transitions.Refused kind) output n = Unit {0}
 StringGoesOn T was transition output n = OffsetMoves T was (transition_offset T transition) output n

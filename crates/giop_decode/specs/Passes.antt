@@ -1,4 +1,4 @@
--- What an octet of the innermost part does, once its line is written (steps).
+-- What an octet of the innermost part does after its line was written (steps).
 use Rattle.std.specs.Prelude.{◌≡◌, ℕ, ◌+◌, ◌%◌, Bool, List, [], ◌++◌}
 use Rattle.giop_decode.specs.declared.decoder.Decoder.{Decoder}
 use Rattle.giop_decode.specs.declared.frame.Frame.{Frame}
@@ -6,7 +6,7 @@ use Rattle.giop_decode.specs.declared.leaf.Finished.{Finished}
 use Rattle.giop_decode.specs.declared.leaf.Step.{Step}
 use Rattle.giop_decode.specs.declared.progress.Progress.{Progress}
 use Rattle.giop_decode.specs.Heard.{AreHeard}
-use Rattle.giop_decode.specs.ReadResult.{Line}
+use Rattle.giop_decode.specs.ReadResult.{Coding, Line}
 use Rattle.giop_decode.specs.ReadingSteps.{path_in}
 use Rattle.giop_decode.specs.SeenState.{AreOfRoot, CanStandAt, GoesOn, HoldsNoted}
 use Rattle.giop_decode.specs.DecoderSteps.{Comes, IsAround, IsNext, emitted}
@@ -15,23 +15,25 @@ use Rattle.giop_decode.specs.NotingSteps.{clears_name, transition_in_string}
 use Rattle.giop_decode.specs.Transitions.{IsOutput, open_parts, ticked, tree_in}
 use Rattle.giop_sig.specs.Table.{Table}
 
--- The lines up to this offset of what an octet finishes of a part in these frames at an offset.
+-- The lines, up to this offset, of what an octet finishes: those of a part within these frames,
+-- which are at offset `here`.
 abbrev pub Finishes : Table → List Frame → Finished → ℕ → ℕ → List Line → Type 0
 Finishes C outer finished here at lines =
     IsOutput (tree_in C outer finished.of.0) (path_in [] (open_parts C here outer)) at
     finished.output
     (finished.held.now ++ finished.rest.now) lines
 
--- The lines that the step gives, up to this offset, of a part of this type in the frames around it
--- at an offset: those of its output. A piece has the octets that are held, and the rest.
+-- The lines that the step gives up to this offset, for a part of this type within the frames around
+-- it, which are at offset `here`: those of its output. A piece has the octets that are held, and
+-- then the rest.
 abbrev pub Gives : Table → Decoder → ℕ → Step → List ℕ → ℕ → ℕ → List Line → Type 0
 Gives C d of step rest here at lines =
     IsOutput (tree_in C d.outer.items of) (path_in [] (open_parts C here d.outer.items)) at
     step.output
     (d.piece.items ++ rest) lines
 
--- a decoder at an octet of a part of this type, which is counted since, and whose line was heard in
--- the parts around
+-- a decoder at an octet of a part of this type; the octet was counted since, and its line was heard
+-- in the parts around
 pub record IsBehind (C : Table) (d now : Decoder) (of : ℕ) (step : Step) (rest : List ℕ) : Type 0
   where
     pub around : IsAround C d of
@@ -46,19 +48,22 @@ pub record IsBehind (C : Table) (d now : Decoder) (of : ℕ) (step : Step) (rest
     pub piece : now.piece ≡ d.piece
     pub notes : now.notes ≡ d.notes
 
--- The octet's output is noted, and its transition done, with this answer.
+-- The output of the octet was noted and its transition made, with this answer.
 pub record Passes (C : Table) (d new : Decoder) (of : ℕ) (step : Step) (rest : List ℕ)
     (p : Progress) : Type 0 where
   pub order : new.order ≡ d.order
   pub head : new.head ≡ d.head
   pub narrow : new.narrow ≡ d.narrow
-  -- one octet further
-  pub here : (here : ℕ) → CanStandAt d here → CanStandAt new (here + 1)
+  -- one octet further on
+  pub here : (coding : Coding) (here : ℕ) → CanStandAt coding d here →
+      CanStandAt coding new (here + 1)
   pub next : GoesOn p → IsNext C d new of step.transition
-  pub steps : (here : ℕ) (lines : List Line) → Gives C d of step rest here (here + 1) lines →
-      Comes C new p (here + 1) (emitted C d of step.transition step.output lines here)
-  pub inside : (here : ℕ) (lines : List Line) → Gives C d of step rest here (here + 1) lines →
-      ends_in_string (emitted C d of step.transition step.output lines here)
+  pub steps : (coding : Coding) (here : ℕ) (lines : List Line) →
+      Gives C d of step rest here (here + 1) lines →
+      Comes C new p (here + 1) (emitted coding C d of step.transition step.output lines here)
+  pub inside : (coding : Coding) (here : ℕ) (lines : List Line) →
+      Gives C d of step rest here (here + 1) lines →
+      ends_in_string (emitted coding C d of step.transition step.output lines here)
       ≡ transition_in_string (tree_in C d.outer.items of) step.transition
   pub of_root : AreOfRoot C d.head.root d.notes → AreOfRoot C d.head.root new.notes
   pub notes : (asked : Bool) (h : Noted) (here at : ℕ) (lines : List Line) →

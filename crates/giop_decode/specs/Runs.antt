@@ -1,11 +1,10 @@
--- What a decoder that reads a list does with more octets, taken as a run (state).
+-- What a decoder that has read a list does with more octets that are taken as a run (state).
 use Rattle.std.specs.Prelude.{◌≡◌, ℕ, suc, ◌+◌, ◌-◌, ◌%◌, ◌<◌, ◌≤◌, false, List, [], ◌∷◌, ◌++◌, length, take, drop, get_or, Some, None, Result, IfOk, MatchResult}
-use Rattle.giop_cdr.specs.declared.order.Order.{Order}
 use Rattle.giop_decode.specs.declared.decoder.Decoder.{Decoder}
 use Rattle.giop_decode.specs.declared.frame.Frame.{Frame}
 use Rattle.giop_decode.specs.declared.progress.Progress.{Progress}
 use Rattle.giop_decode.specs.declared.progress.Progress.TheVariants as progress
-use Rattle.giop_decode.specs.ReadResult.{plain, Coding, Line, PathSegment, lines_of}
+use Rattle.giop_decode.specs.ReadResult.{Coding, Line, PathSegment, lines_of}
 use Rattle.giop_decode.specs.Reading.{reading}
 use Rattle.giop_decode.specs.Noted.{is_header_root, names_operation}
 use Rattle.giop_decode.specs.SeenState.{Fits, GoesOn, IsDone, Reads, KeepsNoted, IsAnswer, IsFault, added_lines}
@@ -25,105 +24,106 @@ use Rattle.giop_decode.specs.NotingSteps.{OutputFitsString, StringGoesOn, leaf_i
 use Rattle.giop_decode.specs.ReadingSteps.{AreHeld, after, leading_width, leaf_step}
 use Rattle.giop_decode.specs.Transitions.{HasOutput, HaveOctetsLeft, IsOutput, TransitionFits, TransitionGives, coding_by, leaf_of, leaf_type, still_held, ticked_by, tree_in, after_transition}
 
--- the lines that octets more give
-abbrev pub added_lines_of_run : Order → Ty → ℕ → List ℕ → List ℕ → List Line
-added_lines_of_run order T at s octets =
-    drop (length (lines_of (reading (plain order) [] T at s)))
-    (lines_of (reading (plain order) [] T at (s ++ octets)))
+-- the lines of more octets
+abbrev pub added_lines_of_run : Coding → Ty → ℕ → List ℕ → List ℕ → List Line
+added_lines_of_run coding T at s octets =
+    drop (length (lines_of (reading coding [] T at s)))
+    (lines_of (reading coding [] T at (s ++ octets)))
 
--- the answer to one octet more than a list
-abbrev pub Answers : Order → Ty → ℕ → Root → List ℕ → ℕ → Progress → Type 0
-Answers order T at root s octet p =
+-- the answer to one octet after a list
+abbrev pub Answers : Coding → Ty → ℕ → Root → List ℕ → ℕ → Progress → Type 0
+Answers coding T at root s octet p =
     IsAnswer (at + length (s ++ octet ∷ []))
-    (names_operation (is_header_root root) (added_lines order T at s octet)) p
-    (reading (plain order) [] T at (s ++ octet ∷ []))
+    (names_operation (is_header_root root) (added_lines coding T at s octet)) p
+    (reading coding [] T at (s ++ octet ∷ []))
 
--- Octets more, one after another: after each but the last the value goes on, and no operation has
--- ended there.
-abbrev pub AreAnswered : Order → Ty → ℕ → Root → List ℕ → List ℕ → Progress → Type 0
-AreAnswered order T at root s [] p = p ≡ progress.More
-AreAnswered order T at root s (octet ∷ []) p = Answers order T at root s octet p
-AreAnswered order T at root s (octet ∷ next ∷ more) p =
-    Answers order T at root s octet progress.More
-    × AreAnswered order T at root (s ++ octet ∷ []) (next ∷ more) p
+-- The answers to more octets, one after another: after each but the last the value goes on, and no
+-- operation has ended there.
+abbrev pub AreAnswered : Coding → Ty → ℕ → Root → List ℕ → List ℕ → Progress → Type 0
+AreAnswered coding T at root s [] p = p ≡ progress.More
+AreAnswered coding T at root s (octet ∷ []) p = Answers coding T at root s octet p
+AreAnswered coding T at root s (octet ∷ next ∷ more) p =
+    Answers coding T at root s octet progress.More
+    × AreAnswered coding T at root (s ++ octet ∷ []) (next ∷ more) p
 
--- A decoder that read a list gives this answer to these octets more: then it reads the longer list,
--- unless that is faulted.
-pub record TakesRun (C : Table) (T : Ty) (order : Order) (at message : ℕ) (root : Root)
+-- A decoder that has read a list gives this answer to these octets. It has then read the longer
+-- list, unless there is a fault.
+pub record TakesRun (C : Table) (T : Ty) (coding : Coding) (at message : ℕ) (root : Root)
     (d : Decoder) (s octets : List ℕ) (p : Progress) : Type 0 where
-  pub answers : AreAnswered order T at root s octets p
-  pub reads : (IsFault p → ⊥) → Reads C T order at message root d (s ++ octets)
-  pub keeps_noted : KeepsNoted C root d (reading (plain order) [] T at (s ++ octets))
+  pub answers : AreAnswered coding T at root s octets p
+  pub reads : (IsFault p → ⊥) → Reads C T coding at message root d (s ++ octets)
+  pub keeps_noted : KeepsNoted C root d (reading coding [] T at (s ++ octets))
 
--- A put failed at one of these octets, before which the value went on: a front of the lines up to
--- it was written.
-pub record BreaksOff (T : Ty) (order : Order) (at message : ℕ) (root : Root) (s octets : List ℕ)
+-- A put failed at one of these octets, before which the value went on. A front of the lines up to
+-- that octet was written.
+pub record BreaksOff (T : Ty) (coding : Coding) (at message : ℕ) (root : Root) (s octets : List ℕ)
     (before after : OutLog) : Type 0 where
   pub front : List ℕ
   pub octet : ℕ
   pub rest : List ℕ
   pub all : octets ≡ front ++ octet ∷ rest
-  pub answers : AreAnswered order T at root s front progress.More
+  pub answers : AreAnswered coding T at root s front progress.More
   pub wrote : WroteFront before after
-      (lines_text message root (added_lines_of_run order T at s (front ++ octet ∷ [])))
+      (lines_text message root (added_lines_of_run coding T at s (front ++ octet ∷ [])))
 
 -- the lines of the octets that a run took, or those up to the octet at which a put failed
-abbrev pub WritesRun : {E : Type 0} → Result (ℕ × Progress) E → Ty → Order → ℕ → ℕ → Root →
+abbrev pub WritesRun : {E : Type 0} → Result (ℕ × Progress) E → Ty → Coding → ℕ → ℕ → Root →
     List ℕ → List ℕ → OutLog → OutLog → Type 0
-WritesRun result T order at message root s octets before after =
+WritesRun result T coding at message root s octets before after =
     MatchResult result
     (λ taken. Wrote before after
-    (lines_text message root (added_lines_of_run order T at s (take taken.0 octets))))
-    (λ _. BreaksOff T order at message root s octets before after)
+    (lines_text message root (added_lines_of_run coding T at s (take taken.0 octets))))
+    (λ _. BreaksOff T coding at message root s octets before after)
 
--- Some of these octets are taken as a run, by a decoder that becomes this new one: how many, with
--- the answer to the last of them, or a put failed.
+-- A decoder takes some of these octets as a run, and becomes the new one. The result is how many,
+-- and the answer to the last of them; or a put failed.
 pub record TakesSome {E : Type 0} (C : Table) (old new : Decoder) (octets : List ℕ)
     (before after : OutLog) (result : Result (ℕ × Progress) E) : Type 0 where
-  -- of any list that the old decoder reads: the lines of those that are taken are written
-  pub writes : (T : Ty) (order : Order) (at message : ℕ) (root : Root) (s : List ℕ) →
-      Reads C T order at message root old s →
-      WritesRun result T order at message root s octets before after
-  -- and the new one reads them after it
-  pub takes : IfOk result (λ taken. (T : Ty) (order : Order) (at message : ℕ) (root : Root)
-      (s : List ℕ) → Reads C T order at message root old s →
-      TakesRun C T order at message root new s (take taken.0 octets) taken.1)
-  -- no more than there are, and at least one
+  -- for any list that the old decoder has read, the lines of the octets that are taken were written
+  pub writes : (T : Ty) (coding : Coding) (at message : ℕ) (root : Root) (s : List ℕ) →
+      Reads C T coding at message root old s →
+      WritesRun result T coding at message root s octets before after
+  -- the new decoder has then read these octets after the list
+  pub takes : IfOk result (λ taken. (T : Ty) (coding : Coding) (at message : ℕ) (root : Root)
+      (s : List ℕ) → Reads C T coding at message root old s →
+      TakesRun C T coding at message root new s (take taken.0 octets) taken.1)
+  -- there are at least one and at most all of them
   pub within : IfOk result (λ taken. taken.0 ≤ length octets)
   pub some : IfOk result (λ taken. 0 < taken.0)
   -- a value that goes on can be taken from there
   pub fits : IfOk result (λ taken. GoesOn taken.1 → Fits C new)
-  -- the answer that it has ended comes only where it has
+  -- the answer is that the value has ended only if it has
   pub done : IfOk result (λ taken. taken.1 ≡ progress.Done → IsDone new)
 
--- ---- octets that only add to a piece
+-- ---- octets that are only added to a piece
 
--- a decoder that read a list reads the longer one, and the octets more give no line
-pub record Gathered (C : Table) (T : Ty) (order : Order) (at message : ℕ) (root : Root)
+-- a decoder has then read the longer list, and these octets give no line
+pub record Gathered (C : Table) (T : Ty) (coding : Coding) (at message : ℕ) (root : Root)
     (new : Decoder) (s octets : List ℕ) : Type 0 where
-  pub takes : TakesRun C T order at message root new s octets progress.More
-  pub quiet : added_lines_of_run order T at s octets ≡ []
+  pub takes : TakesRun C T coding at message root new s octets progress.More
+  pub quiet : added_lines_of_run coding T at s octets ≡ []
 
--- the same of any list that the decoder before reads
+-- the same for any list that the decoder has read before
 abbrev pub AllGathered : Table → Decoder → Decoder → List ℕ → Type 0
-AllGathered C d new octets = (T : Ty) (order : Order) (at message : ℕ) (root : Root) (s : List ℕ) →
-    Reads C T order at message root d s → Gathered C T order at message root new s octets
+AllGathered C d new octets =
+    (T : Ty) (coding : Coding) (at message : ℕ) (root : Root) (s : List ℕ) →
+    Reads C T coding at message root d s → Gathered C T coding at message root new s octets
 
--- ---- the number that begins a part, or the octet of an encapsulation's byte order
+-- ---- the number that begins a part, or the octet with the byte order of an encapsulation
 
--- A step that such octets of a part of this type may do, of which nothing is held: what it leads to
--- and puts out are of the type, and it goes into no string but by its length.
+-- A step that the octets of a part of this type may make, if nothing of the part is held. Its
+-- transition and output fit the type, and it leads into a string only by the string's length.
 pub record IsStepBy (T : Ty) (of : ℕ) (step : Step) : Type 0 where
   pub transition_fits : TransitionFits T of step.transition [] []
   pub has_output : HasOutput T step.output
   pub output_fits_string : OutputFitsString T false step.transition step.output
   pub string_goes_on : (n : ℕ) → StringGoesOn T None step.transition step.output n
 
--- the same in each room
+-- the same in any room
 abbrev pub IsStep : Table → ℕ → Step → Type 0
 IsStep C of step = (room : ℕ) → IsStepBy (tree_at C (suc room) of) of step
 
--- the step that this number does, in each room
+-- the step that this number makes, in any room
 abbrev pub IsStepOf : Table → ℕ → ℕ → Step → Type 0
 IsStepOf C of n step =
     (room : ℕ) (coding : Coding) (path : List PathSegment) (at : ℕ) →
@@ -132,7 +132,7 @@ IsStepOf C of n step =
 
 -- ---- octets that are taken together
 
--- what is held after octets that only add to it
+-- what is held after octets that are only added to it
 abbrev pub Adds : Table → Decoder → Innermost → List ℕ → List ℕ → List ℕ → Type 0
 Adds C d (innermost.Number of) octets carry piece =
     AreHeld (leading_width (tree_in C d.outer.items of.0)) (coding_by d.order d.at d.outer.items).1
@@ -146,9 +146,9 @@ Adds C d (innermost.Content of total offset) octets carry piece =
     × (32 < total - offset → length piece < 32)
     × (total - offset ≤ 32 → length piece < total - offset + tail (tree_in C d.outer.items of.0))
 
--- So many octets stand at the head of these, and no encapsulation ends before the last of them. All
--- but the last only add to what is held, and the last does this step, where this much is kept: a
--- piece that it gives are the octets that are kept, and the rest.
+-- `count` octets at the front of these are taken together, and no encapsulation ends before the
+-- last of them. All but the last are only added to what is held. The last makes this step, in which
+-- `kept_carry` and `kept_piece` are kept. A piece has the octets that are kept, and then the rest.
 pub record TakenTogether (C : Table) (d : Decoder) (octets : List ℕ) (of : TypeId) (count : ℕ)
     (step : Step) (rest kept_carry kept_piece : List ℕ) : Type 0 where
   pub leaf : Innermost
@@ -158,11 +158,11 @@ pub record TakenTogether (C : Table) (d : Decoder) (octets : List ℕ) (of : Typ
   pub within : count ≤ length octets
   pub ahead : HaveOctetsLeft (ticked_by (count - 1) d.outer.items)
   pub short : length kept_piece + length rest ≤ 32
-  -- what is held before the last of them
+  -- what is held before the last of these octets
   pub carry : List ℕ
   pub piece : List ℕ
   pub adds : Adds C d leaf (take (count - 1) octets) carry piece
-  -- the step and the lines of the last
+  -- the step and the lines of the last octet
   pub transition_fits : TransitionFits (tree_in C d.outer.items of.0) of.0 step.transition
       kept_carry
       (still_held step.output kept_piece)
@@ -175,7 +175,7 @@ pub record TakenTogether (C : Table) (d : Decoder) (octets : List ℕ) (of : Typ
   pub lines : Coding → List PathSegment → ℕ → List Line
   pub comes : (coding : Coding) (path : List PathSegment) (here : ℕ) →
       coding.order ≡ (coding_by d.order d.at d.outer.items).0 →
-      (here - coding.origin) % 8 ≡ ((coding_by d.order d.at d.outer.items).1 + (count - 1)) % 8 →
+      coding.phase here % 8 ≡ ((coding_by d.order d.at d.outer.items).1 + (count - 1)) % 8 →
       leaf_step coding path (leaf_of C d.outer.items leaf carry piece) here
       (get_or octets (count - 1) 0)
       ≡ after_transition (tree_in C d.outer.items of.0) step.transition kept_carry
@@ -184,12 +184,13 @@ pub record TakenTogether (C : Table) (d : Decoder) (octets : List ℕ) (of : Typ
       IsOutput (tree_in C d.outer.items of.0) path (here + 1) step.output (kept_piece ++ rest)
       (lines coding path here)
 
--- a content comes next
+-- the innermost part is a content
 abbrev pub IsContent : Innermost → Type 0
 IsContent (innermost.Content of total offset) = Unit {0}
 IsContent leaf = ⊥
 
--- so many octets more leave a piece of a content in these frames incomplete, of which some are held
+-- n more octets leave the piece of a content within these frames incomplete, some of whose octets
+-- are held
 abbrev pub IsParted : Table → List Frame → Innermost → List ℕ → ℕ → Type 0
 IsParted C frames (innermost.Content of total offset) piece n =
     (32 < total - offset → length piece + n < 32)
@@ -197,7 +198,7 @@ IsParted C frames (innermost.Content of total offset) piece n =
 IsParted C frames leaf piece n = ⊥
 
 -- A decoder at octets that are taken together, and what it has become: it keeps what the last of
--- them leaves in the place of what was held.
+-- them leaves in place of what was held.
 pub record IsHeldOf (C : Table) (d now : Decoder) (octets : List ℕ) (of : TypeId) (count : ℕ)
     (step : Step) (rest : List ℕ) : Type 0 where
   pub fits : Fits C d

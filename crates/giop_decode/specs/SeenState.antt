@@ -1,7 +1,6 @@
--- What a decoder holds of the list of octets that it has taken, one field a clause, by a table as the
--- version of its message sees it (state).
+-- What a decoder holds of the octets that it has taken, one field a clause, with a table as
+-- messages of its version see it (state).
 use Rattle.std.specs.Prelude.{◌≡◌, ℕ, ◌+◌, ◌%◌, ◌<◌, ◌≤◌, Bool, true, false, cond, List, [], ◌∷◌, ◌++◌, length, drop, Option, Some, None, IfSome}
-use Rattle.giop_cdr.specs.declared.order.Order.{Order}
 use Rattle.giop_decode.specs.declared.decoder.Decoder.{Decoder}
 use Rattle.giop_decode.specs.declared.leaf.Leaf.{Leaf as Innermost}
 use Rattle.giop_decode.specs.declared.notes.Notes.{Notes}
@@ -11,7 +10,7 @@ use Rattle.giop_decode.specs.declared.notes.Last.{Last}
 use Rattle.giop_decode.specs.declared.notes.Last.TheVariants as lasts
 use Rattle.giop_decode.specs.declared.progress.Progress.{Progress}
 use Rattle.giop_decode.specs.declared.progress.Progress.TheVariants as progress
-use Rattle.giop_decode.specs.ReadResult.{plain, Line, Read, Done, Short, Fault, lines_of}
+use Rattle.giop_decode.specs.ReadResult.{Coding, IsEvenFrom, Line, Read, Done, Short, Fault, lines_of}
 use Rattle.giop_decode.specs.Reading.{reading}
 use Rattle.giop_decode.specs.Fits.{FitsIn}
 use Rattle.giop_decode.specs.NameBuffer.{FitsName, string_offset}
@@ -34,14 +33,14 @@ abbrev pub interface_of : Last → Option InterfaceId
 interface_of (lasts.Interface interface) = Some interface
 interface_of last = None
 
--- no octets of an object key
+-- the buffer has no octets of an object key
 abbrev pub HoldsNoKey : Buffer → Type 0
 HoldsNoKey buffers.Key = ⊥
 HoldsNoKey buffers.LongKey = ⊥
 HoldsNoKey buffer = Unit {0}
 
--- None but a header has a request id and an object key, whose interface is one of the table, and
--- which is held where that has KEYs.
+-- Only a header has a request id and an object key. The interface of the key is one of the table,
+-- and a key is held only if the table has KEYs.
 pub record AreOfRoot (C : Table) (root : Root) (m : Notes) : Type 0 where
   pub id : is_header_root root ≡ false → m.request_id ≡ None
   pub no_interface : is_header_root root ≡ false → interface_of m.last ≡ None
@@ -49,14 +48,18 @@ pub record AreOfRoot (C : Table) (root : Root) (m : Notes) : Type 0 where
   pub keyless : has_keys C ≡ false → HoldsNoKey m.buffer
   pub interface : IfSome (interface_of m.last) (λ i. i.0 < length C.interfaces.names)
 
--- ---- a decoder of a catalogue
+-- ---- a decoder for a catalogue
 
--- an offset that a decoder can be at, by its own offset modulo 8 and by its encapsulations
-abbrev pub CanStandAt : Decoder → ℕ → Type 0
-CanStandAt d here = (here % 8 ≡ d.at) × StandAt here d.outer.items
+-- An offset that a decoder may be at, by the coding of its octets: the offset's phase modulo 8 is
+-- the decoder's, no Fragment begins after it, and the encapsulations have begun before it.
+pub record CanStandAt (coding : Coding) (d : Decoder) (here : ℕ) : Type 0 where
+  pub order : d.order ≡ coding.order
+  pub phase : coding.phase here % 8 ≡ d.at
+  pub even : IsEvenFrom coding here
+  pub outer : StandAt here d.outer.items
 
--- A decoder that is neither done nor faulted: its frames name types of the table, each the part
--- that the one before is at.
+-- A decoder that is neither done nor at a fault: its frames have types of the table, each that of
+-- the part that the frame before is at.
 pub record Fits (C : Table) (d : Decoder) : Type 0 where
   pub leaf : Innermost
   pub goes_on : d.leaf ≡ Some leaf
@@ -65,9 +68,9 @@ pub record Fits (C : Table) (d : Decoder) : Type 0 where
   pub link : Link C root d.outer.items (leaf_type leaf)
   pub fit : IsFit 24 (tree C root)
   pub narrow : d.narrow ≡ C.narrow
-  -- an offset that it can be at
+  -- an offset that its encapsulations may be at
   pub here : ℕ
-  pub stands : CanStandAt d here
+  pub stands : StandAt here d.outer.items
   pub fits : FitsIn (tree C root) (open_parts C here d.outer.items)
       (leaf_of C d.outer.items leaf d.carry d.piece.items)
   pub ahead : HaveOctetsLeft d.outer.items
@@ -84,22 +87,22 @@ pub record Fits (C : Table) (d : Decoder) : Type 0 where
 abbrev pub IsDone : Decoder → Type 0
 IsDone d = d.leaf ≡ None
 
--- ---- a decoder of a list
+-- ---- a decoder that has read a list
 
--- the reading that a decoder's fields stand for, with these lines at this offset, by its innermost
--- part
+-- the reading that the fields of a decoder stand for, with this innermost part, and with these
+-- lines at this offset
 abbrev pub read_by_leaf : Table → Decoder → Option Innermost → List Line → ℕ → Read
 read_by_leaf C d None lines at = Done lines at []
 read_by_leaf C d (Some leaf) lines at =
     Short lines at (open_parts C at d.outer.items)
     (leaf_of C d.outer.items leaf d.carry d.piece.items)
 
--- the reading that a decoder's fields stand for, with these lines at this offset
+-- the reading that the fields of a decoder stand for, with these lines at this offset
 abbrev pub read_by_fields : Table → Decoder → List Line → ℕ → Read
 read_by_fields C d lines at = read_by_leaf C d d.leaf lines at
 
--- What the name buffer has: the last name, or the pieces of a string that hasn't ended, or those of
--- an object key, unless these are too many octets.
+-- What the name buffer has: the last name, the octets of a string that hasn't ended, or those of an
+-- object key; none if they are more than 128.
 abbrev pub IsHeld : Buffer → List ℕ → Option (List ℕ) → List ℕ → List ℕ → Type 0
 IsHeld buffers.Whole octets name so_far key_so_far =
     (name ≡ Some octets) × (so_far ≡ []) × (key_so_far ≡ [])
@@ -112,24 +115,24 @@ IsHeld buffers.Key octets name so_far key_so_far =
 IsHeld buffers.LongKey octets name so_far key_so_far =
     (name ≡ None) × (so_far ≡ []) × (octets ≡ []) × (128 < length key_so_far)
 
--- The octets that are held of an object key: none by a table without KEYs, in which no key has an
--- interface.
+-- The octets that are held of an object key: none if the table has no KEYs, as no key has an
+-- interface then.
 abbrev pub held_key : Table → List ℕ → List ℕ
 held_key C [] = []
 held_key C (x ∷ so_far) = cond (has_keys C) (x ∷ so_far) []
 
--- whose an object key is, by a table
+-- the interface of an object key in a table
 abbrev pub whose : Table → Option (List ℕ) → Option InterfaceId
 whose C None = None
 whose C (Some key) = interface_in C key
 
--- the same, where that is asked
+-- the same, if it is asked for
 abbrev pub IsWhose : Table → Bool → Option InterfaceId → Option (List ℕ) → Type 0
 IsWhose C true interface key = interface ≡ whose C key
 IsWhose C false interface key = Unit {0}
 
--- The notes have what was noted: request id, status, whether a reply is expected, whose the object
--- key is, where that is asked, and name or the pieces of one or of a key.
+-- The notes have what was noted: the request id, the status, whether a reply is expected, the
+-- interface of the object key if it is asked for, and the name or the octets of one or of a key.
 pub record HaveNoted (C : Table) (asked : Bool) (m : Notes) (h : Noted) : Type 0 where
   pub request_id : m.request_id ≡ h.request_id
   pub status : status_of m.last ≡ h.status
@@ -137,36 +140,36 @@ pub record HaveNoted (C : Table) (asked : Bool) (m : Notes) (h : Noted) : Type 0
   pub expects_reply : m.expects_reply ≡ h.expects_reply
   pub name : IsHeld m.buffer m.name.items h.name h.so_far (held_key C h.key_so_far)
 
--- the same by a table, whatever its version sees of it
+-- the same for a table, whichever version of messages sees it
 abbrev pub HoldsNoted : Table → Bool → Notes → Noted → Type 0
 HoldsNoted C asked m h = HaveNoted (seen false C) asked m h
 
--- the decoder's notes are those of a reading, whether that goes on, has ended or is faulted
+-- the notes of the decoder are those of a reading, whether it goes on, has ended or is at a fault
 abbrev pub KeepsNoted : Table → Root → Decoder → Read → Type 0
 KeepsNoted C root d r = HoldsNoted C true d.notes (noted_of (is_header_root root) r)
 
--- The decoder's fields are what reading the list has begun and not ended, and what is noted of it.
-pub record Reads (C : Table) (T : Ty) (order : Order) (at message : ℕ) (root : Root) (d : Decoder)
+-- The fields of the decoder are what reading the list has begun and not ended, and what is noted of
+-- it.
+pub record Reads (C : Table) (T : Ty) (coding : Coding) (at message : ℕ) (root : Root) (d : Decoder)
     (s : List ℕ) : Type 0 where
   pub lines : List Line
-  pub is : reading (plain order) [] T at s ≡ read_by_fields C d lines (at + length s)
-  pub keeps_noted : KeepsNoted C root d (reading (plain order) [] T at s)
+  pub is : reading coding [] T at s ≡ read_by_fields C d lines (at + length s)
+  pub keeps_noted : KeepsNoted C root d (reading coding [] T at s)
   pub narrow : d.narrow ≡ C.narrow
-  pub same_order : d.order ≡ order
   pub same_message : d.head.message ≡ message
   pub same_root : d.head.root ≡ root
-  pub offset : CanStandAt d (at + length s)
+  pub offset : CanStandAt coding d (at + length s)
 
--- ---- one octet more
+-- ---- one more octet
 
--- the lines that it gives
-abbrev pub added_lines : Order → Ty → ℕ → List ℕ → ℕ → List Line
-added_lines order T at s octet =
-    drop (length (lines_of (reading (plain order) [] T at s)))
-    (lines_of (reading (plain order) [] T at (s ++ octet ∷ [])))
+-- the lines of the octet
+abbrev pub added_lines : Coding → Ty → ℕ → List ℕ → ℕ → List Line
+added_lines coding T at s octet =
+    drop (length (lines_of (reading coding [] T at s)))
+    (lines_of (reading coding [] T at (s ++ octet ∷ [])))
 
--- The answer to the last octet of a list that ends at this offset, and whose last octet does or
--- doesn't end an operation: the value goes on, has ended at that octet, or is faulted there.
+-- The answer to the last octet of a list that ends at this offset: the value goes on, has ended at
+-- that octet, or is at a fault there. `named` says whether the octet ends an operation.
 abbrev pub IsAnswer : ℕ → Bool → Progress → Read → Type 0
 IsAnswer end named progress.More (Short lines at outer leaf) = named ≡ false
 IsAnswer end named progress.Named (Short lines at outer leaf) = named ≡ true
@@ -185,12 +188,12 @@ abbrev pub IsFault : Progress → Type 0
 IsFault (progress.Fault kind) = Unit {0}
 IsFault p = ⊥
 
--- A decoder that read a list gives this answer to one octet more: then it reads the longer list,
--- unless that is faulted.
-pub record Takes (C : Table) (T : Ty) (order : Order) (at message : ℕ) (root : Root) (d : Decoder)
+-- A decoder that has read a list gives this answer to one more octet. It has then read the longer
+-- list, unless there is a fault.
+pub record Takes (C : Table) (T : Ty) (coding : Coding) (at message : ℕ) (root : Root) (d : Decoder)
     (s : List ℕ) (octet : ℕ) (p : Progress) : Type 0 where
   pub answer : IsAnswer (at + length (s ++ octet ∷ []))
-      (names_operation (is_header_root root) (added_lines order T at s octet)) p
-      (reading (plain order) [] T at (s ++ octet ∷ []))
-  pub reads : (IsFault p → ⊥) → Reads C T order at message root d (s ++ octet ∷ [])
-  pub keeps_noted : KeepsNoted C root d (reading (plain order) [] T at (s ++ octet ∷ []))
+      (names_operation (is_header_root root) (added_lines coding T at s octet)) p
+      (reading coding [] T at (s ++ octet ∷ []))
+  pub reads : (IsFault p → ⊥) → Reads C T coding at message root d (s ++ octet ∷ [])
+  pub keeps_noted : KeepsNoted C root d (reading coding [] T at (s ++ octet ∷ []))

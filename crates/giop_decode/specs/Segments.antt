@@ -1,4 +1,4 @@
--- The path of the innermost part and its text, from the decoder's fields (steps).
+-- The path of the innermost part, and its text, from the fields of a decoder (steps).
 use Rattle.std.specs.Prelude.{ℕ, ◌<◌, List, [], ◌∷◌, ◌++◌, length, Option, Some, None}
 use Rattle.giop_decode.specs.declared.frame.Frame.{Frame}
 use Rattle.giop_decode.specs.declared.frame.Stage.{Stage}
@@ -17,23 +17,23 @@ abbrev pub IsSwitch : Table → Option TypeId → Type 0
 IsSwitch C None = Unit {0}
 IsSwitch C (Some of) = (of.0 < length C.types) × IsUnion (shape_in (tree C of.0))
 
--- the segment of a discriminator in these frames, where one is meant
+-- the segment of a discriminator within these frames, if one is meant
 abbrev pub end_segments : Table → List Frame → Option TypeId → List PathSegment
 end_segments C frames None = []
 end_segments C frames (Some of) = switch_segment (tree_in C frames of.0) ∷ []
 
--- and its text, which is the same in each room
+-- the text of that segment, which is the same in any room
 abbrev pub end_text : Table → Option TypeId → List ℕ
 end_text C None = []
 end_text C (Some of) = segment_text (switch_segment (tree C of.0))
 
--- which part of a frame of an any is being read: its type, in place 0, as long as that tells what
--- follows
+-- which part of an any's frame is being read: its type at place 0, as long as that tells what comes
+-- after it
 abbrev pub led_place : Option Stage → ℕ → ℕ
 led_place None i = i
 led_place (Some stage) i = 0
 
--- the text of a frame's segment; in what room and at which offset it stands makes no difference
+-- the text of a frame's segment; neither the room nor the offset of the frame makes a difference
 abbrev pub frame_text : Table → Frame → List ℕ
 frame_text C f = segment_text (segment_in (open_part C 24 0 f))
 
@@ -42,7 +42,7 @@ abbrev pub frames_text : Table → List Frame → List ℕ
 frames_text C [] = []
 frames_text C (f ∷ outer) = frame_text C f ++ frames_text C outer
 
--- where the innermost part stands, or its discriminator: its message and root, the frames around it,
+-- where the innermost part is, or its discriminator: the message and root, the frames around it,
 -- and the union whose discriminator is meant
 pub record PathView : Type 0 where
   pub table : Table
@@ -50,7 +50,7 @@ pub record PathView : Type 0 where
   pub frames : List Frame
   pub union : Option TypeId
 
--- the text of its path; at which offset the parts around it stand makes no difference
+-- the text of its path; the offset of the parts around it makes no difference
 abbrev pub current_path_text : PathView → List ℕ
 current_path_text h =
     path_text h.head.root

@@ -1,4 +1,4 @@
--- The text of a reading's lines, in a message and below a root (docs/FORMATS.md; meaning).
+-- The text of the lines of a reading, in a message and below a root (docs/FORMATS.md; meaning).
 use Rattle.std.specs.Prelude.{ℕ, List, [], ◌∷◌, ◌++◌, Option, Some, None, codes, decimal}
 use Rattle.giop_cdr.specs.Numbers.{interpreted_as}
 use Rattle.giop_cdr.specs.Primitives.{size_of}
@@ -13,7 +13,7 @@ use Rattle.giop_sig.specs.Kinds.{marked_word}
 use Rattle.giop_sig.specs.Names.{marked_name}
 use Rattle.giop_sig.specs.Types.{Plain, Enum, Marked, Text, OctetKind, Octets, Raw, WideText, WideChar, Encapsulation}
 
--- the text of a segment: a name after a point, or an index in brackets
+-- the text of a segment: a name after a dot, or an index in brackets
 abbrev pub segment_text : PathSegment → List ℕ
 segment_text (Name name) = name_segment name
 segment_text (Index i) = index_segment i
@@ -21,7 +21,7 @@ segment_text (Switch None) = name_segment (codes "switch")
 segment_text (Switch (Some name)) = name_segment name
 segment_text Held = []
 
--- the text of segments, one after the other
+-- the text of segments, one after another
 abbrev pub segments_text : List PathSegment → List ℕ
 segments_text [] = []
 segments_text (s ∷ ss) = segment_text s ++ segments_text ss
@@ -30,24 +30,25 @@ segments_text (s ∷ ss) = segment_text s ++ segments_text ss
 unfoldable pub path_text : Root → List PathSegment → List ℕ
 path_text root path = root_word root ++ segments_text path
 
--- the words of a number that is a value of its primitive
+-- the words of a number that is a value of its primitive type
 abbrev pub number_words : Primitive → Option Taken → List (List ℕ)
 number_words p None = []
 number_words p (Some number) = spaced (kind_word p) ∷ number_text (size_of p) number ∷ []
 
--- the words of a number with a mark: a kind has a word, and another number may have a name after it
+-- the words of a number with a mark: a kind has a word, and any other number may have a name after
+-- it
 abbrev pub marked_words : Option (List ℕ) → Option (List ℕ) → ℕ → List (List ℕ)
 marked_words (Some word) name n = codes " enum " ∷ word ∷ []
 marked_words None (Some name) n = codes " ulong " ∷ decimal n ∷ codes " " ∷ name ∷ []
 marked_words None None n = codes " ulong " ∷ decimal n ∷ []
 
--- the word of a piece of octets of a kind
+-- the word of a piece of counted octets
 abbrev pub octets_word : OctetKind → List ℕ
 octets_word (Raw bound) = codes " octets @"
 octets_word WideText = codes " wstring @"
 octets_word WideChar = codes " wchar @"
 
--- the words of a value's line after its path
+-- the words of a value's line, after its path
 abbrev pub value_words : Value → List (List ℕ)
 value_words (Number (Plain p) n) = number_words p (interpreted_as p n)
 value_words (Number (Enum count names) n) = codes " enum " ∷ names n ∷ []
@@ -63,16 +64,16 @@ value_words (Size n) = codes " encapsulation " ∷ decimal n ∷ []
 value_words (Ordered order) = codes " order " ∷ order_word order ∷ []
 value_words value = []
 
--- the line of a value at a path, in the message of this number
+-- the line of a value at a path, in the message with this number
 abbrev pub value_text : ℕ → List ℕ → Value → List ℕ
 value_text message path value =
     joined (codes "m" ∷ decimal message ∷ codes " " ∷ path ∷ (value_words value ++ codes "\n" ∷ []))
 
--- the line of a value, in the message of this number and below a root
+-- the line of a value, in the message with this number and below a root
 abbrev pub line_text : ℕ → Root → Line → List ℕ
 line_text message root l = value_text message (path_text root l.path) l.value
 
--- the text of lines, one after the other
+-- the text of lines, one after another
 unfoldable pub lines_text : ℕ → Root → List Line → List ℕ
 lines_text message root [] = []
 lines_text message root (l ∷ ls) = line_text message root l ++ lines_text message root ls

@@ -5,30 +5,32 @@
 --      0       1  byte order: 0 big, 1 little
 --      1       1  root: 0 header, 1 repository id, 2 body
 --      2       8  number of its message
---     10       1  offset of its next octet in the message, modulo 8
--- 11 1 innermost part: 0 the number that begins it, 1 its content, 2 the octet with an
--- encapsulation's byte order
+--     10       1  phase of its next octet, modulo 8
+--     11       1  innermost part: 0 the number that begins it, 1 its content, 2 the octet with the
+--                 byte order of an encapsulation
 --     12       4  its type
---     16       4  octets of the content, or of the encapsulation; 0 in a number
+--     16       4  how many octets the content or the encapsulation has; 0 in a number
 --     20       4  where in the content the unfinished piece begins; else 0
 --     24       9  the octets held of a number: how many, and room for 8; none in a content
 --     33      33  the octets held of a piece: how many, and room for 32; none in a number
---     66       5  whether a header's request id was read, 0 or 1, and the id
---     71       5  1 and the number of the last enum, 2 and that of the interface of a header's object
---                 key, or 0
---     76       1  the name buffer: 0 has begun, 1 has a whole name, 2 is too short for its string,
---                 3 has an object key that has begun, 4 is too short for that
---     77     129  the octets in it: how many, and room for 128; none where it is too short
+--     66       5  whether the request id of a header was read, 0 or 1, and the id
+--     71       5  1 and the number of the last enum; or 2 and that of the interface of a header's
+--                 object key; or 0
+--     76       1  the name buffer: 0 it has the front of a string, 1 it has a whole name, 2 it is
+--                 too short for its string, 3 it has the front of an object key, 4 it is too short
+--                 for that
+--     77     129  the octets in it: how many, and room for 128; none if it is too short
 --    206       1  whether a header expects a reply: 0 not read, 1 no, 2 yes
---    207       1  1 if there is no room for wide text, or 0
+--    207       1  1 if anys and recursive sequences can't hold wide text, or 0
 --
--- and a frame of 24 octets for each part that is begun and not ended, the outermost first: its
--- type, the index of its own part that is being read, how many it has (0 in a union), and 12 zeros.
--- Of an encapsulation whose byte order was read the index is how many of its octets were taken and
--- the count how many it has, and the first of the zeros is 1 for big or 2 for little. Of one whose
--- first part tells what follows it the second of the zeros is the stage of what was told, and the
--- index the number that belongs to that. The last frame is the innermost part's: its type and zeros.
--- Numbers are big-endian; held octets are followed by zeros.
+-- After that there is a frame of 24 octets for each part that has begun and not ended, the
+-- outermost first: its type, the index of its own part that is being read, how many parts it has (0
+-- in a union), and 12 zeros. For an encapsulation whose byte order was read, the index is how many
+-- of its octets were taken, the count is how many it has, and the first of the zeros is 1 for big
+-- or 2 for little. For a type whose first part tells what comes after it, while that part is read,
+-- the second of the zeros is the stage of what was told, and the index is the number that belongs
+-- to the stage. The last frame is that of the innermost part: its type and zeros. Numbers are
+-- big-endian. Zeros come after held octets.
 use Rattle.std.specs.Prelude.{◌≡◌, ℕ, ◌+◌, ◌^◌, ◌<◌, ◌≤◌, Bool, true, false, List, [], ◌∷◌, ◌++◌, length, replicate, Option, Some, None, IfSome}
 use Rattle.std.specs.List.{flat_map, AllByRecursion}
 use Rattle.giop_cdr.specs.declared.order.Order.{Order}
@@ -78,13 +80,13 @@ buffer_octet buffers.TooLong = 2
 buffer_octet buffers.Key = 3
 buffer_octet buffers.LongKey = 4
 
--- none, the number of an enum, or that of an interface
+-- nothing, the number of an enum, or that of an interface
 abbrev pub last_octets : Last → List ℕ
 last_octets lasts.Nothing = 0 ∷ four 0
 last_octets (lasts.Status n) = 1 ∷ four n
 last_octets (lasts.Interface i) = 2 ∷ four i.0
 
--- what is kept of a name: nothing where the buffer is too short
+-- what is kept of a name: nothing if the buffer is too short
 abbrev pub kept_name : Buffer → List ℕ → List ℕ
 kept_name buffers.TooLong name = []
 kept_name buffers.Begun name = name
@@ -105,7 +107,7 @@ notes_octets m =
     optional m.request_id ++ last_octets m.last
     ++ buffer_octet m.buffer ∷ name_octets m ++ expects_octet m.expects_reply ∷ []
 
--- of a decoder whose innermost part this is
+-- the octets of a decoder with this innermost part
 unfoldable pub fixed_octets : Decoder → Innermost → List ℕ
 fixed_octets d leaf =
     order_octet d.order ∷ root_octet d.head.root ∷ eight d.head.message ++ d.at ∷ leaf_octets leaf
@@ -115,12 +117,12 @@ fixed_octets d leaf =
 abbrev pub frame_size : ℕ
 frame_size = FRAME_SIZE
 
--- of a frame's own byte order: none, big or little
+-- the octet for the byte order of a frame: none, big or little
 abbrev pub inside_octet : Option Order → ℕ
 inside_octet None = 0
 inside_octet (Some order) = 1 + order_octet order
 
--- of what was told in a frame: none, or its stage
+-- the octet for what was told in a frame: none, or its stage
 abbrev pub told_octet : Option Stage → ℕ
 told_octet None = 0
 told_octet (Some stages.Untold) = 1
@@ -130,7 +132,7 @@ told_octet (Some stages.Is) = 4
 told_octet (Some stages.Empty) = 5
 told_octet (Some stages.Unknown) = 6
 
--- the octets of a frame, of which 10 have no use
+-- the octets of a frame, 10 of which have no use
 abbrev pub frame_octets : Frame → List ℕ
 frame_octets f =
     four f.of.0 ++ four f.index ++ four f.count
@@ -139,7 +141,7 @@ frame_octets f =
 abbrev pub frames_octets : List Frame → List ℕ
 frames_octets frames = flat_map frame_octets frames
 
--- the innermost part's frame
+-- the frame of the innermost part
 abbrev pub own_frame : Innermost → Frame
 own_frame leaf = record {
   of = type_id (leaf_type leaf);

@@ -19,10 +19,10 @@ use Rattle.giop_decode.specs.ReadResult.{PathSegment, Switch, Number, Count, Siz
 use Rattle.giop_decode.specs.Pieces.{Block, Partial, Complete}
 use Rattle.giop_decode.specs.Reading.{cut_off, enclosed, none_left, wrong}
 use Rattle.giop_decode.specs.Begins.{start_outer, start_leaf}
-use Rattle.giop_decode.specs.Fits.{HasParts, HasCase, HasContent, IsEncapsulation, IsLed}
+use Rattle.giop_decode.specs.Fits.{HasParts, HasCase, HasContent, IsEncapsulation, IsLed, IsRecursive}
 use Rattle.giop_sig.specs.declared.types.Shape.{Shape}
 use Rattle.giop_sig.specs.declared.types.Shape.TheVariants as shapes
-use Rattle.giop_sig.specs.Types.{tag_of, Scalar, width, interpreted_by, Ty, Single, Struct, Union, Array, Led, part_of, switch_of, shape_in, HasPlace, IsUnion}
+use Rattle.giop_sig.specs.Types.{tag_of, Scalar, width, interpreted_by, elements_fit, Ty, Single, Struct, Union, Array, Led, part_of, switch_of, shape_in, HasPlace, IsUnion}
 use Rattle.giop_decode.specs.declared.frame.Within.{Within}
 use Rattle.giop_decode.specs.declared.frame.Within.TheVariants as withins
 use Rattle.giop_decode.specs.declared.frame.Stage.{Stage}
@@ -43,13 +43,13 @@ part_in (Union choice scalar select names cases) i count =
 part_in (Led h F parts) i count = Member (Led h F parts) i
 part_in T i count = Part T i count
 
--- Of an encapsulation the index is how many of its octets stand in front of this offset, and the
--- count how many it has.
+-- In an encapsulation the index is how many of its octets come before this offset, and the count is
+-- how many it has.
 abbrev pub open_part_in : ℕ → Option Order → Ty → ℕ → ℕ → OpenPart
 open_part_in here None T i count = part_in T i count
 open_part_in here (Some order) T i count = Inside T (coded order (here - i)) (here + (count - i))
 
--- what was told, by its stage and the number that belongs to that
+-- what was told, from its stage and the number that belongs to the stage
 abbrev pub signal_by : Stage → ℕ → Signal
 signal_by stages.Untold n = signals.Untold
 signal_by stages.Awaits n = signals.Awaits n
@@ -72,30 +72,31 @@ number_of (signals.Offers n) = n
 number_of (signals.Is n) = n
 number_of signal = 0
 
--- Where its first part tells what follows, that is being read, and has told so much.
+-- If a type's first part tells what comes after it and is being read, the stage and the index say
+-- what it has told.
 abbrev pub part_as : Option Stage → ℕ → Option Order → Ty → ℕ → ℕ → OpenPart
 part_as None here inside T i count = open_part_in here inside T i count
 part_as (Some stage) here inside T i count = Telling T (told_of (signal_by stage i))
 
--- the open part that a frame of a table stands for, in so much room, at an offset
+-- the open part that a frame stands for, in a room and at an offset
 abbrev pub open_part : Table → ℕ → ℕ → Frame → OpenPart
 open_part C room here f = part_as f.told here f.inside (tree_at C room f.of.0) f.index f.count
 
--- the open parts of frames, the outermost first: each leaves one level less room
+-- the open parts that frames stand for, the outermost first; each leaves one level of room less
 abbrev pub parts_in_room : Table → ℕ → ℕ → List Frame → List OpenPart
 parts_in_room C room here [] = []
 parts_in_room C room here (f ∷ frames) =
     open_part C room here f ∷ parts_in_room C (pred room) here frames
 
--- the same in the room of a whole
+-- the same in the room of a whole value
 abbrev pub open_parts : Table → ℕ → List Frame → List OpenPart
 open_parts C here frames = parts_in_room C 24 here frames
 
--- the tree of a type that stands in these frames, in the room that they leave
+-- the tree of a type within these frames, in the room that they leave
 abbrev pub tree_in : Table → List Frame → ℕ → Ty
 tree_in C frames of = tree_at C (24 - length frames) of
 
--- a shape of which one part is read, whose frames have no count
+-- a shape of which one part is read, so that its frames have no count
 abbrev pub IsUncounted : Shape → Type 0
 IsUncounted (shapes.Union count) = Unit {0}
 IsUncounted shapes.Tagged = Unit {0}
@@ -108,12 +109,12 @@ IsWithin None i count T = HasPlace (shape_in T) i × (IsEncapsulation T → ⊥)
     × (IsUncounted (shape_in T) → count ≡ 0)
 IsWithin (Some order) i count T = IsEncapsulation T × (0 < i) × (i ≤ count)
 
--- and of a type whose first part tells what follows
+-- the same, or of a type whose first part tells what comes after it
 abbrev pub IsWithinAs : Option Stage → Option Order → ℕ → ℕ → Ty → Type 0
 IsWithinAs None inside i count T = IsWithin inside i count T
 IsWithinAs (Some stage) inside i count T = IsLed T × (inside ≡ None) × (count ≡ 0)
 
--- a frame of a type of the table, which has a part of that index, in each room; a union's has no
+-- a frame of a type of the table, which has a part with that index in any room; a union has no
 -- count
 pub record IsKnown (C : Table) (f : Frame) : Type 0 where
   pub known : f.of.0 < length C.types
@@ -123,27 +124,29 @@ pub record IsKnown (C : Table) (f : Frame) : Type 0 where
 abbrev pub AreKnown : Table → List Frame → Type 0
 AreKnown C frames = AllByRecursion (IsKnown C) frames
 
--- some octet of an encapsulation is to come
+-- an encapsulation has octets to come
 abbrev pub HasOctetsLeft : Frame → Type 0
 HasOctetsLeft f = IfSome f.inside (λ order. f.index < f.count)
 
 abbrev pub HaveOctetsLeft : List Frame → Type 0
 HaveOctetsLeft frames = AllByRecursion HasOctetsLeft frames
 
--- an offset that a frame can be at: so many octets of an encapsulation are in front of it
+-- an offset that a frame may be at: it is no less than the number of octets that were taken of an
+-- encapsulation
 abbrev pub StandsAt : ℕ → Frame → Type 0
 StandsAt here f = IfSome f.inside (λ order. f.index ≤ here)
 
 abbrev pub StandAt : ℕ → List Frame → Type 0
 StandAt here frames = AllByRecursion (StandsAt here) frames
 
--- which part is being read: an encapsulation has one, and one that tells what follows is the first
+-- which part is being read: an encapsulation has one, and a part that tells what comes after it is
+-- the first
 abbrev pub part_index : Option Stage → Option Order → ℕ → ℕ
 part_index None None i = i
 part_index None (Some order) i = 0
 part_index (Some stage) inside i = 0
 
--- each frame is of the part that the one before is at, from the root, which is in so much room, to
+-- each frame is for the part that the one before it is at, from the root, which has this room, to
 -- the innermost part
 abbrev pub LinkIn : Table → ℕ → ℕ → List Frame → ℕ → Type 0
 LinkIn C room root [] inner = inner ≡ root
@@ -151,11 +154,12 @@ LinkIn C room root (f ∷ frames) inner = (f.of.0 ≡ root)
     × LinkIn C (pred room)
     (part_number_in C (pred room) root (part_index f.told f.inside f.index)) frames inner
 
--- the same in the room of a whole
+-- the same in the room of a whole value
 abbrev pub Link : Table → ℕ → List Frame → ℕ → Type 0
 Link C root frames inner = LinkIn C 24 root frames inner
 
--- a type that begins with its first part: how many it has, or that this one tells what follows
+-- a type that begins with its first part: how many parts it has, or that the first one tells what
+-- comes after it
 abbrev pub IsWhole : Ty → ℕ → Option Stage → Type 0
 IsWhole (Struct n names parts) count told = (count ≡ n) × (told ≡ None)
 IsWhole (Array n T) count told = (count ≡ n) × (told ≡ None)
@@ -170,17 +174,17 @@ leaf_by T (innermost.Number of) carry piece = LeadingNumber T carry
 leaf_by T (innermost.Opening of count) carry piece = Opening T (count - 1)
 leaf_by T (innermost.Content of total offset) carry piece = Content T total offset piece
 
--- the number of the type of an innermost part
+-- the number of the innermost part's type
 abbrev pub leaf_type : Innermost → ℕ
 leaf_type (innermost.Number of) = of.0
 leaf_type (innermost.Opening of left) = of.0
 leaf_type (innermost.Content of total offset) = of.0
 
--- the same in these frames of a table
+-- the same within these frames
 abbrev pub leaf_of : Table → List Frame → Innermost → List ℕ → List ℕ → Leaf
 leaf_of C frames leaf carry piece = leaf_by (tree_in C frames (leaf_type leaf)) leaf carry piece
 
--- what is held for neither a number nor a content is cleared
+-- what is held is empty, apart from the octets of a number or of a content
 abbrev pub IsClean : Innermost → List ℕ → List ℕ → Type 0
 IsClean (innermost.Number of) carry piece = piece ≡ []
 IsClean (innermost.Opening of count) carry piece = (carry ≡ []) × (piece ≡ []) × (0 < count)
@@ -200,14 +204,15 @@ abbrev pub is_some_stage : Option Stage → Bool
 is_some_stage None = false
 is_some_stage (Some stage) = true
 
--- some of these is an encapsulation, and tells what follows it
+-- whether one of the frames is that of an encapsulation, and whether one's first part tells what
+-- comes after it
 abbrev pub holds_one : List Frame → Bool
 holds_one frames = list_any (λ f. is_some_order f.inside) frames
 
 abbrev pub tells_one : List Frame → Bool
 tells_one frames = list_any (λ f. is_some_stage f.told) frames
 
--- what they ask of each octet
+-- what the frames ask of each octet
 abbrev pub within_by : Bool → Bool → Within
 within_by true holds = withins.Telling
 within_by false true = withins.Encapsulation
@@ -216,7 +221,8 @@ within_by false false = withins.Nothing
 abbrev pub is_inside : List Frame → Within
 is_inside frames = within_by (tells_one frames) (holds_one frames)
 
--- and what they do when one more tells what follows, or is an encapsulation
+-- what the frames ask of each octet after one more that tells what comes after it, and after one
+-- more encapsulation
 abbrev pub within_more : Bool → Within → Within
 within_more true within = withins.Telling
 within_more false within = within
@@ -245,7 +251,7 @@ tick_of f = record {
   told = f.told;
 }
 
--- an octet more in each encapsulation
+-- one more octet in each encapsulation
 abbrev pub ticked : List Frame → List Frame
 ticked frames = map tick_of frames
 
@@ -262,11 +268,11 @@ tick_by_of n f = record {
   told = f.told;
 }
 
--- so many octets more in each encapsulation
+-- n more octets in each encapsulation
 abbrev pub ticked_by : ℕ → List Frame → List Frame
 ticked_by n frames = map (tick_by_of n) frames
 
--- what a frame tells after a sign, and the number that belongs to that
+-- what a frame has told after a sign, and the number that belongs to that
 abbrev pub stage_after : Table → Sign → ℕ → Option Stage → ℕ → Option Stage
 stage_after C sign of None i = None
 stage_after C sign of (Some stage) i = Some (stage_of (signal_after C of (signal_by stage i) sign))
@@ -284,7 +290,7 @@ hear_of C sign f = record {
   told = stage_after C sign f.of.0 f.told f.index;
 }
 
--- a sign in each frame that tells what follows it
+-- the frames after a sign, which each hears whose first part tells what comes after it
 abbrev pub frames_after : Table → Sign → List Frame → List Frame
 frames_after C sign frames = map (hear_of C sign) frames
 
@@ -292,7 +298,7 @@ abbrev pub coding_of : Order × ℕ → Option Order → ℕ → Order × ℕ
 coding_of c None i = c
 coding_of c (Some order) i = (order, i % 8)
 
--- the byte order of the innermost part, and the offset, modulo 8, by which its numbers are aligned
+-- the byte order of the innermost part, and the phase modulo 8 by which its numbers are aligned
 abbrev pub coding_by : Order → ℕ → List Frame → Order × ℕ
 coding_by order at [] = (order, at)
 coding_by order at (f ∷ frames) = (let c = coding_of (order, at) f.inside f.index in
@@ -302,18 +308,25 @@ coding_by order at (f ∷ frames) = (let c = coding_of (order, at) f.inside f.in
 abbrev pub has_ended : List Frame → Bool
 has_ended frames = list_any (λ f. ended_at f.inside f.index f.count) frames
 
--- an innermost part that goes on in these frames, unless one of them has ended
+-- an innermost part that goes on within these frames, unless one of them has ended
 abbrev pub gone_to : Table → List Line → ℕ → List Frame → Leaf → Read
 gone_to C lines at frames leaf =
     cond (has_ended frames) (Fault lines at kinds.EncapShort (cut_off leaf))
     (Short lines at (open_parts C at frames) leaf)
 
--- the reading after a part has ended, at this offset, by the innermost part that comes next
+-- the reading after a part has ended at this offset, from the innermost part that comes next
 abbrev pub gone_on : Table → ℕ → List Frame → Option Innermost → Read
 gone_on C at outer None = Done [] at []
 gone_on C at outer (Some leaf) = gone_to C [] at outer (leaf_of C outer leaf [] [])
 
 -- ---- transitions
+
+-- the reading after the count of a recursive sequence's elements, which is at least 1; they may
+-- have room or not
+abbrev pub recursed : Ty → Bool → ℕ → List Line → ℕ → Read
+recursed T true count lines at =
+    Short lines at (Part T 0 count ∷ start_outer (part_of T 0)) (start_leaf (part_of T 0))
+recursed T false count lines at = Fault lines at kinds.Untyped T
 
 -- the reading of an innermost part after a transition, with these lines at this offset
 abbrev pub after_transition : Ty → Transition → List ℕ → List ℕ → List Line → ℕ → Read
@@ -322,6 +335,9 @@ after_transition T (transitions.More leaf) carry piece lines at =
 after_transition T transitions.Ended carry piece lines at = Done lines at []
 after_transition T (transitions.Opened count) carry piece lines at =
     Short lines at (Part T 0 count ∷ start_outer (part_of T 0)) (start_leaf (part_of T 0))
+after_transition T (transitions.Recursed count) carry piece lines at =
+    recursed T (elements_fit T) count lines at
+after_transition T transitions.Stopped carry piece lines at = Fault lines at kinds.Untyped T
 after_transition T (transitions.Selected i) carry piece lines at =
     Short lines at (Member T i ∷ start_outer (part_of T i)) (start_leaf (part_of T i))
 after_transition T (transitions.Entered order count) carry piece lines at =
@@ -329,11 +345,23 @@ after_transition T (transitions.Entered order count) carry piece lines at =
     (Short lines at (start_outer (part_of T 0)) (start_leaf (part_of T 0))) []
 after_transition T (transitions.Refused kind) carry piece lines at = Fault lines at kind T
 
--- parts follow only where there are some, and an innermost part that goes on is of the same type
+-- what a transition does, if the elements of a recursive sequence have room or not
+abbrev pub settled_by : Transition → Bool → Transition
+settled_by (transitions.Recursed count) true = transitions.Opened count
+settled_by (transitions.Recursed count) false = transitions.Stopped
+settled_by transition fits = transition
+
+-- a transition for which this is known
+abbrev pub IsSettled : Transition → Type 0
+IsSettled (transitions.Recursed count) = ⊥
+IsSettled transition = Unit {0}
+
+-- parts come only if there are some, and an innermost part that goes on has the same type
 abbrev pub TransitionFits : Ty → ℕ → Transition → List ℕ → List ℕ → Type 0
 TransitionFits T of (transitions.More leaf) carry piece =
     (leaf_type leaf ≡ of) × IsClean leaf carry piece
 TransitionFits T of (transitions.Opened count) carry piece = HasParts T count × (0 < count)
+TransitionFits T of (transitions.Recursed count) carry piece = IsRecursive T × (0 < count)
 TransitionFits T of (transitions.Selected i) carry piece = HasCase T i
 TransitionFits T of (transitions.Entered order count) carry piece = IsEncapsulation T × (0 < count)
 TransitionFits T of (transitions.Refused kind) carry piece = IsRule kind
@@ -356,7 +384,8 @@ tag_in T = None
 abbrev pub switch_segment : Ty → PathSegment
 switch_segment T = Switch (tag_in T)
 
--- the line that an octet gives, if any, where a piece has these octets, held ones and those ahead
+-- the line of an octet, if it has one; a piece has these octets, those that are held and those
+-- ahead
 abbrev pub IsOutput : Ty → List PathSegment → ℕ → Output → List ℕ → List Line → Type 0
 IsOutput T path at outputs.Nothing piece lines = lines ≡ []
 IsOutput T path at outputs.Length piece lines = lines ≡ []
@@ -371,20 +400,20 @@ IsOutput T path at (outputs.Ordered order) piece lines = lines ≡ line at path 
 IsOutput T path at (outputs.Piece offset more) piece lines =
     lines ≡ line at path (Piece T offset piece more) ∷ []
 
--- what is held of a piece after that line: a piece that is written is no longer held
+-- what is held of a piece after that line: a piece that was written is no longer held
 abbrev pub still_held : Output → List ℕ → List ℕ
 still_held (outputs.Piece offset more) piece = []
 still_held output piece = piece
 
--- which outputs a type can have
+-- which outputs a type may have
 abbrev pub HasOutput : Ty → Output → Type 0
 HasOutput T (outputs.Number number) = IsNumberOf T number
 HasOutput T (outputs.Switch number) = IsUnion (shape_in T) × IsNumberOf (switch_of T) number
 HasOutput T (outputs.Piece offset more) = HasContent T
 HasOutput T output = Unit {0}
 
--- the reading is that after this transition, with the line of this output, where these octets are
--- held until it is written
+-- the reading is that after this transition, with the line of this output; these octets are held
+-- until the line is written
 pub record TransitionGives (T : Ty) (transition : Transition) (output : Output)
     (carry piece : List ℕ)
     (path : List PathSegment) (at : ℕ) (read : Read) : Type 0 where
@@ -392,41 +421,41 @@ pub record TransitionGives (T : Ty) (transition : Transition) (output : Output)
   pub comes : read ≡ after_transition T transition carry (still_held output piece) lines at
   pub says : IsOutput T path at output piece lines
 
--- too great, where there is a bound
+-- what is wrong if a bound is exceeded
 abbrev pub over_by : Bool → Option Kind
 over_by true = Some kinds.Bound
 over_by false = None
 
--- a kind without a word
+-- what is wrong if a kind has no word
 abbrev pub unnamed_by : Bool → Option Kind
 unnamed_by true = Some kinds.Enum
 unnamed_by false = None
 
--- octets held: all of a block, or a part of it
+-- the octets of a block, all of them or a part
 abbrev pub block_of : Bool → List ℕ → ℕ → Block
 block_of true held at = Complete held at []
 block_of false held at = Partial held at
 
--- So many octets at the head of others, the first of which is at this offset modulo 8, are of a number
--- of this width, of which some are held, or of the padding before it: all up to the last of them are
--- held until that comes, with which the number is whole or isn't.
+-- `count` octets at the front of others, the first of which has this phase modulo 8, belong to a
+-- number of this width, some of whose octets are held, or to the padding before it. They are held
+-- until the last of them comes, after which the number is whole or not.
 pub record NumberStands (width at : ℕ) (carry octets : List ℕ) (count : ℕ) (whole : Bool)
     (all : List ℕ) : Type 0 where
   pub some : 0 < count
   pub within : count ≤ length octets
   pub held : List ℕ
   pub are_held : AreHeld width at carry (take (count - 1) octets) held
-  pub last : (origin here : ℕ) → (here - origin) % 8 ≡ (at + (count - 1)) % 8 →
-      number_step origin width here held (get_or octets (count - 1) 0)
+  pub last : (phase : ℕ → ℕ) (here : ℕ) → phase here % 8 ≡ (at + (count - 1)) % 8 →
+      number_step phase width here held (get_or octets (count - 1) 0)
       ≡ block_of whole all (here + 1)
 
--- a number of four octets, which stand whole so
+-- a number of four octets, all of which come at the front of these
 pub record IsWholeLong (order : Order) (at : ℕ) (octets : List ℕ) (count n : ℕ) : Type 0 where
   pub all : List ℕ
   pub stands : NumberStands 4 at [] octets count true all
   pub spelled : n ≡ num order all
 
--- a number of a type, whose octets stand whole so
+-- a number of a type, all of whose octets come at the front of these
 pub record IsWholeNumber (T : Ty) (order : Order) (at : ℕ) (octets : List ℕ) (count : ℕ)
     (number : Taken) : Type 0 where
   pub all : List ℕ

@@ -43,15 +43,15 @@ impl Decoder {
             )
     }
 
-    /// Whether what the parts ask of each octet is known.
+    /// Whether `inside` is what the parts ask of each octet.
     fn knows_inside(&self) -> bool
         ensures { IsTrue result ↔ self.now.inside ≡ is_inside self.now.outer.items }
     {
         self.inside == is_inside(Within::Telling, self.outer.as_slice())
     }
 
-    /// Whether the parts are each of that which the one before is at, from this type to the innermost part, and what is
-    /// held of that fits it.
+    /// Whether each part is the one that the part before it is at, from this type to the innermost
+    /// part, and whether what is held fits the innermost part.
     fn parts_fit(&self, catalogue: &SeenCatalogue<'_>, root: TypeId, leaf: Leaf) -> bool
         requires root { root.0 < length catalogue.now.types }
         requires leaf { leaf_type leaf < length catalogue.now.types }
@@ -65,7 +65,7 @@ impl Decoder {
     }
 }
 
-/// The outermost part's type.
+/// The type of the outermost part.
 fn root_of(frames: &[Frame], leaf: Leaf) -> TypeId
     ensures { result.0 ≡ root_of frames.now leaf }
 {
@@ -75,8 +75,8 @@ fn root_of(frames: &[Frame], leaf: Leaf) -> TypeId
     }
 }
 
-/// Whether each frame is of the part that the one before is at, from this type, which is in so much room, to the innermost
-/// part.
+/// Whether each frame is for the part that the one before it is at, from this type to the innermost
+/// part. The type has this room.
 fn follow(catalogue: &SeenCatalogue<'_>, room: u8, of: TypeId, frames: &[Frame], leaf: Leaf) -> bool
     requires known { of.0 < length catalogue.now.types }
     requires room { length frames.now < room }
@@ -98,7 +98,7 @@ fn follow(catalogue: &SeenCatalogue<'_>, room: u8, of: TypeId, frames: &[Frame],
     }
 }
 
-/// Whether a frame is of a type, whose parts have so much room, and can be.
+/// Whether a frame is for this type and can be. `left` is the room of the type's parts.
 fn is_frame_of(catalogue: &SeenCatalogue<'_>, left: u8, of: TypeId, frame: Frame) -> bool
     requires { of.0 < length catalogue.now.types }
     ensures { IsTrue result ↔ (frame.of.0 ≡ of.0)
@@ -108,8 +108,9 @@ fn is_frame_of(catalogue: &SeenCatalogue<'_>, left: u8, of: TypeId, frame: Frame
     frame.of == of && has_frame(catalogue, left, of, frame)
 }
 
-/// Whether a frame can be of a type: of a part of its own, of an encapsulation of which octets are to come, or of a first
-/// part that tells what follows it. Its parts have so much room.
+/// Whether a frame can be for a type: for one of its parts, for an encapsulation some of whose
+/// octets are to come, or for a first part that tells what comes after it. `left` is the room of
+/// the type's parts.
 fn has_frame(catalogue: &SeenCatalogue<'_>, left: u8, of: TypeId, frame: Frame) -> bool
     requires { of.0 < length catalogue.now.types }
     ensures { IsTrue result
@@ -122,7 +123,7 @@ fn has_frame(catalogue: &SeenCatalogue<'_>, left: u8, of: TypeId, frame: Frame) 
     }
 }
 
-/// The same of a frame that tells nothing.
+/// The same for a frame that has told nothing.
 fn has_own_frame(catalogue: &SeenCatalogue<'_>, left: u8, of: TypeId, frame: Frame) -> bool
     requires { of.0 < length catalogue.now.types }
     ensures { IsTrue result
@@ -137,7 +138,8 @@ fn has_own_frame(catalogue: &SeenCatalogue<'_>, left: u8, of: TypeId, frame: Fra
     }
 }
 
-/// Which part of a frame's type is being read: an encapsulation has one, and one that tells what follows is the first.
+/// Which part of a frame's type is being read. An encapsulation has one part, and a part that tells
+/// what comes after it is the first.
 fn part_index(frame: Frame) -> u32
     ensures { result ≡ part_index frame.told frame.inside frame.index }
 {
@@ -147,7 +149,7 @@ fn part_index(frame: Frame) -> u32
     }
 }
 
-/// Whether a type begins with a part that tells what follows it.
+/// Whether a type begins with a part that tells what comes after it.
 fn is_led(catalogue: &SeenCatalogue<'_>, of: TypeId) -> bool
     requires { of.0 < length catalogue.now.types }
     ensures { (n : ℕ) → IsTrue result ↔ IsLed (tree_at catalogue.now n of.0) }
@@ -158,6 +160,7 @@ fn is_led(catalogue: &SeenCatalogue<'_>, of: TypeId) -> bool
         Shape::Members(_) => false,
         Shape::Array(_) => false,
         Shape::Sequence(_) => false,
+        Shape::Recursive(_) => false,
         Shape::Union(_) => false,
         Shape::Tagged => false,
         Shape::Prim(_) => false,
@@ -180,6 +183,7 @@ fn is_encapsulation(catalogue: &SeenCatalogue<'_>, of: TypeId) -> bool
         Shape::Members(_) => false,
         Shape::Array(_) => false,
         Shape::Sequence(_) => false,
+        Shape::Recursive(_) => false,
         Shape::Union(_) => false,
         Shape::Tagged => false,
         Shape::Prim(_) => false,
@@ -193,7 +197,8 @@ fn is_encapsulation(catalogue: &SeenCatalogue<'_>, of: TypeId) -> bool
     }
 }
 
-/// Whether a type can stand in this place after the part that tells it, in this room: none in that part's own place.
+/// Whether a type can come at this place after the part that tells it, if it has room `left`. None
+/// can come at the place of that part.
 #[tactic(auto, using(crate::proofs::StoredChain::can_start, crate::proofs::StoredChain::can_follows, crate::proofs::StoredChain::follows_can))]
 fn can_follow(catalogue: &SeenCatalogue<'_>, left: u8, of: TypeId, place: u32) -> bool
     requires { shape_in (tree_at catalogue.now (suc left) of.0) ≡ Shape.Led }
@@ -203,8 +208,8 @@ fn can_follow(catalogue: &SeenCatalogue<'_>, left: u8, of: TypeId, place: u32) -
     0 < place && catalogue.follows(TypeId(place - 1), left)
 }
 
-/// Whether a type has that part among so many, which has so much room.
-#[tactic(auto, using(crate::proofs::StoredChain::part_led, crate::proofs::StoredChain::led_part))]
+/// Whether a type has this part, which has room `left`, and this many parts.
+#[tactic(auto, using(crate::proofs::StoredChain::part_led, crate::proofs::StoredChain::led_part, crate::proofs::StoredChain::part_recursive, crate::proofs::StoredChain::recursive_part))]
 fn has_part(catalogue: &SeenCatalogue<'_>, left: u8, of: TypeId, index: u32, count: u32) -> bool
     requires { of.0 < length catalogue.now.types }
     ensures { IsTrue result ↔ HasPart (tree_at catalogue.now (suc left) of.0) index count }
@@ -213,6 +218,7 @@ fn has_part(catalogue: &SeenCatalogue<'_>, left: u8, of: TypeId, index: u32, cou
         Shape::Members(members) => count == members && index < count,
         Shape::Array(elements) => count == elements && index < count,
         Shape::Sequence(_) => index < count,
+        Shape::Recursive(_) => index < count && catalogue.elements_fit(of, left),
         Shape::Union(cases) => index < cases && count == 0,
         Shape::Tagged => index < 3 && count == 0,
         Shape::Encapsulation => false,
@@ -264,8 +270,8 @@ fn has_leading_number(catalogue: &SeenCatalogue<'_>, of: TypeId) -> bool
     whole(catalogue, of).is_none()
 }
 
-/// Whether so many octets can be held of a piece that begins at this offset of the content; `tail` octets stand after
-/// the content.
+/// Whether this many octets can be held of a piece that begins at this offset of the content.
+/// `tail` octets come after the content.
 fn content_fits(total: u32, offset: u32, held: usize, tail: usize) -> bool
     requires { tail ≤ 1 }
     ensures { IsTrue result ↔ (offset ≤ total) × (32 < total - offset → held < 32)
@@ -282,8 +288,9 @@ fn content_fits(total: u32, offset: u32, held: usize, tail: usize) -> bool
     }
 }
 
-/// Whether notes can be those of a value of this root: none but a header has a request id and an object key, whose
-/// interface the catalogue has, and which is held where that has KEYs.
+/// Whether notes can be those of a value with this root. Only a header has a request id and an
+/// object key. The catalogue has the interface of the key, and a key is held only if the catalogue
+/// has KEYs.
 fn are_of_root(catalogue: &SeenCatalogue<'_>, root: Root, notes: &Notes) -> bool
     ensures { IsTrue result ↔ AreOfRoot catalogue.now root notes.now }
 {
@@ -295,7 +302,7 @@ fn are_of_root(catalogue: &SeenCatalogue<'_>, root: Root, notes: &Notes) -> bool
     knows_interface(catalogue, notes.last) && (catalogue.has_keys() || holds_no_key(notes.buffer))
 }
 
-/// Whether an interface that was noted is one of the catalogue.
+/// Whether the catalogue has the interface that was noted, if one was.
 fn knows_interface(catalogue: &SeenCatalogue<'_>, last: Last) -> bool
     ensures { IsTrue result ↔ IfSome (interface_of last)
         (λ i. i.0 < length catalogue.now.interfaces.names) }
@@ -347,7 +354,8 @@ fn string_offset(catalogue: &SeenCatalogue<'_>, leaf: Leaf) -> Option<u32>
     }
 }
 
-/// Whether the name buffer is one that can be in no string, or in one whose unfinished piece begins at this offset.
+/// Whether the name buffer can be like this if the innermost part is in no string, or in one whose
+/// unfinished piece begins at this offset.
 fn name_fits(root: Root, offset: Option<u32>, notes: &Notes) -> bool
     ensures { IsTrue result ↔ FitsName root offset notes.now.buffer notes.now.name.items }
 {
@@ -365,7 +373,7 @@ fn name_fits(root: Root, offset: Option<u32>, notes: &Notes) -> bool
     }
 }
 
-/// Whether so many octets can be noted of a string whose unfinished piece begins at this offset.
+/// Whether this many octets can be noted of a string whose unfinished piece begins at this offset.
 fn is_noted_of(root: Root, offset: u32, count: usize) -> bool
     ensures { IsTrue result ↔ IsNotedOf root offset count }
 {

@@ -1,5 +1,5 @@
-//! The content of a string or of an octet sequence, or the rest of an encapsulation, in pieces of 32 octets
-//! (docs/FORMATS.md).
+//! The content of a string or of an octet sequence, or the rest of an encapsulation, in pieces of
+//! 32 octets (docs/FORMATS.md).
 
 ghost use Rattle.std.specs.Prelude.{◌≡◌};
 ghost use Rattle.giop_decode.specs.Transitions.{still_held};

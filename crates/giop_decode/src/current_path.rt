@@ -22,7 +22,7 @@ pub(crate) struct CurrentPath<'a> {
     pub(crate) catalogue: &'a SeenCatalogue<'a>,
     pub(crate) head: &'a Head,
     pub(crate) outer: &'a [Frame],
-    /// The type of the innermost part, where it is a union and its discriminator is meant.
+    /// The type of the innermost part, if it is a union whose discriminator is meant.
     pub(crate) switch: Option<TypeId>,
 }
 
@@ -81,20 +81,20 @@ impl Position for CurrentPath<'_> {
     }
 }
 
-/// How many octets stand before a name's dot.
+/// How many octets come before the dot of a name.
 const BEFORE: usize = 15;
 
 /// How many octets a block has.
 const BLOCK: usize = 16;
 
-/// The most octets that a segment has.
+/// How many octets a segment may have.
 const SEGMENT: usize = 65;
 
-/// The most octets that a head has.
+/// How many octets a head may have.
 pub(crate) const HEAD: usize = 32;
 
-/// Spells the segments of the parts that are begun, the innermost first, and answers whether there was room for
-/// them.
+/// Spells the segments of the parts that have begun, the innermost first. Answers whether there was
+/// room for them.
 #[inline(always)]
 pub(crate) fn spell_segments(
     catalogue: &SeenCatalogue<'_>,
@@ -135,6 +135,7 @@ pub(crate) fn spell_segment(catalogue: &SeenCatalogue<'_>, frame: Frame, line: &
         Shape::Union(_) => spell_name(line, catalogue.dotted_name(frame.of, frame.index)),
         Shape::Tagged => spell_name(line, catalogue.dotted_name(frame.of, frame.index)),
         Shape::Sequence(_) => spell_index(line, frame.index),
+        Shape::Recursive(_) => spell_index(line, frame.index),
         Shape::Array(_) => spell_index(line, frame.index),
         Shape::Led => spell_led(line, led_name(frame)),
         _ => unreachable!(),
@@ -153,7 +154,8 @@ fn spell_led(line: &mut Line, name: &[u8])
     line.put(b'.');
 }
 
-/// The name of the part of an any that is being read: its type, as long as that tells what follows, or its value.
+/// The name of the part of an any that is being read: its type, as long as that tells what comes
+/// after it, or its value.
 pub(crate) fn led_name(frame: Frame) -> &'static [u8]
     ensures name { result.now ≡ led_name (led_place frame.told frame.index) }
     ensures short { length result.now ≤ 5 }
@@ -165,7 +167,7 @@ pub(crate) fn led_name(frame: Frame) -> &'static [u8]
     }
 }
 
-/// Spells the segment of a discriminator, where one is meant.
+/// Spells the segment of a discriminator, if one is meant.
 fn spell_end(catalogue: &SeenCatalogue<'_>, switch: Option<TypeId>, line: &mut Line)
     requires union { IsSwitch catalogue.now switch }
     requires room { 65 ≤ line_room line.old }
@@ -179,7 +181,8 @@ fn spell_end(catalogue: &SeenCatalogue<'_>, switch: Option<TypeId>, line: &mut L
     }
 }
 
-/// Spells the segment of a discriminator: `switch`, `kind` where it is a number with a mark, or a tag's own name.
+/// Spells the segment of a discriminator: the tag's own name for a tag, `kind` for a number with a
+/// mark, and `switch` for any other.
 fn spell_switch(catalogue: &SeenCatalogue<'_>, of: TypeId, line: &mut Line)
     requires known { of.0 < length catalogue.now.types }
     requires union { IsUnion (shape_in (tree catalogue.now of.0)) }
@@ -201,8 +204,8 @@ fn spell_switch(catalogue: &SeenCatalogue<'_>, of: TypeId, line: &mut Line)
     }
 }
 
-/// Spells the segment of a member, a case or a discriminator, which stands after 15 octets that say nothing: one of at
-/// most 16 octets is the end of a block.
+/// Spells the segment of a member, a case or a discriminator. It comes after 15 octets that mean
+/// nothing; if it has at most 16 octets, it is the end of a block.
 #[inline(always)]
 fn spell_name(line: &mut Line, dotted: &[u8])
     requires size { 16 ≤ length dotted.now }
@@ -251,13 +254,15 @@ fn push_segment(catalogue: &SeenCatalogue<'_>, frame: Frame, path: &mut Path)
         Shape::Union(_) => path.push_name(catalogue.part_name(frame.of, frame.index)),
         Shape::Tagged => path.push_name(catalogue.part_name(frame.of, frame.index)),
         Shape::Sequence(_) => path.push_index(frame.index),
+        Shape::Recursive(_) => path.push_index(frame.index),
         Shape::Array(_) => path.push_index(frame.index),
         Shape::Led => path.push_name(led_name(frame)),
         _ => unreachable!(),
     }
 }
 
-/// Adds the segment of a discriminator: `switch`, `kind` where it is a number with a mark, or a tag's own name.
+/// Adds the segment of a discriminator: the tag's own name for a tag, `kind` for a number with a
+/// mark, and `switch` for any other.
 fn push_switch(catalogue: &SeenCatalogue<'_>, of: TypeId, path: &mut Path)
     requires known { of.0 < length catalogue.now.types }
     requires union { IsUnion (shape_in (tree catalogue.now of.0)) }

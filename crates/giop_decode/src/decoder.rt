@@ -1,18 +1,17 @@
-//! A decoder of one value: the state that reading a list of octets leaves.
+//! A decoder of one value: the state after a list of octets was read.
 
 ghost use Rattle.std.specs.Prelude.{◌≡◌, ℕ, ◌+◌, ◌-◌, ◌%◌, ◌<◌, ◌≤◌, List, [], length, ◌↔◌, IsTrue, IfOk, IfSome, OnOk, None, Some};
 ghost use Rattle.std.specs.Option.{option_map};
-ghost use Rattle.giop_cdr.specs.declared.order.Order.{Order as ByteOrder};
 ghost use Rattle.giop_decode.specs.declared.decoder.Decoder.{Decoder as Before};
 ghost use Rattle.giop_decode.specs.declared.leaf.Leaf.{Leaf as Innermost};
-ghost use Rattle.giop_decode.specs.ReadResult.{Coding, PathSegment, Line, Read, lines_of, with_front};
+ghost use Rattle.giop_decode.specs.ReadResult.{Coding, IsEvenFrom, PathSegment, Line, Read, lines_of, seamed, with_front};
 ghost use Rattle.giop_decode.specs.Spelling.{lines_text};
 ghost use Rattle.giop_print.specs.Output.{Writes};
 ghost use Rattle.giop_print.specs.declared.path.Root.{Root as PathRoot};
 ghost use Rattle.giop_decode.specs.Reading.{none_left, rooted};
 ghost use Rattle.giop_decode.specs.ReadingSteps.{around};
 ghost use Rattle.giop_decode.specs.Fits.{OpenFrom};
-ghost use Rattle.giop_decode.specs.Transitions.{open_parts, AreKnown, Link, TransitionFits, HasOutput, after_transition, still_held, leaf_type, IsClean, StandAt, is_inside, tree_in};
+ghost use Rattle.giop_decode.specs.Transitions.{open_parts, AreKnown, IsSettled, Link, settled_by, TransitionFits, HasOutput, after_transition, still_held, leaf_type, IsClean, StandAt, is_inside, tree_in};
 ghost use Rattle.giop_decode.specs.Noted.{noted_of, ends_in_string, is_header_root};
 ghost use Rattle.giop_decode.specs.NameBuffer.{string_offset};
 ghost use Rattle.giop_decode.specs.NotingSteps.{transition_in_string, transition_offset};
@@ -20,14 +19,14 @@ ghost use Rattle.giop_decode.specs.DecoderState.{Fits, IsDone, IsOfVersion, Keep
 ghost use Rattle.giop_decode.specs.SeenState.{Fits as FitsSeen, Reads as ReadsSeen};
 ghost use Rattle.giop_decode.specs.DecoderSteps.{transition_result, decoder_step, Comes, IsNotRefused};
 ghost use Rattle.giop_decode.specs.Passes.{Gives, IsBehind, Passes};
-ghost use Rattle.giop_sig.specs.Types.{Ty};
+ghost use Rattle.giop_sig.specs.Types.{Ty, elements_fit};
 ghost use Rattle.giop_sig.specs.Fits.{IsFit, IsEmptyStruct};
 ghost use Rattle.giop_sig.specs.Table.{Table, in_version};
 ghost use Rattle.giop_sig.specs.Trees.{tree};
 
 use crate::contents::let_go;
 use crate::frame::{
-    Frame, Within, begin, go_on, has_ended, is_empty, is_inside, within_encapsulation,
+    Frame, Within, begin, go_on, has_ended, is_empty, is_inside, stop, within_encapsulation,
 };
 use crate::leaf::{Finished, Leaf, Transition};
 use crate::line::write_line;
@@ -39,20 +38,20 @@ use giop_cdr::{Carry, Order};
 use giop_print::{Head, Out, OutFault, Root};
 use giop_sig::{Catalogue, InterfaceId, SeenCatalogue, TypeId};
 
-/// The parts of a value that are begun and not ended, and what was last noted of the value.
+/// The parts of a value that have begun and not ended, and what was last noted of the value.
 #[derive(Debug, Drop)]
 pub struct Decoder {
     pub(crate) order: Order,
     // What the lines of the value begin with.
     pub(crate) head: Head,
-    // The offset of the next octet, modulo 8.
+    // The phase of the next octet, modulo 8.
     pub(crate) at: u8,
-    // Whether its version has no room for wide text.
+    // Whether anys and recursive sequences can't hold wide text.
     pub(crate) narrow: bool,
     pub(crate) outer: ArrayVec<Frame, 24>,
-    // What these ask of each octet.
+    // What these parts ask of each octet.
     pub(crate) inside: Within,
-    // None once the value has ended.
+    // None after the value has ended.
     pub(crate) leaf: Option<Leaf>,
     pub(crate) carry: Carry,
     pub(crate) piece: ArrayVec<u8, 32>,
@@ -60,7 +59,8 @@ pub struct Decoder {
 }
 
 impl Decoder {
-    /// Begins to read a value of a type, whose first octet is at this offset of its message, which is of this minor version.
+    /// Begins to read a value of a type, in a message of this minor version. For alignment its first
+    /// octet is counted as the octet at this offset.
     pub fn start(
         catalogue: &Catalogue,
         of: TypeId,
@@ -71,8 +71,10 @@ impl Decoder {
         minor: u8,
     ) -> Decoder
         requires { of.0 < length catalogue.now.types }
-        ensures reads { Reads catalogue.now (tree (in_version minor catalogue.now) of.0)
-            order offset message root result [] }
+        ensures reads { (coding : Coding) (at : ℕ) → coding.order ≡ order →
+            IsEvenFrom coding at → coding.phase at % 8 ≡ offset % 8 →
+            Reads catalogue.now (tree (in_version minor catalogue.now) of.0)
+            coding at message root result [] }
         ensures done { IsDone result ↔ IsEmptyStruct (tree (in_version minor catalogue.now) of.0) }
         ensures fits { (IsEmptyStruct (tree (in_version minor catalogue.now) of.0) → ⊥) →
             Fits catalogue.now result }
@@ -95,7 +97,7 @@ impl Decoder {
         decoder
     }
 
-    /// Begins to read another value in the place of the one that was read, as `start` does.
+    /// Begins to read another value instead of the one that was read, as `start` does.
     #[inline]
     pub fn restart(
         &mut self,
@@ -108,8 +110,10 @@ impl Decoder {
         minor: u8,
     )
         requires { of.0 < length catalogue.now.types }
-        ensures reads { Reads catalogue.now (tree (in_version minor catalogue.now) of.0)
-            order offset message root self.new [] }
+        ensures reads { (coding : Coding) (at : ℕ) → coding.order ≡ order →
+            IsEvenFrom coding at → coding.phase at % 8 ≡ offset % 8 →
+            Reads catalogue.now (tree (in_version minor catalogue.now) of.0)
+            coding at message root self.new [] }
         ensures done { IsDone self.new
             ↔ IsEmptyStruct (tree (in_version minor catalogue.now) of.0) }
         ensures fits { (IsEmptyStruct (tree (in_version minor catalogue.now) of.0) → ⊥) →
@@ -122,11 +126,13 @@ impl Decoder {
         self.begin(&catalogue.seen(self.narrow), of, offset);
     }
 
-    /// Begins to read a value of a type, in the order, with the head and of the version that are set.
+    /// Begins to read a value of a type. The byte order, the head and the version are set.
     fn begin(&mut self, catalogue: &SeenCatalogue<'_>, of: TypeId, offset: u64)
         requires known { of.0 < length catalogue.now.types }
         requires version { self.old.narrow ≡ catalogue.now.narrow }
-        ensures reads { ReadsSeen catalogue.now (tree catalogue.now of.0) self.old.order offset
+        ensures reads { (coding : Coding) (at : ℕ) → coding.order ≡ self.old.order →
+            IsEvenFrom coding at → coding.phase at % 8 ≡ offset % 8 →
+            ReadsSeen catalogue.now (tree catalogue.now of.0) coding at
             self.old.head.message self.old.head.root self.new [] }
         ensures done { IsDone self.new ↔ IsEmptyStruct (tree catalogue.now of.0) }
         ensures fits { (IsEmptyStruct (tree catalogue.now of.0) → ⊥) →
@@ -147,8 +153,8 @@ impl Decoder {
         self.leaf = Some(Leaf::Number(first));
     }
 
-    /// Takes an octet of the value, and writes the line that it completes, if any: a run of one. A decoder that is done
-    /// or faulted takes no more.
+    /// Takes an octet of the value as a run of one, and writes the line that it completes, if it
+    /// completes one. A decoder that is done or at a fault takes no more.
     pub fn take<O: Out>(
         &mut self,
         catalogue: &Catalogue,
@@ -156,21 +162,37 @@ impl Decoder {
         out: &mut O,
     ) -> Result<Progress, OutFault>
         requires { Fits catalogue.now self.old }
-        ensures writes { (T : Ty) (order : ByteOrder) (at message : ℕ) (root : PathRoot)
+        ensures writes { (T : Ty) (coding : Coding) (at message : ℕ) (root : PathRoot)
             (s : List ℕ) →
-            Reads catalogue.now T order at message root self.old s →
+            Reads catalogue.now T coding at message root self.old s →
             Writes result (O.log out.old) (O.log out.new)
-            (lines_text message root (added_lines order T at s octet)) }
-        ensures takes { IfOk result (λ p. (T : Ty) (order : ByteOrder) (at message : ℕ)
+            (lines_text message root (added_lines coding T at s octet)) }
+        ensures takes { IfOk result (λ p. (T : Ty) (coding : Coding) (at message : ℕ)
             (root : PathRoot) (s : List ℕ) →
-            Reads catalogue.now T order at message root self.old s →
-            Takes catalogue.now T order at message root self.new s octet p) }
+            Reads catalogue.now T coding at message root self.old s →
+            Takes catalogue.now T coding at message root self.new s octet p) }
         ensures fits { IfOk result (λ p. GoesOn p → Fits catalogue.now self.new) }
         ensures version { IfOk result (λ p. GoesOn p → KeepsVersion self.old self.new) }
         ensures done { IfOk result (λ p. p ≡ Progress.Done → IsDone self.new) }
     {
         let (_, progress) = self.take_run(catalogue, &[octet], out)?;
         Ok(progress)
+    }
+
+    /// A Fragment of GIOP 1.1 begins at the next octet: outside encapsulations, alignment is counted from the Fragment's
+    /// own first octet, so that its payload begins at 12.
+    pub fn seam(&mut self)
+        ensures reads { (C : Table) (T : Ty) (coding : Coding) (at message : ℕ) (root : PathRoot)
+            (s : List ℕ) →
+            Reads C T coding at message root self.old s →
+            Reads C T (seamed coding (at + length s)) at message root self.new s }
+        ensures notes { (C : Table) (root : PathRoot) (r : Read) → KeepsNoted C root self.old r →
+            KeepsNoted C root self.new r }
+        ensures fits { (C : Table) → Fits C self.old → Fits C self.new }
+        ensures version { KeepsVersion self.old self.new }
+        ensures done { IsDone self.new ↔ IsDone self.old }
+    {
+        self.at = 4;
     }
 
     /// Whether the value has ended.
@@ -180,7 +202,7 @@ impl Decoder {
         self.leaf.is_none()
     }
 
-    /// The request id of a header, once that was read. No other value has one.
+    /// The request id of a header, after it was read. No other value has one.
     pub fn request_id(&self) -> Option<u32>
         ensures { (C : Table) (root : PathRoot) (r : Read) → KeepsNoted C root self.now r →
             result ≡ (noted_of (is_header_root root) r).request_id }
@@ -188,7 +210,7 @@ impl Decoder {
         self.notes.request_id
     }
 
-    /// The number of the last enum: of a reply header the status.
+    /// The number of the last enum. In the header of a reply this is the status.
     pub fn status(&self) -> Option<u32>
         ensures { (C : Table) (root : PathRoot) (r : Read) → KeepsNoted C root self.now r →
             result ≡ (noted_of (is_header_root root) r).status }
@@ -200,8 +222,8 @@ impl Decoder {
         }
     }
 
-    /// The interface of a header's object key, once that was read: by the KEYs of a signature file, which the catalogue
-    /// has.
+    /// The interface of a header's object key, after it was read. It is that of the KEYs in the
+    /// catalogue's signature file.
     pub fn interface(&self, catalogue: &Catalogue) -> Option<InterfaceId>
         ensures is { (root : PathRoot) (r : Read) → KeepsNoted catalogue.now root self.now r →
             result ≡ whose catalogue.now (noted_of (is_header_root root) r).key }
@@ -218,7 +240,8 @@ impl Decoder {
         }
     }
 
-    /// Whether a header expects a reply, once that was read: GIOP 1.0 and 1.1 say it by a boolean, 1.2 by bit 0 of an octet.
+    /// Whether a header expects a reply, after this was read. GIOP 1.0 and 1.1 say it with a
+    /// boolean, 1.2 with bit 0 of an octet.
     pub fn expects_reply(&self) -> Option<bool>
         ensures { (C : Table) (root : PathRoot) (r : Read) → KeepsNoted C root self.now r →
             result ≡ (noted_of (is_header_root root) r).expects_reply }
@@ -226,7 +249,7 @@ impl Decoder {
         self.notes.expects_reply
     }
 
-    /// The last string, once that has ended and where it is a name: of at most 128 octets.
+    /// The last string, after it has ended, if it is a name: of at most 128 octets.
     pub fn name(&self) -> Option<&[u8]>
         ensures { (C : Table) (root : PathRoot) (r : Read) → KeepsNoted C root self.now r →
             option_map (λ octets. octets.now) result ≡ (noted_of (is_header_root root) r).name }
@@ -240,8 +263,8 @@ impl Decoder {
         }
     }
 
-    /// Does a transition of the innermost part, of this type, and goes on in the parts around it, where these have heard what
-    /// its octet finishes.
+    /// Makes a transition of the innermost part, which has this type, and goes on in the parts
+    /// around it. They have heard what the octet finishes.
     #[inline(always)]
     fn advance_frames(&mut self, catalogue: &SeenCatalogue<'_>, of: TypeId, transition: Transition)
         requires known { of.0 < length catalogue.now.types }
@@ -253,6 +276,7 @@ impl Decoder {
         requires transition_fits { TransitionFits
             (tree_in catalogue.now self.old.outer.items of.0) of.0 transition
             self.old.carry self.old.piece.items }
+        requires settled { IsSettled transition }
         ensures known_outer { AreKnown catalogue.now self.new.outer.items }
         ensures encloses { self.new.inside ≡ is_inside self.new.outer.items }
         ensures known { (leaf : Innermost) → IsNotRefused transition → self.new.leaf ≡ Some leaf →
@@ -349,11 +373,46 @@ impl Decoder {
                 self.leaf = go_on(catalogue, &mut self.outer, &mut self.inside);
                 self.inside = is_inside(self.inside, self.outer.as_slice());
             }
+            Transition::Recursed(_) => unreachable!(),
+            Transition::Stopped => {
+                self.carry.clear();
+                self.piece.clear();
+                self.leaf = stop(catalogue, &mut self.outer, &mut self.inside);
+                self.inside = is_inside(self.inside, self.outer.as_slice());
+            }
         }
     }
 
-    /// Takes the last of octets that the innermost part takes together, where all are counted: writes and notes the
-    /// output, and does the transition. A piece that is written has the octets that are held, and the rest.
+    /// What a transition of the innermost part, which has this type, does in the room that is left.
+    /// The elements of a recursive sequence begin, or octets of no known type come.
+    #[inline(always)]
+    fn settled(
+        &self,
+        catalogue: &SeenCatalogue<'_>,
+        of: TypeId,
+        transition: Transition,
+    ) -> Transition
+        requires known { of.0 < length catalogue.now.types }
+        requires room { length self.now.outer.items < 24 }
+        ensures { result ≡ settled_by transition
+            (elements_fit (tree_in catalogue.now self.now.outer.items of.0)) }
+    {
+        match transition {
+            Transition::Recursed(count) => {
+                let room = 23 - self.outer.len() as u8;
+                if catalogue.elements_fit(of, room) {
+                    Transition::Opened(count)
+                } else {
+                    Transition::Stopped
+                }
+            }
+            _ => transition,
+        }
+    }
+
+    /// Takes the last of the octets that the innermost part takes together, after all were counted.
+    /// Writes and notes the output, and makes the transition. A piece that is written has the
+    /// octets that are held, and then the rest.
     #[inline(always)]
     pub(crate) fn emit<O: Out>(
         &mut self,
@@ -398,7 +457,7 @@ impl Decoder {
         Ok(self.pass(catalogue, ahead))
     }
 
-    /// What `emit` does but for the line.
+    /// Does what `emit` does, but writes no line.
     #[inline(always)]
     pub(crate) fn pass(&mut self, catalogue: &SeenCatalogue<'_>, ahead: Lookahead<'_>) -> Progress
         requires counted { (d : Before) × IsBehind catalogue.now d self.old ahead.of.0
@@ -426,7 +485,8 @@ impl Decoder {
             },
         );
         let_go(ahead.step.output, &mut self.piece);
-        self.advance_frames(catalogue, ahead.of, ahead.step.transition);
+        let transition = self.settled(catalogue, ahead.of, ahead.step.transition);
+        self.advance_frames(catalogue, ahead.of, transition);
         let ended = has_ended(self.inside, self.outer.as_slice());
         progress_of(named, ended, ahead.step.transition, self.leaf)
     }

@@ -1,4 +1,4 @@
-//! The parts that are begun and not ended, and have parts of their own.
+//! The parts that have begun and not ended, and have parts of their own.
 
 ghost use Rattle.std.specs.Prelude.{◌≡◌, ℕ, ◌+◌, ◌-◌, ◌^◌, ◌<◌, ◌≤◌, List, [], ◌∷◌, ◌++◌, length, take, Bool, Some, ◌↔◌, IsTrue, IfSome, IfNone, false};
 ghost use Rattle.arrayvec.specs.ArrayVec.{array_vec_len};
@@ -23,47 +23,50 @@ use arrayvec::ArrayVec;
 use giop_cdr::Order;
 use giop_sig::{Following, SeenCatalogue, Shape, TypeId};
 
-/// What some of the parts around ask of each octet.
+/// What parts around the innermost one ask of each octet.
 #[derive(Clone, Copy, Debug, PartialEq, Eq)]
 pub(crate) enum Within {
     /// Nothing.
     Nothing,
-    /// That it is counted: one is an encapsulation.
+    /// It is counted: one of the parts is an encapsulation.
     Encapsulation,
-    /// And that its line is heard: one tells what follows it.
+    /// It is counted, and its line is heard: one of the parts tells what comes after it.
     Telling,
 }
 
-/// What a part has told so far of what follows it, but for a number.
+/// What a part has told so far about what comes after it, without a number.
 #[derive(Clone, Copy, Debug, PartialEq, Eq)]
 pub(crate) enum Stage {
-    /// Nothing.
+    /// Nothing has been told.
     Untold,
-    /// A kind whose repository id comes.
+    /// The repository id of a kind comes.
     Awaits,
-    /// A type, whose count of members comes.
+    /// A type, if the count that comes next is that of its members.
     Offers,
     /// A type.
     Is,
-    /// That no octet follows.
+    /// No octets come.
     Empty,
-    /// Octets of no type.
+    /// Octets of no known type come.
     Unknown,
 }
 
-/// A part that is begun and not ended, and which of its own parts is being read.
+/// A part that has begun and not ended, and which of its own parts is being read.
 #[derive(Clone, Copy, Debug, PartialEq, Eq)]
 pub(crate) struct Frame {
-    /// The part's type.
+    /// The type of the part.
     pub(crate) of: TypeId,
-    /// The index of that part: of a member, an element or a case. Of an encapsulation, how many of its octets were
-    /// taken, so that its numbers are aligned by this. Where it tells what follows, the number that belongs to that.
+    /// The index of that part: of a member, an element or a case. For an encapsulation, how many of
+    /// its octets were taken, from which its numbers are aligned. For a part that tells what comes
+    /// after it, the number that belongs to what was told.
     pub(crate) index: u32,
-    /// How many members or elements it has; 0 for a union. Of an encapsulation, how many octets.
+    /// How many members or elements there are; 0 for a union. For an encapsulation, how many octets
+    /// it has.
     pub(crate) count: u32,
-    /// The byte order of an encapsulation; None for any other part.
+    /// The byte order of an encapsulation. None for any other part.
     pub(crate) inside: Option<Order>,
-    /// What was told so far, where it is the first part that tells what follows it; None for any other part.
+    /// What was told so far, if the part that is read is the first and tells what comes after it.
+    /// None for any other part.
     pub(crate) told: Option<Stage>,
 }
 
@@ -79,7 +82,7 @@ impl Default for Frame {
     }
 }
 
-/// What these parts ask of each octet, which is at most this.
+/// What these parts ask of each octet. They ask `most` at most.
 #[inline(always)]
 pub(crate) fn is_inside(most: Within, outer: &[Frame]) -> Within
     requires { IsAtMost (is_inside outer.now) most }
@@ -92,7 +95,7 @@ pub(crate) fn is_inside(most: Within, outer: &[Frame]) -> Within
     }
 }
 
-/// What parts ask of each octet when one more may tell what follows it.
+/// What parts ask of each octet after one more, which may tell what comes after it.
 #[inline(always)]
 fn within_told(told: Option<Stage>, within: Within) -> Within
     ensures { result ≡ within_more (is_some_stage told) within }
@@ -103,7 +106,7 @@ fn within_told(told: Option<Stage>, within: Within) -> Within
     }
 }
 
-/// Whether some part is an encapsulation.
+/// Whether one of the parts is an encapsulation.
 #[inline(never)]
 fn holds_one(outer: &[Frame]) -> bool
     ensures { result ≡ holds_one outer.now }
@@ -111,7 +114,7 @@ fn holds_one(outer: &[Frame]) -> bool
     outer.iter().any(|frame| frame.inside.is_some())
 }
 
-/// Whether some part tells what follows it.
+/// Whether one of the parts tells what comes after it.
 #[inline(never)]
 fn tells_one(outer: &[Frame]) -> bool
     ensures { result ≡ tells_one outer.now }
@@ -119,7 +122,8 @@ fn tells_one(outer: &[Frame]) -> bool
     outer.iter().any(|frame| frame.told.is_some())
 }
 
-/// What parts ask of each octet of which one tells, or one is an encapsulation.
+/// What parts ask of each octet, if one of them tells what comes after it, or one is an
+/// encapsulation.
 #[inline(always)]
 fn asked_by(tells: bool, holds: bool) -> Within
     ensures { result ≡ within_by tells holds }
@@ -133,7 +137,7 @@ fn asked_by(tells: bool, holds: bool) -> Within
     }
 }
 
-/// What parts ask of each octet when one more is an encapsulation.
+/// What parts ask of each octet after one more, which is an encapsulation.
 pub(crate) fn within_encapsulation(within: Within) -> Within
     ensures { result ≡ within_held within }
 {
@@ -143,8 +147,8 @@ pub(crate) fn within_encapsulation(within: Within) -> Within
     }
 }
 
-/// Counts so many octets in each encapsulation, where there is one, and tells each part around, of which the first part is
-/// read and tells what follows, what the last of them finishes.
+/// Counts octets in each encapsulation, if there is one, and tells the parts around what the last
+/// of the octets finishes. Parts hear it whose first part is read and tells what comes after it.
 #[inline(always)]
 pub(crate) fn pass_by(
     catalogue: &SeenCatalogue<'_>,
@@ -175,7 +179,7 @@ pub(crate) fn pass_by(
     }
 }
 
-/// Counts so many octets in each frame that is an encapsulation.
+/// Counts octets in each frame of an encapsulation.
 fn tick_all(outer: &mut ArrayVec<Frame, 24>, octets: usize)
     requires ahead { HaveOctetsLeft (ticked_by (octets - 1) outer.old.items) }
     ensures ticked { outer.new.items ≡ ticked_by octets outer.old.items }
@@ -185,7 +189,7 @@ fn tick_all(outer: &mut ArrayVec<Frame, 24>, octets: usize)
     }
 }
 
-/// A frame after so many octets more, which are counted in an encapsulation.
+/// A frame after more octets, which are counted in an encapsulation.
 fn counted_by(frame: Frame, octets: usize) -> Frame
     requires ahead { HasOctetsLeft (tick_by_of (octets - 1) frame) }
     ensures ticked { result ≡ tick_by_of octets frame }
@@ -199,7 +203,7 @@ fn counted_by(frame: Frame, octets: usize) -> Frame
     }
 }
 
-/// How many of so many octets stand before the last one of each frame that is an encapsulation.
+/// How many of these octets come before the last octet of each encapsulation.
 fn before_ends(outer: &[Frame], octets: usize) -> usize
     requires ahead { HaveOctetsLeft outer.now }
     ensures within { result ≤ octets }
@@ -212,7 +216,8 @@ fn before_ends(outer: &[Frame], octets: usize) -> usize
     count
 }
 
-/// How many of so many octets stand before the last one of a frame that is an encapsulation.
+/// How many of these octets come before the last octet of an encapsulation, if the frame is one of
+/// an encapsulation.
 fn before_last(frame: Frame, octets: usize) -> usize
     requires ahead { HasOctetsLeft frame }
     ensures within { result ≤ octets }
@@ -224,7 +229,7 @@ fn before_last(frame: Frame, octets: usize) -> usize
     }
 }
 
-/// Those of these octets that stand up to the last one of each encapsulation: all of them where there is none.
+/// These octets up to the last one of each encapsulation; all of them if there is no encapsulation.
 #[inline(always)]
 pub(crate) fn up_to_end<'a>(inside: Within, outer: &[Frame], octets: &'a [u8]) -> &'a [u8]
     requires inside { inside ≡ is_inside outer.now }
@@ -242,7 +247,7 @@ pub(crate) fn up_to_end<'a>(inside: Within, outer: &[Frame], octets: &'a [u8]) -
     &octets[..count]
 }
 
-/// Whether an encapsulation has ended, where there is one.
+/// Whether an encapsulation has ended, if there is one.
 pub(crate) fn has_ended(inside: Within, outer: &[Frame]) -> bool
     requires { inside ≡ is_inside outer.now }
     ensures { result ≡ has_ended outer.now }
@@ -253,7 +258,7 @@ pub(crate) fn has_ended(inside: Within, outer: &[Frame]) -> bool
     }
 }
 
-/// Whether all octets of an encapsulation were taken; of no other part.
+/// Whether all octets of an encapsulation were taken. False for any other part.
 fn is_at_end(frame: Frame) -> bool
     ensures { result ≡ ended_at frame.inside frame.index frame.count }
 {
@@ -263,8 +268,8 @@ fn is_at_end(frame: Frame) -> bool
     }
 }
 
-/// How the octets of the innermost part are taken: the byte order, and the offset, modulo 8, by which numbers are
-/// aligned.
+/// How the octets of the innermost part are taken: their byte order, and the phase modulo 8 by which
+/// numbers are aligned.
 pub(crate) fn coding(inside: Within, order: Order, at: u8, outer: &[Frame]) -> (Order, u8)
     requires { inside ≡ is_inside outer.now }
     ensures { result ≡ coding_by order at outer.now }
@@ -302,13 +307,14 @@ pub(crate) fn is_empty(catalogue: &SeenCatalogue<'_>, t: TypeId) -> bool
         Shape::Led => false,
         Shape::Union(_) => false,
         Shape::Sequence(_) => false,
+        Shape::Recursive(_) => false,
         Shape::Encapsulation => false,
         Shape::Tagged => false,
     }
 }
 
-/// How many parts a type has that begins with its first part, and what that has told where it tells what follows: None
-/// for a type that begins with a number.
+/// If a type begins with its first part: how many parts it has, and what the first one has told if
+/// it tells what comes after it. None if it begins with a number.
 #[tactic(auto, using(crate::proofs::Shapes::shape_laws))]
 #[inline(always)]
 pub(crate) fn whole(catalogue: &SeenCatalogue<'_>, t: TypeId) -> Option<(u32, Option<Stage>)>
@@ -330,13 +336,14 @@ pub(crate) fn whole(catalogue: &SeenCatalogue<'_>, t: TypeId) -> Option<(u32, Op
         Shape::Marked(_) => None,
         Shape::Union(_) => None,
         Shape::Sequence(_) => None,
+        Shape::Recursive(_) => None,
         Shape::Encapsulation => None,
         Shape::Tagged => None,
     }
 }
 
-/// Begins a type: adds the frames on the way to its first number, and answers the type that begins with it. `inside` is set
-/// where a frame added tells what follows.
+/// Begins a type: adds the frames on the way to its first number, and answers the type that begins
+/// with that number. `inside` is set if a frame that is added tells what comes after it.
 #[inline(always)]
 pub(crate) fn begin(
     catalogue: &SeenCatalogue<'_>,
@@ -404,7 +411,7 @@ pub(crate) fn go_to_next(outer: &mut ArrayVec<Frame, 24>)
     outer[last].index = next;
 }
 
-/// Puts a frame in the place of the innermost one.
+/// Replaces the innermost frame.
 fn replace(outer: &mut ArrayVec<Frame, 24>, frame: Frame)
     requires { (above : List Frame) × (f : Frame) × (outer.old.items ≡ above ++ f ∷ []) }
     ensures { (above : List Frame) (f : Frame) → outer.old.items ≡ above ++ f ∷ [] →
@@ -414,7 +421,7 @@ fn replace(outer: &mut ArrayVec<Frame, 24>, frame: Frame)
     outer[last] = frame;
 }
 
-/// Ends each part up to an encapsulation, where octets of no type follow.
+/// Ends each part up to an encapsulation, because octets of no known type come.
 fn leave(outer: &mut ArrayVec<Frame, 24>)
     ensures known { (C : Table) → AreKnown C outer.old.items → AreKnown C outer.new.items }
     ensures are_open { (C : Table) (at : ℕ) → OpenFrom 24 (open_parts C at outer.old.items) →
@@ -441,8 +448,9 @@ fn leave(outer: &mut ArrayVec<Frame, 24>)
     }
 }
 
-/// Goes on after a part that has ended, and answers the innermost part that comes next, the rest of an encapsulation or
-/// the next number, or None where the whole has ended. `inside` is set where a frame added tells what follows.
+/// Goes on after a part that has ended. Answers the innermost part that comes next, which is the
+/// rest of an encapsulation or the next number, or None if the whole value has ended. `inside` is
+/// set if a frame that is added tells what comes after it.
 #[inline(always)]
 pub(crate) fn go_on(
     catalogue: &SeenCatalogue<'_>,
@@ -502,8 +510,38 @@ pub(crate) fn go_on(
     None
 }
 
-/// Goes on after the innermost part's first part, which has told what follows: answers the type of the part that does,
-/// or ends the part, and where octets of no type follow each part around it up to an encapsulation.
+/// Goes on after a part before octets of no known type: the parts up to an encapsulation end with
+/// it.
+#[inline(never)]
+pub(crate) fn stop(
+    catalogue: &SeenCatalogue<'_>,
+    outer: &mut ArrayVec<Frame, 24>,
+    inside: &mut Within,
+) -> Option<Leaf>
+    requires known { AreKnown catalogue.now outer.old.items }
+    requires open { (at : ℕ) × OpenFrom 24 (open_parts catalogue.now at outer.old.items) }
+    ensures known { IfSome result (λ leaf. leaf_type leaf < length catalogue.now.types) }
+    ensures clean { IfSome result (λ leaf. IsClean leaf [] []) }
+    ensures plain { IfSome result (λ leaf.
+        leaf_in_string (tree_in catalogue.now outer.new.items (leaf_type leaf)) leaf ≡ false) }
+    ensures known_outer { AreKnown catalogue.now outer.new.items }
+    ensures most { IsAtMost (is_inside outer.old.items) inside.old →
+        IsAtMost (is_inside outer.new.items) inside.new }
+    ensures stand { (at : ℕ) → StandAt at outer.old.items → StandAt at outer.new.items }
+    ensures next { (coding : Coding) (path : List PathSegment) (at : ℕ) (T : Ty) →
+        rooted none_left (around coding path (open_parts catalogue.now at outer.old.items)
+        (Fault [] at kinds.Untyped T)) ≡ gone_on catalogue.now at outer.new.items result }
+    ensures linked { IfSome result (λ leaf. (root inner : ℕ) →
+        Link catalogue.now root outer.old.items inner →
+        Link catalogue.now root outer.new.items (leaf_type leaf)) }
+{
+    leave(outer);
+    go_on(catalogue, outer, inside)
+}
+
+/// Goes on after the first part of the innermost part has told what comes after it. Answers the
+/// type of the part that comes, or ends the innermost part. If octets of no known type come, the
+/// parts around it end too, up to an encapsulation.
 #[inline(never)]
 fn part_told(
     catalogue: &SeenCatalogue<'_>,

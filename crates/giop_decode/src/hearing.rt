@@ -1,4 +1,4 @@
-//! What a line tells the parts around it of what follows in them.
+//! What a line tells the parts around it about what comes next in them.
 
 ghost use Rattle.std.specs.Prelude.{◌≡◌, ℕ, suc, ◌<◌, ◌++◌, List, [], ◌∷◌, length};
 ghost use Rattle.giop_decode.specs.ReadResult.{Line, Number as NumberValue, PathSegment, line};
@@ -12,7 +12,8 @@ use arrayvec::ArrayVec;
 use giop_cdr::Number;
 use giop_sig::{SeenCatalogue, Shape, Sign, Signal, TypeId};
 
-/// Tells each part around, of which the first part is read and tells what follows, what an octet finishes.
+/// Tells the parts around what an octet finishes. Parts hear it whose first part is read and tells
+/// what comes after it.
 pub(crate) fn hear(
     catalogue: &SeenCatalogue<'_>,
     outer: &mut ArrayVec<Frame, 24>,
@@ -32,7 +33,7 @@ pub(crate) fn hear(
     }
 }
 
-/// What the line of what an octet finishes tells, if any.
+/// What the line of what an octet finishes tells, if it tells something.
 fn sign<'a>(catalogue: &SeenCatalogue<'_>, finished: Finished<'a>) -> Option<Sign<'a>>
     requires known { finished.of.0 < length catalogue.now.types }
     requires has_output { (n : ℕ) × HasOutput (tree_at catalogue.now (suc n) finished.of.0)
@@ -56,7 +57,7 @@ fn sign<'a>(catalogue: &SeenCatalogue<'_>, finished: Finished<'a>) -> Option<Sig
     }
 }
 
-/// What the number of a type tells: that of one with a mark.
+/// What the number of a type tells, if it has a mark.
 fn marked(catalogue: &SeenCatalogue<'_>, of: TypeId, number: Number) -> Option<Sign<'static>>
     requires known { of.0 < length catalogue.now.types }
     requires number { (n : ℕ) × IsNumberOf (tree_at catalogue.now n of.0) number }
@@ -98,7 +99,7 @@ fn hear_one(catalogue: &SeenCatalogue<'_>, frame: Frame, sign: Sign<'_>) -> Fram
     }
 }
 
-/// What was told, by its stage and its number.
+/// What was told, from its stage and its number.
 pub(crate) fn signal(stage: Stage, number: u32) -> Signal
     ensures { result ≡ signal_by stage number }
 {
@@ -126,7 +127,7 @@ fn stage_of(told: Signal) -> Stage
     }
 }
 
-/// The number of what was told, or 0.
+/// The number of what was told; 0 if it has none.
 fn number_of(told: Signal) -> u32
     ensures { result ≡ number_of told }
 {

@@ -1,6 +1,7 @@
-//! The laws of reading: what one octet more, or many, do to the reading of a list, and what is noted of a reading.
+//! The laws of reading: what one or more octets do to the reading of a list, and what is noted of a
+//! reading.
 
-ghost use Rattle.std.specs.Prelude.{◌≡◌, ℕ, ◌+◌, Bool, List, [], ◌∷◌, ◌++◌, length, flat_map};
+ghost use Rattle.std.specs.Prelude.{◌≡◌, ℕ, ◌+◌, ◌<◌, Bool, List, [], ◌∷◌, ◌++◌, length, flat_map};
 ghost use Rattle.giop_sig.specs.Types.{Ty};
 ghost use Rattle.giop_sig.specs.Fits.{IsFit};
 ghost use Rattle.giop_decode.specs.ReadResult.{Coding, PathSegment, Line, OpenPart, Leaf, Read, Short, lines_of, with_front};
@@ -11,37 +12,41 @@ ghost use Rattle.giop_decode.specs.Fits.{FitsIn, Sound, Surrounds};
 ghost use Rattle.giop_decode.specs.Noted.{noted_of};
 ghost use Rattle.giop_decode.specs.NotedFromLines.{TextPiece, pieces_of, AreUnended, IsLeft};
 
-/// The reading of a list follows from the parts that the reading of a front of it has begun and not ended, and the
-/// octets after that front. It has no body, and is called for its contract.
+/// The reading of a list depends on the parts that the reading of a front of it has begun and not
+/// ended, and on the octets after that front. This function has no body and is called for its
+/// contract.
 pub fn reading_laws()
-    // One octet more is one step on those parts.
+    // One more octet is one step on those parts.
     ensures step { (coding : Coding) (path : List PathSegment) (T : Ty) (at : ℕ)
         (s : List ℕ) (b : ℕ) →
         read coding path T at (s ++ b ∷ []) ≡ advance coding path (read coding path T at s) b }
-    // Many octets more are as many steps: a reading may be left and resumed anywhere.
+    // More octets are as many steps: a reading may be left and resumed anywhere.
     ensures more { (coding : Coding) (path : List PathSegment) (T : Ty) (at : ℕ)
         (s t : List ℕ) →
         read coding path T at (s ++ t) ≡ resumes coding path (read coding path T at s) t }
-    // The lines of a longer list begin with those of a shorter.
+    // The lines of a longer list begin with those of a shorter one.
     ensures lines { (coding : Coding) (path : List PathSegment) (T : Ty) (at : ℕ) (s t : List ℕ) →
         (more : List Line)
         × (lines_of (read coding path T at (s ++ t)) ≡ lines_of (read coding path T at s) ++ more) }
-    // A step has at most one line, which stands at its octet, and none where that breaks a rule of its own value; an
-    // octet that only ends an encapsulation too soon has the line of what it completes.
+    // A step has at most one line, which is at its octet. It has none if the octet breaks a rule of
+    // its own value; an octet that only ends an encapsulation too soon has the line of what it
+    // completes.
     ensures octet { (coding : Coding) (path : List PathSegment) (outer : List OpenPart)
         (leaf : Leaf)
         (at b : ℕ) →
         IsOctetResult (at + 1) (step coding path outer leaf at b) }
-    // Where each part takes some octet, the parts begun before the first octet are the first ones of their wholes.
+    // If each part takes an octet, the parts that have begun before the first octet are the first
+    // ones of their types.
     ensures begins { (d : ℕ) (coding : Coding) (path : List PathSegment) (T : Ty) (at : ℕ) →
         IsFit d T →
         read coding path T at [] ≡ Short [] at (start_outer T) (start_leaf T) }
-    // The parts begun and not ended fit in the type, each in the one before, and no encapsulation among them has ended,
+    // The parts that have begun and not ended fit the type, each within the one before, and none of
+    // their encapsulations has ended.
     ensures sound { (d : ℕ) (coding : Coding) (path : List PathSegment) (T : Ty) (at : ℕ)
         (s : List ℕ) →
         IsFit d T →
         Sound T (at + length s) (read coding path T at s) }
-    // and a step from any parts that fit, of which no encapsulation has ended, leaves such parts.
+    // A step from any parts that fit, none of whose encapsulations has ended, leaves such parts.
     ensures kept { (d : ℕ) (coding : Coding) (path : List PathSegment) (T : Ty)
         (outer : List OpenPart)
         (leaf : Leaf) (at b : ℕ) → IsFit d T →
@@ -49,37 +54,39 @@ pub fn reading_laws()
         Sound T (at + 1) (step coding path outer leaf at b) }
 {}
 
-/// What is noted of a reading follows from its lines: the first request id of a header, the last of the enums, and the
-/// last of the strings that are whole. It has no body, and is called for its contract.
+/// What is noted of a reading depends on its lines: the first request id of a header, the last
+/// enum, and the last string that is whole. This function has no body and is called for its
+/// contract.
 pub fn noting_laws()
     ensures left { (is_header : Bool) (coding : Coding) (path : List PathSegment) (T : Ty) (at : ℕ)
         (s : List ℕ) →
         IsLeft is_header (read coding path T at s) (noted_of is_header (read coding path T at s)) }
-    // Lines are the pieces of one list of contents at most.
+    // Lines have the pieces of at most one list of contents.
     ensures same { (contents others : List (List ℕ)) (begun other : List TextPiece) →
         AreUnended begun → AreUnended other →
         flat_map pieces_of contents ++ begun ≡ flat_map pieces_of others ++ other →
         contents ≡ others }
 {}
 
-/// What holds of a whole value, which ends where octets of no type follow. It has no body, and is called for its contract.
+/// What is true of a whole value, which ends before octets of no known type. This function has no
+/// body and is called for its contract.
 pub fn whole_laws()
-    // One octet more is one step on the parts that are begun.
+    // One more octet is one step on the parts that have begun.
     ensures step { (coding : Coding) (path : List PathSegment) (T : Ty) (at : ℕ)
         (s : List ℕ) (b : ℕ) →
         reading coding path T at (s ++ b ∷ [])
         ≡ root_advance coding path (reading coding path T at s) b }
-    // Many octets more are as many steps.
+    // More octets are as many steps.
     ensures more { (coding : Coding) (path : List PathSegment) (T : Ty) (at : ℕ)
         (s t : List ℕ) →
         reading coding path T at (s ++ t)
         ≡ root_resumes coding path (reading coding path T at s) t }
-    // The lines of a longer list begin with those of a shorter.
+    // The lines of a longer list begin with those of a shorter one.
     ensures lines { (coding : Coding) (path : List PathSegment) (T : Ty) (at : ℕ) (s t : List ℕ) →
         (more : List Line)
         × (lines_of (reading coding path T at (s ++ t))
         ≡ lines_of (reading coding path T at s) ++ more) }
-    // A step has at most one line, which stands at its octet.
+    // A step has at most one line, which is at its octet.
     ensures octet { (coding : Coding) (path : List PathSegment) (outer : List OpenPart)
         (leaf : Leaf)
         (at b : ℕ) →
@@ -96,7 +103,14 @@ pub fn whole_laws()
         (leaf : Leaf) (at b : ℕ) → IsFit d T →
         FitsIn T outer leaf → Surrounds at outer →
         Sound T (at + 1) (root_step coding path outer leaf at b) }
-    // The lines of a part are heard by each part around it that tells what follows, and stand in front of what comes of it.
+    // Readings of a list by two codings are the same if the orders are, and the phases at the octets
+    // of the list.
+    ensures same { (coding other : Coding) (path : List PathSegment) (T : Ty) (at : ℕ)
+        (s : List ℕ) → coding.order ≡ other.order →
+        ((here : ℕ) → here < at + length s → coding.phase here ≡ other.phase here) →
+        reading coding path T at s ≡ reading other path T at s }
+    // The lines of a part are heard by each part around it that tells what comes after it, and come
+    // before what is read next.
     ensures heard { (coding : Coding) (path : List PathSegment) (outer : List OpenPart)
         (lines : List Line) (r : Read) →
         around coding path outer (with_front lines r)

@@ -1,4 +1,4 @@
-//! The number that begins an innermost part, and what follows it.
+//! The number that begins an innermost part, and what comes after it.
 
 ghost use Rattle.std.specs.Prelude.{◌≡◌, ℕ, suc, ◌+◌, ◌<◌, ◌≤◌, ◌++◌, length, take, eqb, false};
 ghost use Rattle.giop_cdr.specs.Alignment.{IsAlignment, padding};
@@ -9,7 +9,8 @@ ghost use Rattle.giop_decode.specs.Runs.{IsStep, IsStepOf};
 ghost use Rattle.giop_decode.specs.ReadingSteps.{leading_width};
 ghost use Rattle.giop_decode.specs.Fits.{HasLeadingNumber};
 ghost use Rattle.giop_decode.specs.Transitions.{IsNumberOf, NumberStands, over_by, unnamed_by};
-ghost use Rattle.giop_sig.specs.Types.{Marked, Ty, Text, Octets, OctetKind, bound_of, Sequence, switch_of, shape_in, IsUnion};
+ghost use Rattle.giop_sig.specs.declared.types.Shape.TheVariants as Shape;
+ghost use Rattle.giop_sig.specs.Types.{HasShape, Marked, Ty, Text, Octets, OctetKind, bound_of, Sequence, switch_of, shape_in, IsUnion};
 ghost use Rattle.giop_sig.specs.Fits.{IsFit};
 ghost use Rattle.giop_sig.specs.Trees.{tree, tree_at};
 
@@ -19,7 +20,7 @@ use crate::progress::Kind;
 use giop_cdr::{Carry, Number, Order, Prim, number_of, pad, size};
 use giop_sig::{SeenCatalogue, Selected, Shape, TypeId, is_kind, kind_word};
 
-/// The size of the number that begins a type.
+/// How many octets the number has that begins a type.
 #[inline(always)]
 pub(crate) fn width(catalogue: &SeenCatalogue<'_>, t: TypeId) -> u8
     requires known { t.0 < length catalogue.now.types }
@@ -36,7 +37,7 @@ pub(crate) fn width(catalogue: &SeenCatalogue<'_>, t: TypeId) -> u8
     }
 }
 
-/// The size of the number of a discriminator.
+/// How many octets the number of a discriminator has.
 #[inline(always)]
 fn switch_width(catalogue: &SeenCatalogue<'_>, t: TypeId) -> u8
     requires known { t.0 < length catalogue.now.types }
@@ -51,8 +52,8 @@ fn switch_width(catalogue: &SeenCatalogue<'_>, t: TypeId) -> u8
     }
 }
 
-/// How many octets of padding stand in front of a number of this width. Each width has an arm of its own, so that none
-/// waits for a division.
+/// How many octets of padding come before a number of this width. Each width has an arm of its own,
+/// so that none waits for a division.
 #[inline(always)]
 pub(crate) fn padding_at(at: u8, width: u8) -> u8
     requires { IsAlignment width }
@@ -68,7 +69,8 @@ pub(crate) fn padding_at(at: u8, width: u8) -> u8
     }
 }
 
-/// Holds octets of a number, after those of its padding, up to its last, and answers how many octets these are.
+/// Holds octets of a number up to its last, without those of the padding before it. Answers how
+/// many octets these are, with the padding.
 pub(crate) fn hold_number(carry: &mut Carry, at: u8, width: u8, octets: &[u8]) -> usize
     requires width { IsAlignment width }
     requires room { length carry.old < width }
@@ -85,7 +87,7 @@ pub(crate) fn hold_number(carry: &mut Carry, at: u8, width: u8, octets: &[u8]) -
     padding + hold_some(carry, width, &octets[padding..])
 }
 
-/// Holds octets of a number up to its last, and answers how many these are.
+/// Holds octets of a number up to its last. Answers how many these are.
 fn hold_some(carry: &mut Carry, width: u8, octets: &[u8]) -> usize
     requires width { IsAlignment width }
     requires room { length carry.old < width }
@@ -102,7 +104,7 @@ fn hold_some(carry: &mut Carry, width: u8, octets: &[u8]) -> usize
     count
 }
 
-/// Goes on after the number that begins a type, which has these octets.
+/// Goes on after the number that begins a type. It has these octets.
 #[inline(always)]
 pub(crate) fn take_value(
     catalogue: &SeenCatalogue<'_>,
@@ -140,6 +142,7 @@ pub(crate) fn take_value(
         Shape::WideText => take_size(catalogue, of, None, long_of(order, octets)),
         Shape::WideChar => take_size(catalogue, of, None, octet_of(order, octets)),
         Shape::Sequence(bound) => take_count(catalogue, of, bound, long_of(order, octets)),
+        Shape::Recursive(bound) => take_recursive(catalogue, of, bound, long_of(order, octets)),
         Shape::Union(_) => take_switch(catalogue, order, of, octets),
         Shape::Tagged => take_switch(catalogue, order, of, octets),
         Shape::Encapsulation => encapsulation::take_length(catalogue, of, long_of(order, octets)),
@@ -167,7 +170,7 @@ fn is_unnamed(mark: u32, n: u32) -> bool
     is_kind(mark) && kind_word(mark, n).is_none()
 }
 
-/// Goes on after the number of a union's discriminator, which has these octets.
+/// Goes on after the number of a union's discriminator. It has these octets.
 #[inline(always)]
 fn take_switch(catalogue: &SeenCatalogue<'_>, order: Order, of: TypeId, octets: &[u8]) -> Step
     requires known { of.0 < length catalogue.now.types }
@@ -200,7 +203,7 @@ fn take_switch(catalogue: &SeenCatalogue<'_>, order: Order, of: TypeId, octets: 
     }
 }
 
-/// Goes on after the number of a union's discriminator, which is this value.
+/// Goes on after the number of a union's discriminator, with this value.
 #[inline(always)]
 fn take_selected(catalogue: &SeenCatalogue<'_>, of: TypeId, number: Number) -> Step
     requires known { of.0 < length catalogue.now.types }
@@ -259,7 +262,7 @@ pub(crate) fn take_length(
     }
 }
 
-/// Goes on after the number of octets of a kind.
+/// Goes on after the number of counted octets.
 #[inline(always)]
 pub(crate) fn take_size(
     catalogue: &SeenCatalogue<'_>,
@@ -291,7 +294,7 @@ pub(crate) fn take_size(
     }
 }
 
-/// Goes on after the count of a sequence.
+/// Goes on after the count of a sequence's elements.
 #[inline(always)]
 pub(crate) fn take_count(
     catalogue: &SeenCatalogue<'_>,
@@ -321,6 +324,31 @@ pub(crate) fn take_count(
     }
 }
 
+/// Goes on after the count of a recursive sequence's elements. There may be at most `most`.
+#[inline(never)]
+fn take_recursive(catalogue: &SeenCatalogue<'_>, of: TypeId, most: Option<u32>, n: u32) -> Step
+    requires is { HasShape (tree catalogue.now of.0) (Shape.Recursive most) }
+    requires fit { (d room : ℕ) × IsFit d (tree_at catalogue.now room of.0) }
+    ensures fits { IsStep catalogue.now of.0 result }
+    ensures transitions { IsStepOf catalogue.now of.0 n result }
+{
+    catalogue.laws();
+    if exceeds(most, n) {
+        return refused(Kind::Bound);
+    }
+    let output = Output::Count(n);
+    if n == 0 {
+        return Step {
+            transition: Transition::Ended,
+            output,
+        };
+    }
+    Step {
+        transition: Transition::Recursed(n),
+        output,
+    }
+}
+
 /// Whether a count is above its bound.
 fn exceeds(bound: Option<u32>, n: u32) -> bool
     ensures { over bound n ≡ over_by result }
@@ -331,7 +359,7 @@ fn exceeds(bound: Option<u32>, n: u32) -> bool
     }
 }
 
-/// Four octets, as a slice whose length is a constant, so that no loop reads them.
+/// Four octets as a slice of constant length, so that they are read without a loop.
 #[inline(always)]
 fn just_four(octets: &[u8]) -> &[u8]
     requires { length octets.now ≡ 4 }
@@ -363,7 +391,7 @@ fn octet_of(order: Order, octets: &[u8]) -> u32
     }
 }
 
-/// The one piece of an empty content.
+/// The only piece of an empty content.
 #[inline(always)]
 fn empty_piece() -> Output
     ensures { result ≡ Output.Piece 0 false }

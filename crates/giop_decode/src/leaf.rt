@@ -1,4 +1,5 @@
-//! The innermost part that is begun and not ended, and the transition and the output of one octet of it.
+//! The innermost part that has begun and not ended, and the transition and output of one octet of
+//! it.
 
 ghost use Rattle.std.specs.Prelude.{◌≡◌};
 ghost use Rattle.giop_decode.specs.Transitions.{leaf_type};
@@ -7,25 +8,27 @@ use crate::progress::Kind;
 use giop_cdr::{Number, Order};
 use giop_sig::TypeId;
 
-/// The innermost part: the number that begins it, or its content, in which the unfinished piece begins at an offset.
+/// The innermost part: the number that begins it, or its content, whose unfinished piece begins at
+/// an offset.
 #[derive(Clone, Copy, Debug, PartialEq, Eq)]
 pub(crate) enum Leaf {
     /// The number that begins a value of this type.
     Number(TypeId),
     /// The octet with the byte order of an encapsulation.
     Opening {
-        /// The type.
+        /// The type of the encapsulation.
         of: TypeId,
-        /// How many octets the encapsulation has, this one included.
+        /// How many octets the encapsulation has, with this one.
         count: u32,
     },
-    /// The content of a string, without its zero, or of an octet sequence, or the rest of an encapsulation.
+    /// The content of a string without its zero, or of an octet sequence, or the rest of an
+    /// encapsulation.
     Content {
-        /// The type.
+        /// The type that has the content.
         of: TypeId,
         /// How many octets the content has.
         total: u32,
-        /// Where the piece begins.
+        /// Where in the content the unfinished piece begins.
         offset: u32,
     },
 }
@@ -43,29 +46,35 @@ impl Leaf {
     }
 }
 
-/// What follows an octet of the innermost part.
+/// What comes after an octet of the innermost part.
 #[derive(Clone, Copy, Debug, PartialEq, Eq)]
 pub(crate) enum Transition {
     /// It goes on.
     More(Leaf),
     /// It has ended.
     Ended,
-    /// So many elements follow, at least one.
+    /// This many elements come, at least one.
     Opened(u32),
-    /// The case of this number follows.
+    /// This many elements of a recursive sequence come, at least one, if they have room. If not,
+    /// octets of no known type come.
+    Recursed(u32),
+    /// Octets of no known type come.
+    Stopped,
+    /// The case with this number comes.
     Selected(u32),
-    /// The value in an encapsulation of so many octets follows, in this byte order.
+    /// The value in an encapsulation comes. The encapsulation has this byte order and this many
+    /// octets.
     Entered(Order, u32),
-    /// Its octet breaks a rule.
+    /// The octet breaks a rule.
     Refused(Kind),
 }
 
-/// What an octet puts out: nothing, or that of which a line is written.
+/// What an octet puts out: nothing, or something that has a line.
 #[derive(Clone, Copy, Debug, PartialEq, Eq)]
 pub(crate) enum Output {
     /// Nothing.
     Nothing,
-    /// Nothing either, but the last name is cleared: the length of a string has come, or was too great.
+    /// Nothing, but the last name is cleared: the length of a string has come, or it was too great.
     Length,
     /// The value of a type of one number.
     Number(Number),
@@ -77,11 +86,12 @@ pub(crate) enum Output {
     Size(u32),
     /// The byte order of an encapsulation.
     Ordered(Order),
-    /// A piece of a content: what is held of it, up to when its line is written, and the octets ahead that end it.
+    /// A piece of a content. It has the octets that are held until its line is written, and the
+    /// octets ahead that end it.
     Piece {
         /// Where it begins in the content.
         offset: u32,
-        /// Whether it isn't the last.
+        /// Whether more pieces come.
         more: bool,
     },
 }
@@ -93,13 +103,13 @@ pub(crate) struct Step {
     pub(crate) output: Output,
 }
 
-/// What an octet of an innermost part finishes: of this a line is written, and it is noted.
+/// What an octet of an innermost part finishes. Its line is written, and it is noted.
 #[derive(Clone, Copy, Debug)]
 pub(crate) struct Finished<'a> {
-    /// The part's type.
+    /// The type of the part.
     pub(crate) of: TypeId,
     pub(crate) output: Output,
-    /// Of a piece the octets that are held, and those that follow them.
+    /// The octets of a piece that are held, and then those that come after them.
     pub(crate) held: &'a [u8],
     pub(crate) rest: &'a [u8],
 }

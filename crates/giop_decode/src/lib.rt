@@ -1,4 +1,5 @@
-//! The resumable decoder of typed values: recursive reading of a whole list of octets, an octet at a time.
+//! The resumable decoder of typed values: it reads octet by octet what recursion on the type reads
+//! from a whole list.
 #![tactic(auto)]
 
 mod chain;

@@ -55,7 +55,7 @@ fn number_line<O: Out>(
     }
 }
 
-/// The line of a number with this mark: that of its word, or of the number, which may have a name.
+/// The line of a number with this mark: its word, or the number with its name if it has one.
 #[inline(never)]
 fn marked_line<O: Out>(
     path: &CurrentPath<'_>,
@@ -81,7 +81,8 @@ fn marked_line<O: Out>(
     }
 }
 
-/// The line of a piece, from this offset of its content: the octets that were held, and the rest.
+/// The line of a piece, which begins at this offset of its content. It has the octets that were
+/// held, and then the rest.
 #[inline(always)]
 #[tactic(auto, unfolding(giop_print::specs::Lines::content_line))]
 fn octets_line<O: Out>(
@@ -120,7 +121,7 @@ fn octets_line<O: Out>(
     split_piece_line(out, path, piece)
 }
 
-/// Writes what an octet of an innermost part finishes.
+/// Writes the line of what an octet of an innermost part finishes.
 #[inline(always)]
 pub(crate) fn write_line<O: Out>(
     catalogue: &SeenCatalogue<'_>,

@@ -1,4 +1,4 @@
-//! Octets ahead that are taken together: those of a number that is whole in them, or of the rest of a piece.
+//! Octets ahead that are taken together: those of a whole number, or those of the rest of a piece.
 
 ghost use Rattle.std.specs.Prelude.{◌≡◌, ℕ, ◌-◌, ◌<◌, ◌≤◌, [], true, length, Some, IfSome, IfNone};
 ghost use Rattle.giop_cdr.specs.Alignment.{IsAlignment};
@@ -16,17 +16,19 @@ use giop_sig::{SeenCatalogue, Shape, TypeId};
 /// Octets ahead that an innermost part takes together.
 #[derive(Clone, Copy, Debug)]
 pub(crate) struct Lookahead<'a> {
-    /// The part's type.
+    /// The type of the part.
     pub(crate) of: TypeId,
-    /// How many octets it takes, at least one.
+    /// How many octets are taken, at least one.
     pub(crate) count: usize,
     /// What the last of them does.
     pub(crate) step: Step,
-    /// Those of them that belong to the piece that is written, after the ones that are held.
+    /// Those of the octets that belong to the piece that is written, after the octets that are
+    /// held.
     pub(crate) rest: &'a [u8],
 }
 
-/// So many octets of a part, the last of which does this step, and those of them that belong to the piece that is written.
+/// `count` octets of a part. The last of them makes this step, and `rest` are those that belong to
+/// the piece that is written.
 #[inline(always)]
 pub(crate) fn ahead_of(of: TypeId, count: usize, step: Step, rest: &[u8]) -> Lookahead<'_>
     ensures of { result.of ≡ of }
@@ -42,7 +44,8 @@ pub(crate) fn ahead_of(of: TypeId, count: usize, step: Step, rest: &[u8]) -> Loo
     }
 }
 
-/// How many octets stand after a piece of a content of which so many are left: a string's last is ended by a zero.
+/// How many octets come after a piece, if `left` octets of its content are left: a zero after the
+/// last piece of a string.
 #[inline(always)]
 pub(crate) fn octets_behind(catalogue: &SeenCatalogue<'_>, of: TypeId, left: usize) -> usize
     requires known { of.0 < length catalogue.now.types }
@@ -78,8 +81,8 @@ pub(crate) fn held(of: TypeId, count: usize, leaf: Leaf) -> Lookahead<'static>
     }
 }
 
-/// The number of a type, where that is a primitive and stands whole at the head of these octets, the first of which is
-/// at this offset modulo 8, and how many octets it takes with its padding.
+/// The number of a type, if it is a primitive and all its octets come at the front of these, and
+/// how many octets it takes with its padding. The first octet has this phase modulo 8.
 #[inline(always)]
 pub(crate) fn whole_number(
     catalogue: &SeenCatalogue<'_>,
@@ -104,8 +107,9 @@ pub(crate) fn whole_number(
     }
 }
 
-/// The number of a primitive of this width, where it stands whole at the head of these octets, the first of which is at
-/// this offset modulo 8, and how many octets it takes with its padding. Its callers give the width as a constant.
+/// The number of a primitive of this width, if all its octets come at the front of these, and how
+/// many octets it takes with its padding. The first octet has this phase modulo 8. Callers give the
+/// width as a constant.
 #[inline(always)]
 fn wide_number(
     order: Order,
@@ -129,8 +133,8 @@ fn wide_number(
     }
 }
 
-/// The number of four octets, where they stand whole at the head of these, the first of which is at this offset modulo
-/// 8, and how many octets it takes with its padding.
+/// The number of four octets, if all of them come at the front of these, and how many octets it
+/// takes with its padding. The first octet has this phase modulo 8.
 #[inline(always)]
 pub(crate) fn whole_long(order: Order, at: u8, octets: &[u8]) -> Option<(usize, u32)>
     requires { at < 8 }
@@ -142,8 +146,8 @@ pub(crate) fn whole_long(order: Order, at: u8, octets: &[u8]) -> Option<(usize, 
     }
 }
 
-/// The octets of a number of this width, where they stand whole at the head of these, the first of which is at this
-/// offset modulo 8, and how many they are with its padding.
+/// The octets of a number of this width, if all of them come at the front of these, and how many
+/// they are with its padding. The first octet has this phase modulo 8.
 #[inline(always)]
 pub(crate) fn whole_octets(width: u8, at: u8, octets: &[u8]) -> Option<(usize, &[u8])>
     requires aligned { IsAlignment width }

@@ -1,5 +1,5 @@
-//! What was last noted of a value: a header's request id, whether it expects a reply, whose its object key is, an enum's
-//! number, and the last string as a name.
+//! What was last noted of a value: the request id of a header, whether it expects a reply, the
+//! interface of its object key, the number of an enum, and the last string as a name.
 
 ghost use Rattle.std.specs.Prelude.{◌≡◌, ℕ, ◌<◌, ◌≤◌, ◌&&◌, Bool, IsTrue, IfSome, true, false, codes, List, [], ◌++◌, length};
 ghost use Rattle.giop_decode.specs.Noted.{Noted, nothing_noted, with_piece, ended, noted_piece, is_name, is_member, is_key_path, is_header_root, without_name_if, note_value, noted, names_operation, expects_after, with_expects, may_have_key, with_key_piece, key_ended, noted_key};
@@ -25,22 +25,23 @@ use giop_sig::{InterfaceId, SeenCatalogue, Shape, TypeId};
 /// What the name buffer has.
 #[derive(Clone, Copy, Debug, PartialEq, Eq)]
 pub(crate) enum Buffer {
-    /// The pieces of a string that hasn't ended: none where there was no string.
+    /// The octets of a string that hasn't ended; none if there was no string.
     Begun,
     /// The last string.
     Whole,
-    /// Nothing: the string's pieces are more than a name has room for.
+    /// Nothing: the string has more octets than a name may have.
     TooLong,
-    /// The pieces of an object key that hasn't ended.
+    /// The octets of an object key that hasn't ended.
     Key,
-    /// Nothing: the object key's pieces are more than a name has room for.
+    /// Nothing: the object key has more octets than a name may have.
     LongKey,
 }
 
-/// The last that was noted but for strings: a header's object key is noted before any enum, and an enum takes its place.
+/// The last that was noted apart from strings. The object key of a header is noted before all
+/// enums, and an enum takes its place.
 #[derive(Clone, Copy, Debug, PartialEq, Eq)]
 pub(crate) enum Last {
-    /// Neither an enum nor an object key that is an interface's.
+    /// Neither an enum nor an object key that has an interface.
     Nothing,
     /// The number of the last enum.
     Status(u32),
@@ -51,7 +52,7 @@ pub(crate) enum Last {
 /// What was last noted.
 #[derive(Debug, Drop)]
 pub(crate) struct Notes {
-    // The first that was read.
+    // The first request id that was read.
     pub(crate) request_id: Option<u32>,
     pub(crate) last: Last,
     pub(crate) expects_reply: Option<bool>,
@@ -60,7 +61,7 @@ pub(crate) struct Notes {
 }
 
 impl Notes {
-    /// Nothing noted.
+    /// Notes with nothing noted.
     pub(crate) fn new() -> Notes
         ensures nothing { (C : Table) (asked : Bool) → HoldsNoted C asked result nothing_noted }
         ensures no_key { HoldsNoKey result.buffer }
@@ -74,7 +75,7 @@ impl Notes {
         }
     }
 
-    /// Nothing is noted from now on.
+    /// Forgets all that was noted.
     pub(crate) fn clear(&mut self)
         ensures nothing { (C : Table) (asked : Bool) →
             HoldsNoted C asked self.new nothing_noted }
@@ -87,7 +88,7 @@ impl Notes {
         self.buffer = Buffer::Begun;
     }
 
-    /// Clears the last name: the length of a string has come.
+    /// Clears the last name, because the length of a string has come.
     #[inline(always)]
     fn forget(&mut self)
         ensures notes { (C : Table) (asked : Bool) (h : Noted) → HoldsNoted C asked self.old h →
@@ -109,7 +110,7 @@ impl Notes {
         }
     }
 
-    /// Notes octets of a string whose end is to come, where the buffer has no whole name.
+    /// Notes octets of a string whose end is to come. The buffer has no whole name.
     #[inline(always)]
     fn extend(&mut self, octets: &[u8])
         requires { self.old.buffer ≡ Buffer.Whole → ⊥ }
@@ -126,7 +127,7 @@ impl Notes {
         }
     }
 
-    /// The same where the buffer hasn't the octets of a string, but those of an object key, or of a string too long for it.
+    /// The same, if the buffer has the octets of an object key, or is too short for its string.
     #[inline(never)]
     fn extend_anew(&mut self, octets: &[u8])
         requires whole { self.old.buffer ≡ Buffer.Whole → ⊥ }
@@ -153,7 +154,7 @@ impl Notes {
         }
     }
 
-    /// Begins to note a string in the place of an object key.
+    /// Begins to note a string instead of an object key.
     fn begin(&mut self)
         requires { HoldsNoKey self.old.buffer → ⊥ }
         ensures notes { (C : Table) (asked : Bool) (h : Noted) → HoldsNoted C asked self.old h →
@@ -166,7 +167,7 @@ impl Notes {
         self.buffer = Buffer::Begun;
     }
 
-    /// The same where the buffer has a string that has begun.
+    /// The same, if the buffer has the octets of a string that hasn't ended.
     #[inline(always)]
     fn add(&mut self, octets: &[u8])
         requires { self.old.buffer ≡ Buffer.Begun }
@@ -200,7 +201,8 @@ impl Notes {
         }
     }
 
-    /// Notes a piece of a string, which may be its last: the octets that were held, mostly none, and the rest.
+    /// Notes a piece of a string: the octets that were held, which are mostly none, and the rest.
+    /// `more` says whether more pieces come.
     #[inline(always)]
     fn note_piece(&mut self, held: &[u8], rest: &[u8], more: bool)
         ensures notes { (C : Table) (asked : Bool) (h : Noted) → HoldsNoted C asked self.old h →
@@ -239,7 +241,8 @@ impl Notes {
         }
     }
 
-    /// Notes a piece of an object key, which may be its last: the octets that were held, mostly none, and the rest.
+    /// Notes a piece of an object key: the octets that were held, which are mostly none, and the
+    /// rest. `more` says whether more pieces come.
     #[inline(never)]
     fn note_key(&mut self, catalogue: &SeenCatalogue<'_>, held: &[u8], rest: &[u8], more: bool)
         requires { has_keys catalogue.now ≡ true }
@@ -286,7 +289,8 @@ impl Notes {
         }
     }
 
-    /// Notes that an object key has ended: whose it is takes the place of its octets.
+    /// Notes that an object key has ended. The buffer becomes empty, and the interface of the key
+    /// is noted if it has one.
     fn end_key(&mut self, catalogue: &SeenCatalogue<'_>)
         requires keys { has_keys catalogue.now ≡ true }
         requires key { IsForKey self.old }
@@ -307,7 +311,7 @@ impl Notes {
         self.buffer = Buffer::Begun;
     }
 
-    /// Notes the number of a discriminator of this type: an enum's.
+    /// Notes the number of a discriminator of this type, if it is an enum.
     #[inline(always)]
     fn note_switch(&mut self, catalogue: &SeenCatalogue<'_>, t: TypeId, number: Number)
         requires known { t.0 < length catalogue.now.types }
@@ -327,7 +331,8 @@ impl Notes {
         }
     }
 
-    /// Notes the number of an innermost part of this type, by what it is: an enum's, or a member of a header.
+    /// Notes the number of an innermost part of this type, if it is an enum or one of the header's
+    /// members that are noted.
     #[inline(always)]
     fn note_part(
         &mut self,
@@ -380,8 +385,8 @@ impl Notes {
         }
     }
 
-    /// Notes what an octet of an innermost part finishes, and answers whether that ends the
-    /// operation of a Request's header.
+    /// Notes what an octet of an innermost part finishes. Answers whether that ends the operation
+    /// of a Request's header.
     #[inline(always)]
     pub(crate) fn note(
         &mut self,
@@ -455,7 +460,7 @@ fn is_set(number: Number) -> bool
     }
 }
 
-/// Whether lines of this root are a header's.
+/// Whether this is the root of a header.
 #[inline(always)]
 pub(crate) fn is_header(root: Root) -> bool
     ensures { result ≡ is_header_root root }
@@ -467,7 +472,7 @@ pub(crate) fn is_header(root: Root) -> bool
     }
 }
 
-/// Whether the innermost part is the member of this name of a header.
+/// Whether the innermost part is the member of a header with this name.
 #[inline(always)]
 fn is_header_member(catalogue: &SeenCatalogue<'_>, root: Root, outer: &[Frame], name: &[u8]) -> bool
     requires { AreKnown catalogue.now outer.now }
@@ -477,7 +482,7 @@ fn is_header_member(catalogue: &SeenCatalogue<'_>, root: Root, outer: &[Frame], 
     is_header(root) && is_member(catalogue, outer, name)
 }
 
-/// Whether the innermost part is the root's member of this name.
+/// Whether the innermost part is the root's member with this name.
 fn is_member(catalogue: &SeenCatalogue<'_>, outer: &[Frame], name: &[u8]) -> bool
     requires { AreKnown catalogue.now outer.now }
     ensures { (here : ℕ) →
@@ -489,7 +494,7 @@ fn is_member(catalogue: &SeenCatalogue<'_>, outer: &[Frame], name: &[u8]) -> boo
     }
 }
 
-/// Whether the innermost part is a header's object key.
+/// Whether the innermost part is the object key of a header.
 fn is_key(catalogue: &SeenCatalogue<'_>, root: Root, outer: &[Frame]) -> bool
     requires { AreKnown catalogue.now outer.now }
     ensures is { (here : ℕ) → result ≡ (is_header_root root

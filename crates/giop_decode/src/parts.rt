@@ -1,4 +1,5 @@
-//! Numbers that are parts of one part, taken one after another: what their lines begin with is spelled once.
+//! Takes numbers that are parts of the same part one after another. What their lines begin with is
+//! spelled once.
 
 ghost use Rattle.std.specs.Prelude.{◌≡◌, ℕ, ◌+◌, ◌-◌, ◌<◌, ◌≤◌, false, true, List, [], ◌++◌, length, IfOk, IfSome, OnOk, IsTrue};
 ghost use Rattle.giop_cdr.specs.Primitives.{size_of};
@@ -25,29 +26,29 @@ use giop_cdr::{Number, Prim};
 use giop_print::{Head, Line, Out, OutFault, line_behind, put_number_end};
 use giop_sig::{SeenCatalogue, Shape, TypeId};
 
-/// The number of a primitive that comes next, where it is a part of a part that is begun.
+/// The number of a primitive that comes next, if it is a part of a part that has begun.
 #[derive(Clone, Copy, Debug)]
 struct PartAhead<'a> {
-    /// The octets at whose head it stands.
+    /// The octets that begin with those of the number.
     octets: &'a [u8],
     of: TypeId,
-    /// The part that it is a part of.
+    /// The part that has the number.
     frame: Frame,
     prim: Prim,
     number: Number,
-    /// How many octets it takes with its padding.
+    /// How many octets the number takes with its padding.
     count: usize,
 }
 
-/// How many octets may stand in a line before the last segment of its path.
+/// How many octets a line may have before the last segment of its path.
 const FRONT: usize = 128;
 
-/// How many octets there must be that a run of numbers is begun.
+/// How many octets there must be for a run of numbers to begin.
 const RUN: usize = 16;
 
 impl Decoder {
-    /// Whether the number that comes next is a primitive's, and one of several parts of which three are to come, in no header,
-    /// and there are octets for more than one.
+    /// Whether the number that comes next is a primitive and a part of a part of which three parts
+    /// are to come, and there are octets for more than one. False in a header.
     #[inline(always)]
     pub(crate) fn has_parts(&self, catalogue: &SeenCatalogue<'_>, of: TypeId, octets: &[u8]) -> bool
         requires fits { Fits catalogue.now self.now }
@@ -69,8 +70,9 @@ impl Decoder {
         frame.index.saturating_add(2) < frame.count
     }
 
-    /// Takes some of the octets, of which there is at least one: numbers of primitives that stand whole at their head,
-    /// as long as each is a part that another follows, and the one after them. Writes their lines.
+    /// Takes some of the octets, which are at least one: primitive numbers whose octets are all
+    /// there, as long as each is a part and another part comes after it, and the number after them.
+    /// Writes their lines.
     #[inline(never)]
     pub(crate) fn take_parts<O: Out>(
         &mut self,
@@ -93,7 +95,7 @@ impl Decoder {
         self.take_several(catalogue, octets, &line, out)
     }
 
-    /// The same where what their lines begin with is spelled.
+    /// The same, after what their lines begin with was spelled.
     #[inline(always)]
     fn take_several<O: Out>(
         &mut self,
@@ -128,8 +130,8 @@ impl Decoder {
         Ok((taken + rest, progress))
     }
 
-    /// The number that comes next, where it is a primitive's, stands whole at the head of these octets, and is a part
-    /// of a part that is begun.
+    /// The number that comes next, if it is a primitive, all its octets come at the front of these,
+    /// and it is a part of a part that has begun.
     #[inline(always)]
     fn part_ahead<'a>(
         &self,
@@ -164,7 +166,8 @@ impl Decoder {
         }
     }
 
-    /// Takes the octets of that number, which another follows, and writes its line, of which the front is spelled.
+    /// Takes the octets of that number, if another number comes after it, and writes its line. The
+    /// front of the line is spelled.
     #[inline(always)]
     fn take_part<O: Out>(
         &mut self,
@@ -193,8 +196,8 @@ impl Decoder {
         Ok((part.count, Progress::More))
     }
 
-    /// Takes the octets of that number, which may be the last of its part, and writes its line, of which the front is
-    /// spelled.
+    /// Takes the octets of that number, which may be the last part, and writes its line. The front
+    /// of the line is spelled.
     #[inline(always)]
     fn take_last<O: Out>(
         &mut self,
@@ -227,7 +230,7 @@ impl Decoder {
         Ok((part.count, progress))
     }
 
-    /// The type of the part that follows that number, where that is a primitive.
+    /// The type of the part after that number, if it is a primitive.
     #[inline(always)]
     fn next_number(&self, catalogue: &SeenCatalogue<'_>, part: PartAhead<'_>) -> Option<TypeId>
         requires fits { Fits catalogue.now self.now }
@@ -245,8 +248,8 @@ impl Decoder {
         }
     }
 
-    /// Puts what the lines of the innermost part's parts begin with, up to their own segment, on an empty line, and
-    /// answers whether it did so: not where that has too many octets.
+    /// Puts on an empty line what the lines of the innermost part's parts begin with, up to their
+    /// own segments. Answers whether it did so; it doesn't if that has too many octets.
     fn put_front_of_parts(&self, catalogue: &SeenCatalogue<'_>, line: &mut Line) -> bool
         requires known { AreKnown catalogue.now self.now.outer.items }
         requires some { 0 < length self.now.outer.items }
@@ -260,8 +263,8 @@ impl Decoder {
     }
 }
 
-/// The line of a number that is a part, of which the front is spelled; the rest of it is spelled in `line`, whatever
-/// that has.
+/// The line of a number that is a part. The front of the line is spelled. The rest is spelled in
+/// `line`, whatever that has.
 #[inline(always)]
 fn part_line<O: Out>(
     catalogue: &SeenCatalogue<'_>,
@@ -285,8 +288,9 @@ fn part_line<O: Out>(
     line_behind(out, front, line)
 }
 
-/// Puts what the lines of the parts in these begin with, up to their own segment, on an empty line, and answers
-/// whether it did so: it does where the segments have at most 96 octets, and all of it is then at most 128.
+/// Puts on an empty line what the lines of the parts within these begin with, up to their own
+/// segments. Answers whether it did so: it does if the segments have at most 96 octets, and all of
+/// it has at most 128 then.
 #[inline(always)]
 pub(crate) fn put_front(
     catalogue: &SeenCatalogue<'_>,

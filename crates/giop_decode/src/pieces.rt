@@ -1,4 +1,5 @@
-//! Full pieces of an octet sequence, taken one after another: what their lines begin with is spelled once.
+//! Takes full pieces of an octet sequence one after another. What their lines begin with is spelled
+//! once.
 
 ghost use Rattle.std.specs.Prelude.{◌≡◌, ℕ, ◌<◌, ◌≤◌, false, true, List, [], length, take, codes, IfOk, IfSome, IsTrue, OnOk};
 ghost use Rattle.giop_decode.specs.SeenState.{Fits};
@@ -17,31 +18,31 @@ use crate::progress::Progress;
 use giop_print::{Line, Out, OutFault, Piece, SplitPiece, line_behind, put_piece_end};
 use giop_sig::{SeenCatalogue, Shape, TypeId};
 
-/// A full piece of an octet sequence, of which no octet is held, and after which more comes.
+/// A full piece of an octet sequence. None of its octets is held, and more come after it.
 #[derive(Clone, Copy, Debug)]
 struct PieceAhead<'a> {
-    /// The octets at whose head it stands.
+    /// The octets that begin with those of the piece.
     octets: &'a [u8],
     of: TypeId,
     /// How many octets the content has.
     total: u32,
-    /// Where the piece begins in it.
+    /// Where in the content the piece begins.
     offset: u32,
 }
 
 /// How many octets a full piece has.
 const PIECE: usize = 32;
 
-/// How many octets there must be, and more than so many of the content to come, that full pieces are taken one after
-/// another.
+/// How many octets there must be for a run of full pieces to begin. More than this many of the
+/// content must be to come.
 const RUN: usize = 2 * PIECE;
 
-/// How many octets may stand in a line before the word of its piece: what `put_piece_end` leaves.
+/// How many octets a line may have before the word of its piece: what `put_piece_end` leaves.
 const FRONT: usize = 89;
 
 impl Decoder {
-    /// Whether two full pieces of an octet sequence stand whole at the head of these octets, which are not noted, and more
-    /// of it comes after them.
+    /// Whether all octets of two full pieces of an octet sequence come at the front of these, more
+    /// of the sequence comes after them, and it isn't noted.
     #[inline(always)]
     pub(crate) fn has_pieces(&self, catalogue: &SeenCatalogue<'_>, octets: &[u8]) -> bool
         requires { Fits catalogue.now self.now }
@@ -56,15 +57,16 @@ impl Decoder {
         self.is_quiet(catalogue)
     }
 
-    /// Whether no octet sequence is noted: in no header, and where no object key has an interface.
+    /// Whether octet sequences aren't noted: this isn't a header, or no object key has an
+    /// interface.
     fn is_quiet(&self, catalogue: &SeenCatalogue<'_>) -> bool
         ensures { IsTrue result → IsQuiet catalogue.now self.now.head.root }
     {
         !(is_header(self.head.root()) && catalogue.has_keys())
     }
 
-    /// Takes some of the octets, of which there is at least one: full pieces of an octet sequence that stand whole at
-    /// their head, and some of what is after them. Writes their lines.
+    /// Takes some of the octets, which are at least one: full pieces of an octet sequence whose
+    /// octets are all there, and some of what comes after them. Writes their lines.
     #[inline(never)]
     pub(crate) fn take_pieces<O: Out>(
         &mut self,
@@ -87,7 +89,7 @@ impl Decoder {
         self.take_full(catalogue, octets, &line, out)
     }
 
-    /// The same where what their lines begin with is spelled.
+    /// The same, after what their lines begin with was spelled.
     #[inline(always)]
     fn take_full<O: Out>(
         &mut self,
@@ -118,8 +120,8 @@ impl Decoder {
         Ok((taken + rest, progress))
     }
 
-    /// The full piece that comes next, where it is an octet sequence's, stands whole at the head of these octets, and
-    /// none of it is held.
+    /// The full piece that comes next, if it is one of an octet sequence, all its octets come at
+    /// the front of these, and none of it is held.
     #[inline(always)]
     fn next_piece<'a>(
         &self,
@@ -150,7 +152,7 @@ impl Decoder {
         }
     }
 
-    /// Takes the octets of that piece, and writes its line, of which the front is spelled.
+    /// Takes the octets of that piece, and writes its line. The front of the line is spelled.
     #[inline(always)]
     fn take_piece<O: Out>(
         &mut self,
@@ -181,7 +183,8 @@ impl Decoder {
     }
 }
 
-/// The line of that piece, of which the front is spelled; the rest of it is spelled in `line`, whatever that has.
+/// The line of that piece. The front of the line is spelled. The rest is spelled in `line`,
+/// whatever that has.
 #[inline(always)]
 fn piece_line<O: Out>(
     piece: PieceAhead<'_>,

@@ -1,5 +1,5 @@
-//! A decoder from the octets that were stored of one. They are read without a check of each; the decoder is then stored
-//! anew, and the octets are compared.
+//! A decoder from the octets that were stored of one. They are read without checks. After that the
+//! decoder is stored again, and the octets are compared.
 
 ghost use Rattle.std.specs.Prelude.{◌≡◌, ◌↔◌, IsTrue, Bool, ℕ, ◌+◌, ◌<◌, ◌≤◌, List, [], ◌∷◌, ◌++◌, length, drop, Option, Some, IfSome, IsSome};
 ghost use Rattle.std.specs.List.{AllByRecursion};
@@ -12,6 +12,7 @@ ghost use Rattle.giop_decode.specs.declared.notes.Buffer.{Buffer as BufferState}
 ghost use Rattle.giop_decode.specs.declared.notes.Last.{Last as LastState};
 ghost use Rattle.giop_decode.specs.declared.notes.Notes.{Notes as NotesState};
 ghost use Rattle.giop_decode.specs.DecoderState.{Fits, IsOfVersion, Reads};
+ghost use Rattle.giop_decode.specs.ReadResult.{Coding};
 ghost use Rattle.giop_decode.specs.Stored.{narrow_octet, order_octet, root_octet, leaf_octets, buffer_octet, last_octets, expects_octet, notes_octets, inside_octet, told_octet, frame_octets, frames_octets, frame_size, FrameHasRange, LeafHasRange, LastHasRange, NotesHaveRange, Stored, IsKept, IsRestored};
 ghost use Rattle.giop_print.specs.declared.path.Root.{Root as PathRoot};
 ghost use Rattle.giop_sig.specs.Table.{Table};
@@ -29,8 +30,9 @@ use giop_print::{Head, Root};
 use giop_sig::{Catalogue, InterfaceId, TypeId};
 
 impl Decoder {
-    /// The decoder that was stored in these octets: its own, and those of its frames. None where no decoder that fits
-    /// the catalogue, and reads a message of this minor version, is stored so.
+    /// The decoder that was stored in these octets: its own, and those of its frames. None if no
+    /// decoder that fits the catalogue and reads a message of this minor version is stored like
+    /// this.
     pub fn restore(
         catalogue: &Catalogue,
         fixed: &[u8; 208],
@@ -42,12 +44,12 @@ impl Decoder {
         ensures stored { IfSome result (λ d. Stored d fixed.now frames.now) }
         ensures again { (d : State) → Fits catalogue.now d → IsOfVersion minor catalogue.now d →
             Stored d fixed.now frames.now → IsSome result }
-        // It reads whatever list the stored one reads.
+        // It reads any list that the stored one reads.
         ensures reads { IfSome result (λ e. (d : State) → Fits catalogue.now d →
             Stored d fixed.now frames.now →
-            (T : Ty) (order : ByteOrder) (at message : ℕ) (root : PathRoot) (s : List ℕ) →
-            Reads catalogue.now T order at message root d s →
-            Reads catalogue.now T order at message root e s) }
+            (T : Ty) (coding : Coding) (at message : ℕ) (root : PathRoot) (s : List ℕ) →
+            Reads catalogue.now T coding at message root d s →
+            Reads catalogue.now T coding at message root e s) }
     {
         let narrow = catalogue.is_narrow(minor);
         let seen = catalogue.seen(narrow);
@@ -123,7 +125,7 @@ fn order_at(octets: &[u8], at: usize) -> Order
     }
 }
 
-/// Whether there is no room for wide text, as it is stored at this index.
+/// Whether anys and recursive sequences can't hold wide text, as stored at this index.
 fn narrow_at(octets: &[u8], at: usize) -> bool
     requires room { at < length octets.now }
     ensures { (narrow : Bool) (rest : List ℕ) → drop at octets.now ≡ narrow_octet narrow ∷ rest →
@@ -167,7 +169,7 @@ fn leaf_at(octets: &[u8], at: usize) -> Leaf
     }
 }
 
-/// A carry that holds these octets.
+/// A carry with these octets.
 fn carried(octets: &[u8]) -> Carry
     requires { length octets.now ≤ 8 }
     ensures { result ≡ octets.now }
@@ -211,7 +213,7 @@ fn last_at(octets: &[u8], at: usize) -> Last
     Last::Interface(InterfaceId(number))
 }
 
-/// Whether a reply is expected, as it is stored at this index.
+/// Whether a reply is expected, as stored at this index.
 fn expects_at(octets: &[u8], at: usize) -> Option<bool>
     requires room { at < length octets.now }
     ensures { (expects_reply : Option Bool) (rest : List ℕ) →
@@ -241,7 +243,7 @@ fn buffer_at(octets: &[u8], at: usize) -> Buffer
     }
 }
 
-/// The frames that are stored in octets, but for the last, which is the innermost part's.
+/// The frames that are stored in octets, without the last, which is that of the innermost part.
 fn outer_at(octets: &[u8]) -> ArrayVec<Frame, 24>
     ensures { (frames : List FrameState) (own : FrameState) → AllByRecursion FrameHasRange frames →
         length frames < 24 → octets.now ≡ frames_octets (frames ++ own ∷ []) →
@@ -272,7 +274,7 @@ fn frame_at(octets: &[u8]) -> Frame
     }
 }
 
-/// What was told in a frame, as it is stored at this index, or none.
+/// What was told in a frame, as stored at this index, if something was.
 fn told_at(octets: &[u8], at: usize) -> Option<Stage>
     requires room { at < length octets.now }
     ensures { (told : Option StageState) (rest : List ℕ) →
@@ -289,7 +291,7 @@ fn told_at(octets: &[u8], at: usize) -> Option<Stage>
     }
 }
 
-/// The byte order of an encapsulation that is stored at this index, or none.
+/// The byte order of an encapsulation that is stored at this index, if it is one.
 fn inside_at(octets: &[u8], at: usize) -> Option<Order>
     requires room { at < length octets.now }
     ensures { (inside : Option ByteOrder) (rest : List ℕ) →

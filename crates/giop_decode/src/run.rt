@@ -1,9 +1,9 @@
-//! A run of octets, taken up to the one at which an operation or the value ends, or a rule is broken.
+//! Takes a run of octets, up to one that ends an operation or the value, or breaks a rule.
 
 ghost use Rattle.std.specs.Prelude.{◌≡◌, ℕ, ◌+◌, ◌-◌, ◌%◌, ◌^◌, ◌<◌, ◌≤◌, List, length, take, IfOk, Some};
-ghost use Rattle.giop_cdr.specs.declared.order.Order.{Order as ByteOrder};
 ghost use Rattle.giop_decode.specs.declared.decoder.Decoder.{Decoder as Before};
 ghost use Rattle.giop_decode.specs.DecoderState.{Fits, GoesOn, IsDone, KeepsVersion, Reads, TakesRun};
+ghost use Rattle.giop_decode.specs.ReadResult.{Coding};
 ghost use Rattle.giop_decode.specs.Runs.{IsContent, IsHeldOf, IsParted, TakesSome, WritesRun, TakenTogether, TakesRun as TakesRunSeen};
 ghost use Rattle.giop_decode.specs.SeenState.{Fits as FitsSeen, Reads as ReadsSeen};
 ghost use Rattle.giop_decode.specs.Transitions.{HaveOctetsLeft, coding_by, ticked_by};
@@ -24,9 +24,10 @@ use giop_print::{Out, OutFault};
 use giop_sig::{Catalogue, SeenCatalogue, Shape, TypeId};
 
 impl Decoder {
-    /// Takes octets of the value, and writes their lines: all of them, or as many as there are up to one that ends an
-    /// operation or the value, or breaks a rule. Answers how many it took, and the answer to the last of them; no
-    /// octets leave the value as it is. A decoder that is done or faulted takes no more.
+    /// Takes octets of the value, and writes their lines: all of them, or those up to one that ends
+    /// an operation or the value, or breaks a rule. Answers how many it took, and the answer to the
+    /// last of them. No octets leave the value as it is. A decoder that is done or at a fault takes
+    /// no more.
     #[inline(never)]
     pub fn take_run<O: Out>(
         &mut self,
@@ -35,14 +36,14 @@ impl Decoder {
         out: &mut O,
     ) -> Result<(usize, Progress), OutFault>
         requires { Fits catalogue.now self.old }
-        ensures writes { (T : Ty) (order : ByteOrder) (at message : ℕ) (root : PathRoot)
+        ensures writes { (T : Ty) (coding : Coding) (at message : ℕ) (root : PathRoot)
             (s : List ℕ) →
-            Reads catalogue.now T order at message root self.old s →
-            WritesRun result T order at message root s octets.now (O.log out.old) (O.log out.new) }
-        ensures takes { IfOk result (λ taken. (T : Ty) (order : ByteOrder) (at message : ℕ)
+            Reads catalogue.now T coding at message root self.old s →
+            WritesRun result T coding at message root s octets.now (O.log out.old) (O.log out.new) }
+        ensures takes { IfOk result (λ taken. (T : Ty) (coding : Coding) (at message : ℕ)
             (root : PathRoot) (s : List ℕ) →
-            Reads catalogue.now T order at message root self.old s →
-            TakesRun catalogue.now T order at message root self.new s
+            Reads catalogue.now T coding at message root self.old s →
+            TakesRun catalogue.now T coding at message root self.new s
             (take taken.0 octets.now) taken.1) }
         ensures within { IfOk result (λ taken. taken.0 ≤ length octets.now) }
         ensures some { IfOk result (λ taken. 0 < length octets.now → 0 < taken.0) }
@@ -54,7 +55,7 @@ impl Decoder {
         self.take_octets(&catalogue.seen(self.narrow), octets, out)
     }
 
-    /// The same, by the catalogue as the version of the value sees it.
+    /// The same, with the catalogue as messages of the value's version see it.
     #[inline(always)]
     fn take_octets<O: Out>(
         &mut self,
@@ -63,14 +64,14 @@ impl Decoder {
         out: &mut O,
     ) -> Result<(usize, Progress), OutFault>
         requires { FitsSeen catalogue.now self.old }
-        ensures writes { (T : Ty) (order : ByteOrder) (at message : ℕ) (root : PathRoot)
+        ensures writes { (T : Ty) (coding : Coding) (at message : ℕ) (root : PathRoot)
             (s : List ℕ) →
-            ReadsSeen catalogue.now T order at message root self.old s →
-            WritesRun result T order at message root s octets.now (O.log out.old) (O.log out.new) }
-        ensures takes { IfOk result (λ taken. (T : Ty) (order : ByteOrder) (at message : ℕ)
+            ReadsSeen catalogue.now T coding at message root self.old s →
+            WritesRun result T coding at message root s octets.now (O.log out.old) (O.log out.new) }
+        ensures takes { IfOk result (λ taken. (T : Ty) (coding : Coding) (at message : ℕ)
             (root : PathRoot) (s : List ℕ) →
-            ReadsSeen catalogue.now T order at message root self.old s →
-            TakesRunSeen catalogue.now T order at message root self.new s
+            ReadsSeen catalogue.now T coding at message root self.old s →
+            TakesRunSeen catalogue.now T coding at message root self.new s
             (take taken.0 octets.now) taken.1) }
         ensures within { IfOk result (λ taken. taken.0 ≤ length octets.now) }
         ensures some { IfOk result (λ taken. 0 < length octets.now → 0 < taken.0) }
@@ -90,9 +91,10 @@ impl Decoder {
         Ok((taken, Progress::More))
     }
 
-    /// Takes some of the octets, of which there is at least one: a number or the rest of a piece that stands whole at
-    /// their head, or those that only add to what is held, and one more. Outside encapsulations, numbers that are parts
-    /// of one part are taken together, and so are full pieces of an octet sequence.
+    /// Takes some of the octets, which are at least one: a number or the rest of a piece, if all
+    /// its octets are there, or those that are only added to what is held, and one more. Outside of
+    /// encapsulations, numbers that are parts of the same part are taken together, and so are full
+    /// pieces of an octet sequence.
     #[inline(always)]
     fn take_some<O: Out>(
         &mut self,
@@ -150,8 +152,8 @@ impl Decoder {
         self.take_ahead(catalogue, octets, ahead_of(of, 1, step, &[]), out)
     }
 
-    /// Does what `take_some` does, but takes numbers and full pieces one at a time, and octets within encapsulations too: of
-    /// these those up to the end of one.
+    /// Does what `take_some` does, but takes numbers and full pieces one at a time. It also takes
+    /// octets within encapsulations, up to the end of one.
     #[inline(never)]
     pub(crate) fn take_one<O: Out>(
         &mut self,
@@ -169,8 +171,8 @@ impl Decoder {
         self.take_unit(catalogue, coded, near, out)
     }
 
-    /// The same of octets that are taken in this order and by this offset, and no encapsulation ends before the last of
-    /// them.
+    /// The same for octets with this byte order and alignment. No encapsulation ends before the
+    /// last of them.
     #[inline(always)]
     fn take_unit<O: Out>(
         &mut self,
@@ -196,8 +198,9 @@ impl Decoder {
         }
     }
 
-    /// Takes the number that comes next, where it stands whole at the head of the octets, and none of it is held. Each
-    /// shape has an arm of its own, so that what its number does is known there.
+    /// Takes the number that comes next, if all its octets come at the front of these and none of
+    /// it is held. Each shape has an arm of its own, so that it is known there what its number
+    /// does.
     #[inline(always)]
     fn take_number<O: Out>(
         &mut self,
@@ -259,8 +262,8 @@ impl Decoder {
         self.take_parted_number(catalogue, coded, of, octets, out)
     }
 
-    /// Takes the rest of a piece, where it stands whole at the head of the octets, with the zero that ends it where it is
-    /// a string's last.
+    /// Takes the rest of a piece, if all its octets are there, with the zero after the last piece
+    /// of a string.
     #[inline(always)]
     fn take_content<O: Out>(
         &mut self,
@@ -312,7 +315,8 @@ impl Decoder {
         self.take_ahead(catalogue, octets, ahead_of(of, count, step, rest), out)
     }
 
-    /// Holds octets of the number that comes next, and takes it from what is held once it is whole.
+    /// Holds octets of the number that comes next. When the number is whole, it is taken from what
+    /// is held.
     #[inline(never)]
     fn take_parted_number<O: Out>(
         &mut self,
@@ -389,7 +393,7 @@ impl Decoder {
         self.finish(catalogue, octets, ahead, out)
     }
 
-    /// The same, where those of them that are to be held are held already.
+    /// The same, after those that are to be held were held.
     #[inline(always)]
     fn finish<O: Out>(
         &mut self,
@@ -422,7 +426,7 @@ impl Decoder {
     }
 }
 
-/// The offset after so many octets more, modulo 8.
+/// The phase after `count` more octets, modulo 8.
 #[inline]
 pub(crate) fn further(at: u8, count: usize) -> u8
     requires { count < 2 ^ 63 }

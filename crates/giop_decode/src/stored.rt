@@ -22,21 +22,21 @@ use giop_print::Root;
 pub(crate) const FRAME_SIZE: usize = 24;
 
 impl Decoder {
-    /// Writes what is kept of a decoder that goes on: its own octets and those of its frames, of which it answers the
-    /// number.
+    /// Writes what is kept of a decoder that goes on: its own octets and those of its frames.
+    /// Answers how many frames there are.
     pub fn store(&self, fixed: &mut [u8; 208], frames: &mut [u8; 576]) -> u8
         ensures few { result ≤ 24 }
         ensures depth { (C : Table) → IsTable C → Fits C self.now → result ≤ catalogue_depth C }
         ensures stored { (C : Table) → Fits C self.now →
             Stored self.now fixed.new (take (frame_size * result) frames.new) }
-        // The octets after them are unchanged.
+        // The octets after the frames are unchanged.
         ensures behind { drop (frame_size * result) frames.new
             ≡ drop (frame_size * result) frames.old }
     {
         let Some(leaf) = self.leaf else {
             return 0;
         };
-        // What fits a catalogue leaves room for the innermost part's frame.
+        // A decoder that fits a catalogue has room for the frame of the innermost part.
         if self.outer.is_full() {
             return 0;
         }
@@ -80,7 +80,7 @@ fn order_octet(order: Order) -> u8
     }
 }
 
-/// The octet of whether there is no room for wide text.
+/// The octet that says whether anys and recursive sequences can't hold wide text.
 fn narrow_octet(narrow: bool) -> u8
     ensures { result ≡ narrow_octet narrow }
 {
@@ -164,7 +164,7 @@ fn put_last(out: &mut ArrayVec<u8, 208>, last: Last)
     }
 }
 
-/// The octet of whether a reply is expected.
+/// The octet that says whether a reply is expected.
 fn expects_octet(expects_reply: Option<bool>) -> u8
     ensures { result ≡ expects_octet expects_reply }
 {
@@ -188,7 +188,7 @@ fn buffer_octet(buffer: Buffer) -> u8
     }
 }
 
-/// The octets of the name that are stored: none where the buffer is too short.
+/// The octets of the name that are stored: none if the buffer is too short.
 fn kept_name(notes: &Notes) -> &[u8]
     ensures name { result.now ≡ kept_name notes.now.buffer notes.now.name.items }
     ensures short { length result.now ≤ 128 }
@@ -204,7 +204,7 @@ fn kept_name(notes: &Notes) -> &[u8]
     }
 }
 
-/// Writes the frames, the innermost part's last.
+/// Writes the frames. The last is that of the innermost part.
 fn put_frames(out: &mut ArrayVec<u8, 576>, outer: &[Frame], leaf: Leaf)
     requires empty { out.old.items ≡ [] }
     requires few { length outer.now < 24 }
@@ -242,7 +242,7 @@ fn put_frame(out: &mut ArrayVec<u8, 576>, frame: Frame)
     put_zeros(out, 10);
 }
 
-/// The octet of an encapsulation's byte order, or of none.
+/// The octet of an encapsulation's byte order, or of any other part.
 fn inside_octet(inside: Option<Order>) -> u8
     ensures { result ≡ inside_octet inside }
 {
@@ -252,7 +252,7 @@ fn inside_octet(inside: Option<Order>) -> u8
     }
 }
 
-/// The octet of what was told in a frame, or of none.
+/// The octet of what was told in a frame, if something was.
 fn told_octet(told: Option<Stage>) -> u8
     ensures { result ≡ told_octet told }
 {

@@ -6,7 +6,11 @@ mod key_tests;
 #[cfg(test)]
 mod named_tests;
 #[cfg(test)]
+mod recursive_tests;
+#[cfg(test)]
 mod rows;
+#[cfg(test)]
+mod seam_tests;
 #[cfg(test)]
 mod stored_tests;
 #[cfg(test)]

@@ -83,7 +83,7 @@ static ROWS: [(&str, u8, &str, &str); 14] = [
 ];
 
 /// How many octets of an operation's parameters were taken when these were over.
-fn taken_by_one(
+pub fn taken_by_one(
     catalogue: &Catalogue,
     operation: &str,
     minor: u8,

@@ -13,10 +13,10 @@ use Rattle.giop_cdr.specs.declared.prim.Primitive.TheVariants as prims
 use Rattle.giop_sig.specs.declared.types.Fixed.{Fixed}
 use Rattle.giop_sig.specs.declared.types.Fixed.TheVariants as fixeds
 use Rattle.giop_sig.specs.Kinds.{is_kind}
-use Rattle.giop_sig.specs.Types.{Cases, Scalar, Plain, Enum, Marked, interpreted_by, Hearing, Ty, Single, Struct, tag_of}
+use Rattle.giop_sig.specs.Types.{Cases, Scalar, Plain, Enum, Marked, interpreted_by, Ty, Single, Struct, tag_of}
 use Rattle.giop_sig.specs.Table.{Part, Case, Node, case_part, case_with, name_of, node_in, selected}
 use Rattle.giop_sig.specs.Table as nodes
-use Rattle.giop_sig.specs.Trees.{any_hearing, grow, grown_part, in_room, octet_type, scalar_of, selected_by, tree, tree_at}
+use Rattle.giop_sig.specs.Trees.{Room, grow, grown_part, in_room, octet_type, room_of, scalar_of, selected_by, tree, tree_at}
 use Rattle.giop_sig.specs.Builtin.{builtin_types, number_in, older, renumbered, renumbered_case, renumbered_part}
 use Rattle.giop_sig.specs.AnyTypes.{any_types, first_table, first_types, third_types}
 use Rattle.giop_sig.specs.HeaderTypes.{BeginsWithId, cell_in, header_rows, header_type, fixed_type, third_fixed}
@@ -67,6 +67,8 @@ node_test (nodes.encapsulation held) = ltb held count
 node_test (nodes.tagged special tag inner other) = list_all part_test (tag ∷ inner ∷ other ∷ [])
 node_test (nodes.any code) = false
 node_test (nodes.typecode wide kind cases) = false
+node_test (nodes.announced place) = false
+node_test (nodes.recursive bound element) = false
 node_test node = true
 
 both_true : (a b : Bool) → (a && b) ≡ true → (a ≡ true) × (b ≡ true)
@@ -209,7 +211,7 @@ module _ (f g : ℕ → ℕ) (C D : ℕ → Ty) (each : (n : ℕ) → n < count 
       go None = refl
       go (Some k) = same k
 
-  grown_alike : (h h' : Hearing) (room : ℕ) (path : List PathSegment) (node : Node) →
+  grown_alike : (h h' : Room) (room : ℕ) (path : List PathSegment) (node : Node) →
       node_test node ≡ true → AreAlike path (grow h C (in_room room (renumbered f node)))
       (grow h' D (in_room room (renumbered g node)))
   grown_alike h h' room path (nodes.members parts) e = (
@@ -269,6 +271,8 @@ module _ (f g : ℕ → ℕ) (C D : ℕ → Ty) (each : (n : ℕ) → n < count 
       )
   grown_alike h h' room path (nodes.any code) e = absurd (false≢true e)
   grown_alike h h' room path (nodes.typecode wide kind cases) e = absurd (false≢true e)
+  grown_alike h h' room path (nodes.announced place) e = absurd (false≢true e)
+  grown_alike h h' room path (nodes.recursive bound element) e = absurd (false≢true e)
   grown_alike h h' room path (nodes.prim p) e = inl refl
   grown_alike h h' room path (nodes.marked mark) e = inl refl
   grown_alike h h' room path (nodes.enumeration names) e = inl refl
@@ -353,7 +357,7 @@ ulong_node : node_in builtin_types ulong ≡ nodes.prim prims.ULong
 unfolding builtin_types
 ulong_node = refl
 
-module _ (h h' : Hearing) (C D : ℕ → Ty) (room : ℕ) (path : List PathSegment)
+module _ (h h' : Room) (C D : ℕ → Ty) (room : ℕ) (path : List PathSegment)
     (elsewhere : is_member (codes "request_id") path ≡ false) where
   marks_alike : (node other : Node) (mark : ℕ) → node ≡ nodes.prim prims.ULong →
       (other ≡ nodes.marked mark) × (is_kind mark ≡ false) →
@@ -375,7 +379,7 @@ module _ (h h' : Hearing) (C D : ℕ → Ty) (room : ℕ) (path : List PathSegme
 
 -- ---- trees
 
-module _ (version : ℕ) (h h' : Hearing) (room : ℕ) (C D : ℕ → Ty)
+module _ (version : ℕ) (h h' : Room) (room : ℕ) (C D : ℕ → Ty)
     (each : (n : ℕ) → n < count → (path : List PathSegment) → IsElsewhere n path →
     AreAlike path (C (older n)) (D (number_in version n))) where
   nodes_alike : (n : ℕ) → n < count → (path : List PathSegment) → IsElsewhere n path →
@@ -403,11 +407,11 @@ trees_alike : (version room n : ℕ) → n < count → (path : List PathSegment)
     IsElsewhere n path → AreAlike path (tree_at (first_table 1) room (older n))
     (tree_at (first_table version) room (number_in version n))
 unfolding tree_at
-trees_alike version zero = nodes_alike version (any_hearing (first_table 1) 0)
-    (any_hearing (first_table version) 0) 0 (λ k. octet_type) (λ k. octet_type)
+trees_alike version zero = nodes_alike version (room_of (first_table 1) 0)
+    (room_of (first_table version) 0) 0 (λ k. octet_type) (λ k. octet_type)
     (λ n below path elsewhere. inl refl)
-trees_alike version (suc room) = nodes_alike version (any_hearing (first_table 1) room)
-    (any_hearing (first_table version) room) room (tree_at (first_table 1) room)
+trees_alike version (suc room) = nodes_alike version (room_of (first_table 1) room)
+    (room_of (first_table version) room) room (tree_at (first_table 1) room)
     (tree_at (first_table version) room) (trees_alike version room)
 
 -- ---- headers and bodies

@@ -295,7 +295,7 @@ module _ (is : Bool) where
   pub read_same : (coding : Coding) (path : List PathSegment) (A B : Ty) → AreAlike path A B →
       (at : ℕ) (s : List ℕ) → Same (read coding path A at s) (read coding path B at s)
   read_same coding path (Single x) (Single y) alike at s = rw (same_width path x y alike)
-      (leading_same (Single x) (Single y) (number coding.origin (width y) at s)
+      (leading_same (Single x) (Single y) (number coding.phase (width y) at s)
       (λ xs. single_same path x y alike (num coding.order xs)))
   read_same coding path (Text x) (Text y) alike at s = rw alike (alike_itself _)
   read_same coding path (Octets x) (Octets y) alike at s = rw alike (alike_itself _)
@@ -308,7 +308,7 @@ module _ (is : Bool) where
       rw e (parts_same (λ i at s. within_same (Part (Array m A) i m) (Part (Array m B) i m)
       (read_same coding (path ++ Index i ∷ []) A B (each i) at s)) m 0 at s)
   read_same coding path (Sequence x A) (Sequence y B) (e, each) at s =
-      rw e (leading_same (Sequence y A) (Sequence y B) (number coding.origin 4 at s) (λ xs at rest.
+      rw e (leading_same (Sequence y A) (Sequence y B) (number coding.phase 4 at s) (λ xs at rest.
       let n = num coding.order xs in
       let front = line at path (Count n) ∷ [] in
       unless_same (Sequence y A) (Sequence y B) (over y n) at (front_same front front (λ h. refl)
@@ -320,14 +320,14 @@ module _ (is : Bool) where
       let B = Union other y selects others bodies in
       let tag = tag_of choice x names in
       rw (sym e, same_width (path ++ Switch tag ∷ []) x y alike)
-      (leading_same A B (number coding.origin (width y) at s) (λ xs at rest.
+      (leading_same A B (number coding.phase (width y) at s) (λ xs at rest.
       let n = num coding.order xs in
       rw (sym (selected n)) (chosen_same path A B tag x y alike (select n) n
       (λ i at s. within_same (Member A i) (Member B i) (rw (sym (called i))
       (read_same coding (path ++ Name (names i) ∷ []) (cases i) (bodies i) (each i) at s))) at
       rest)))
   read_same coding path (Encapsulation A) (Encapsulation B) alike at s =
-      leading_same (Encapsulation A) (Encapsulation B) (number coding.origin 4 at s) (λ xs at rest.
+      leading_same (Encapsulation A) (Encapsulation B) (number coding.phase 4 at s) (λ xs at rest.
       let n = num coding.order xs in
       let front = line at path (Size n) ∷ [] in
       front_same front front (λ h. refl)

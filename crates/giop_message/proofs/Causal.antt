@@ -9,18 +9,18 @@ use Rattle.giop_cdr.specs.Alignment.{padding}
 use Rattle.giop_print.specs.declared.path.Root.{Root}
 use Rattle.giop_sig.specs.Types.{Ty}
 use Rattle.giop_decode.specs.declared.progress.Kind.{Kind}
-use Rattle.giop_decode.specs.ReadResult.{plain, PathSegment, Value as Valued, Line, Read, Done, Short, Fault}
+use Rattle.giop_decode.specs.ReadResult.{PathSegment, Value as Valued, Line, Read, Done, Short, Fault}
 use Rattle.giop_decode.specs.Reading.{reading}
 use Rattle.giop_decode.specs.ReadingSteps as decoder
 use Rattle.giop_decode.specs.ReadingSteps.{IsEmptyResult, OneAt, IsOctetResult, root_step}
 use Rattle.giop_decode.specs.Noted.{Noted, nothing_noted, note, ends_operation, is_header_root}
 use Rattle.giop_decode.proofs.ReadingLaws.{length_one_more, each_append, root_now, reading_quiet}
+use Rattle.giop_message.specs.Phases.{Phase}
 use Rattle.giop_message.specs.declared.part.Section.{Section}
 use Rattle.giop_message.specs.declared.part.Section.TheVariants as sections
-use Rattle.giop_message.specs.Headers.{order}
 use Rattle.giop_message.specs.MessageReader.{LineClass, TimedLine, AreInLineOrder, IsOrdered, IsCausal}
 use Rattle.giop_message.specs.Signatures.{Signatures}
-use Rattle.giop_message.specs.Messages.{Calling, Said, only_lines, nothing_said, ValueLine, CallLine, RestLine, FaultLine, LineAt, line_at, call_of, calls, section_lines, BodyType, Stage, In_typed, In_padding, In_rest, Over, Message, ReadTo, with_front, section_then, rest_in, rest, body, padded, message, message_lines, root_of, calling, after, section_and_rest}
+use Rattle.giop_message.specs.Messages.{coding_of, Calling, Said, only_lines, nothing_said, ValueLine, CallLine, RestLine, FaultLine, LineAt, line_at, call_of, calls, section_lines, BodyType, Stage, In_typed, In_padding, In_rest, Over, Message, ReadTo, with_front, section_then, rest_in, rest, body, padded, message, message_lines, root_of, calling, after, section_and_rest}
 use Rattle.giop_message.specs.StageSteps.{rest_step, message_step, advance}
 use Rattle.giop_message.specs.ReaderOfTable.{line_class_of, timed_line_of, remarks_by, reader_by}
 use Rattle.giop_message.proofs.LastParts.{CallsNone, root_none}
@@ -130,7 +130,7 @@ module _ (S : Signatures) (header : List ℕ) where
   reads_silent : (section : Section) (T : Ty) →
       ((h : Noted) → IsSilent (after S header section h)) →
       IsSilent (λ at s. section_and_rest S header section nothing_noted
-      (reading (plain (order header)) [] T at s))
+      (reading (coding_of S header) [] T at s))
   reads_silent section T silent n = search (arith, passes_silent, reading_quiet)
 
   padded_silent : (t : BodyType) → IsSilent (body S header t) → IsSilent (padded S header t)
@@ -165,9 +165,9 @@ unfolding message_step rest_step
 step_prompt S header at (In_typed section k outer leaf) b =
     passes_prompt section (calling S header section) (after S header section) (at + 1)
     (λ k. after_silent S header section k (at + 1)) k
-    (decoder.root_step (plain (order header)) [] outer leaf at b)
-    (root_now (plain (order header)) [] outer leaf at b)
-    (root_none (calling S header section).is_request (plain (order header)) [] outer leaf at b)
+    (decoder.root_step (coding_of S header) [] outer leaf at b)
+    (root_now (coding_of S header) [] outer leaf at b)
+    (root_none (calling S header section).is_request (coding_of S header) [] outer leaf at b)
 step_prompt S header at (In_padding t) b = go (nat_lt 1 (padding at 8))
   where
     go : (test : Bool) → Prompt (at + 1)
@@ -261,21 +261,23 @@ later_none n k [] h below = refl
 later_none n k (t ∷ ts) h below = search (arith, ne_eqb, later_none n k ts h.1 below)
 
 -- More octets don't change the lines of the octets before them.
-pub is_causal : (S : ℕ → Signatures) → IsCausal (reader_by S)
+pub is_causal : (S : Phase → ℕ → Signatures) → IsCausal (reader_by S)
 unfolding remarks_by
 is_causal S = record {
-  earlier = λ number header xs more k below.
-      let all = told_begins (S number) header xs more in
+  earlier = λ phase number header xs more k below.
+      let all = told_begins (S phase number) header xs more in
       let at_k : TimedLine → Bool = λ r. r.at == k in
       ap (λ ts. filter at_k (map timed_line_of ts)) all.1
-      ∙ (ap (filter at_k) (map_both timed_line_of (message_lines (message (S number) header xs))
+      ∙ (ap (filter at_k) (map_both timed_line_of
+      (message_lines (message (S phase number) header xs))
       all.0)
-      ∙ (filter-append at_k (map timed_line_of (message_lines (message (S number) header xs)))
+      ∙ (filter-append at_k (map timed_line_of (message_lines (message (S phase number) header xs)))
       (map timed_line_of all.0)
-      ∙ (ap (λ ls. filter at_k (map timed_line_of (message_lines (message (S number) header xs)))
+      ∙ (ap (λ ls. filter at_k (map timed_line_of
+      (message_lines (message (S phase number) header xs)))
       ++ ls) (later_none (length xs) k all.0 all.2 below)
       ∙ append-nil (filter at_k (map timed_line_of
-      (message_lines (message (S number) header xs)))))));
+      (message_lines (message (S phase number) header xs)))))));
 }
 
 -- ---- the lines of one octet
@@ -361,6 +363,9 @@ module _ (k : ℕ) where
         (ordered_none (message S header []) (message_silent S header))
 
 -- The lines of one octet come in their order, and no two have the same class.
-pub is_ordered : (S : ℕ → Signatures) → IsOrdered (reader_by S)
+pub is_ordered : (S : Phase → ℕ → Signatures) → IsOrdered (reader_by S)
 unfolding remarks_by
-is_ordered S = record { ordered = λ number header xs k. (ordered k (S number) header xs).1 }
+is_ordered S = record {
+  ordered = λ phase number header xs k.
+      (ordered k (S phase number) header xs).1;
+}

@@ -3,6 +3,7 @@
 -- nothing of the rest is left.
 use Rattle.std.proofs.Common.{arith, ◌≡◌, Bool, true, false, List, [], ◌∷◌, ◌++◌, map, inl, inr, refl, ap, ◌≢◌, ℕ, suc, length, ◌⊎◌}
 use Rattle.std.specs.Prelude.{if◌then◌else◌}
+use Rattle.giop_message.specs.Phases.{Phase}
 use Rattle.giop_message.specs.MessageReader.{LineClass, Rest, End, AtClose, IsClosing, Value, Call, Fault, AreInLineOrder, is_fault}
 use Rattle.giop_message.specs.Signatures.{Signatures}
 use Rattle.giop_message.specs.Messages.{MessageLine, ShortLine, EndLine, Stage, In_typed, In_padding, In_rest, message, stage_of, close}
@@ -33,7 +34,7 @@ ends_only : (stage : Stage) → LineClasses (close stage) ≡ End ∷ [] →
     LineClasses (close stage) ≡ Rest ∷ End ∷ [] → ⊥
 ends_only stage e f = absurd cc
 
-pub is_closing : (S : ℕ → Signatures) → IsClosing (reader_by S)
+pub is_closing : (S : Phase → ℕ → Signatures) → IsClosing (reader_by S)
 unfolding closes_by line_class_of close
 is_closing S = search (arith, closes_say, octet_leaves, ends_only)
 
@@ -81,17 +82,18 @@ turn_apart line_classes stage (inr (inr (inr (inr (inr e))))) h closed =
     rw (leaves_end line_classes stage h (inr (ap (list_any is_fault) e)), e)
     (((λ k. cc), ((λ k. cc), tt)), other Fault End (λ k. cc))
 
-octet_apart : (S : ℕ → Signatures) (number : ℕ) (header xs : List ℕ) (x : ℕ) → AreApart
-    (map (λ r. r.line_class) (said.due (reader_by S) number header xs x)
-    ++ map (λ l. l.0) ((reader_by S).closes number header (xs ++ x ∷ [])))
+octet_apart : (S : Phase → ℕ → Signatures) (phase : Phase) (number : ℕ) (header xs : List ℕ)
+    (x : ℕ) → AreApart
+    (map (λ r. r.line_class) (said.due (reader_by S) phase number header xs x)
+    ++ map (λ l. l.0) ((reader_by S).closes phase number header (xs ++ x ∷ [])))
 unfolding closes_by
-octet_apart S number header xs x =
-    turn_apart (map (λ r. r.line_class) (said.due (reader_by S) number header xs x))
-    (stage_of (message (S number) header (xs ++ x ∷ [])))
-    ((is_ordered S).ordered number header (xs ++ x ∷ []) (suc (length xs)))
-    (octet_leaves (S number) header xs x)
-    ((is_closing S).closed number header (xs ++ x ∷ []))
+octet_apart S phase number header xs x =
+    turn_apart (map (λ r. r.line_class) (said.due (reader_by S) phase number header xs x))
+    (stage_of (message (S phase number) header (xs ++ x ∷ [])))
+    ((is_ordered S).ordered phase number header (xs ++ x ∷ []) (suc (length xs)))
+    (octet_leaves (S phase number) header xs x)
+    ((is_closing S).closed phase number header (xs ++ x ∷ []))
 
 -- No two lines of one octet, with those of a close at it, have the same class.
-pub is_apart : (S : ℕ → Signatures) → IsApart (reader_by S)
+pub is_apart : (S : Phase → ℕ → Signatures) → IsApart (reader_by S)
 is_apart S = search (arith, octet_apart)

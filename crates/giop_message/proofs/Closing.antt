@@ -8,6 +8,7 @@ use Rattle.giop_sig.specs.declared.types.Shape.{Shape}
 use Rattle.giop_sig.specs.declared.types.Shape.TheVariants as shapes
 use Rattle.giop_sig.specs.Types.{Cases, Ty, Plain, Single, Struct, Union, Octets, Raw, WideText, WideChar, shape_in}
 use Rattle.giop_sig.specs.Table.{Table, in_version}
+use Rattle.giop_message.specs.Phases.{Phase}
 use Rattle.giop_message.specs.Headers.{minor}
 use Rattle.giop_decode.specs.ReadResult.{Line, OpenPart, Leaf, Short}
 use Rattle.giop_decode.specs.Noted.{Noted}
@@ -65,10 +66,11 @@ short_stage : (S : Signatures) (header : List ℕ) (section : Section) (h : Note
 unfolding section_then stage_of close
 short_stage S header section h lines at outer leaf = refl
 
-module _ {C : Table} {answers : Answers} {number : ℕ} {header : List ℕ} {m : Struct_of} {s : List ℕ}
-    (f : Follows C answers number header m s) (fits : Fits C m) where
+module _ {C : Table} {answers : Answers} {phase : Phase} {number : ℕ} {header : List ℕ}
+    {m : Struct_of} {s : List ℕ}
+    (f : Follows C answers phase number header m s) (fits : Fits C m) where
   abbrev At : Stage
-  At = stage_of (message (signatures_of C (answers number)) header s)
+  At = stage_of (message (signatures_of C (answers number) phase) header s)
 
   -- inside a section, the close is short
   pub section_short : {section : Section} → m.part ≡ parts.Typed section →
@@ -142,10 +144,11 @@ unfolding close
 rest_ends number place offset [] = ends_text_is number place
 rest_ends number place offset (x ∷ held) = search (arith, last_then)
 
-module _ {C : Table} {answers : Answers} {number : ℕ} {header : List ℕ} {m : Struct_of} {s : List ℕ}
-    (f : Follows C answers number header m s) (fits : Fits C m) (place : ℕ) where
+module _ {C : Table} {answers : Answers} {phase : Phase} {number : ℕ} {header : List ℕ}
+    {m : Struct_of} {s : List ℕ}
+    (f : Follows C answers phase number header m s) (fits : Fits C m) (place : ℕ) where
   abbrev Close : List MessageLine
-  Close = close (stage_of (message (signatures_of C (answers number)) header s))
+  Close = close (stage_of (message (signatures_of C (answers number) phase) header s))
 
   ended_by : (p : Part) → m.part ≡ p → is_short Close ≡ false →
       closing_text number place Close ≡ last_rest_text number p ++ end_line number

@@ -4,14 +4,14 @@ use Rattle.std.specs.Prelude.{◌||◌}
 use Rattle.std.specs.List.{list_any}
 use Rattle.giop_print.specs.declared.path.Root.{Root}
 use Rattle.giop_sig.specs.Types.{Ty}
-use Rattle.giop_decode.specs.ReadResult.{plain, Line, Read, Done, Short, Fault}
+use Rattle.giop_decode.specs.ReadResult.{Line, Read, Done, Short, Fault}
 use Rattle.giop_decode.specs.Reading.{reading}
 use Rattle.giop_decode.specs.Noted.{Noted, nothing_noted, note, is_header_root}
 use Rattle.giop_message.specs.declared.part.Section.{Section}
 use Rattle.giop_message.specs.declared.part.Section.TheVariants as sections
-use Rattle.giop_message.specs.Headers.{minor, kind, order}
+use Rattle.giop_message.specs.Headers.{minor, kind}
 use Rattle.giop_message.specs.Signatures.{Signatures}
-use Rattle.giop_message.specs.Messages.{Calling, Said, LineAt, line_at, calls, section_lines, BodyType, Message, ReadTo, with_front, section_then, rest_in, rest, body, padded, of_header, message, message_lines, stage_of, root_of, after, section_and_rest}
+use Rattle.giop_message.specs.Messages.{coding_of, Calling, Said, LineAt, line_at, calls, section_lines, BodyType, Message, ReadTo, with_front, section_then, rest_in, rest, body, padded, of_header, message, message_lines, stage_of, root_of, after, section_and_rest}
 use Rattle.giop_message.specs.ReaderOfTable.{line_class_of, is_over, is_wrong}
 use Rattle.giop_message.proofs.Going.{after_has, message_has}
 use Rattle.giop_message.proofs.Causal.{MayCall, calls_is}
@@ -82,7 +82,7 @@ all_rest at s = rest_tallies _ 0 at s
 module _ (S : Signatures) (header : List ℕ) where
   reads_tally : (section : Section) (T : Ty) → ((h : Noted) → AllTally (after S header section h)) →
       AllTally (λ at s. section_and_rest S header section nothing_noted
-      (reading (plain (order header)) [] T at s))
+      (reading (coding_of S header) [] T at s))
   reads_tally section T tallies at s = search (arith, passes_tallies)
 
   padded_tallies : (t : BodyType) → AllTally (body S header t) → AllTally (padded S header t)

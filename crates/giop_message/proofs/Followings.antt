@@ -1,6 +1,6 @@
 -- If a message follows a list of octets, it isn't over, and its request id is the first one in its
 -- lines.
-use Rattle.std.proofs.Common.{◌&&◌, ◌≡◌, ℕ, ◌+◌, Bool, true, false, List, [], ◌∷◌, ◌++◌, length, drop, Option, Some, None, refl, sym, ap, subst, ◌∙◌, append-nil, arith, inl, inr, length-append}
+use Rattle.std.proofs.Common.{◌&&◌, ◌≡◌, ℕ, ◌+◌, ◌%◌, Bool, true, false, List, [], ◌∷◌, ◌++◌, length, drop, Option, Some, None, refl, sym, ap, subst, ◌∙◌, append-nil, add-zero, arith, inl, inr, length-append}
 use Rattle.std.specs.Prelude.{cond}
 use Rattle.std.proofs.Math.Seq.{drop-append_seam}
 use Rattle.std.proofs.lemmas.Bool.{false≢true}
@@ -10,17 +10,17 @@ use Rattle.giop_sig.specs.Types.{Octets, Plain, Text}
 use Rattle.giop_sig.specs.Table.{Table, seen}
 use Rattle.giop_decode.specs.declared.decoder.Decoder.{Decoder}
 use Rattle.giop_decode.specs.declared.leaf.Leaf.{Leaf as Innermost}
-use Rattle.giop_decode.specs.ReadResult.{plain, PathSegment, Value, Number, Piece, Line, Read, Done, lines_of}
+use Rattle.giop_decode.specs.ReadResult.{PathSegment, Value, Number, Piece, Line, Read, Done, lines_of}
 use Rattle.giop_decode.specs.Reading.{reading}
 use Rattle.giop_decode.specs.Noted.{is_key_path, Noted, nothing_noted, first_of, note, noted, noted_of, without_name_if, ends_in_string, is_header_root}
 use Rattle.giop_decode.specs.DecoderState as decoders
+use Rattle.giop_message.specs.Phases.{Phase, IsCounted}
 use Rattle.giop_message.specs.declared.message.Message.{Message as Struct_of}
 use Rattle.giop_message.specs.declared.part.Section.{Section}
 use Rattle.giop_message.specs.declared.part.Section.TheVariants as sections
 use Rattle.giop_message.specs.declared.part.Part.TheVariants as parts
-use Rattle.giop_message.specs.Headers.{order}
 use Rattle.giop_message.specs.Signatures.{Signatures, Answers, signatures_of}
-use Rattle.giop_message.specs.Messages.{Calling, ValueLine, LineAt, line_at, calls, section_lines, Message, ReadTo, section_then, message, message_lines, stage_of, root_of, calling, section_and_rest}
+use Rattle.giop_message.specs.Messages.{coding_of, Calling, ValueLine, LineAt, line_at, calls, section_lines, Message, ReadTo, section_then, message, message_lines, stage_of, root_of, calling, section_and_rest}
 use Rattle.giop_message.specs.ReaderOfTable.{id_in, first_id, first_request_id, is_over}
 use Rattle.giop_message.specs.MessageState.{due, Decodes, Stands, is_header, in_header, Follows}
 use Rattle.giop_message.specs.MessageSteps.{IsAt}
@@ -64,17 +64,18 @@ section_over : {C : Table} {S : Signatures} {number : ℕ} {header s : List ℕ}
     {d : Decoder} →
     Decodes C S number header s section d → is_over (stage_of (message S header s)) ≡ false
 section_over {C} {S} {number} {header} {s} {section} {d} e =
-    let r = reading (plain (order header)) [] e.T (12 + length e.front) e.octets in
+    let r = reading (coding_of S header) [] e.T (12 + length e.front) e.octets in
     ap (λ m. is_over (stage_of m)) e.is ∙ (ap is_over
     (stage_front e.before (section_and_rest S header section nothing_noted r))
     ∙ (ap (λ r. is_over (stage_of (section_and_rest S header section nothing_noted r))) e.reads.is
     ∙ standing_over S header section (seen d.narrow C) d e.reads.lines _ d.leaf))
 
-pub follows_goes : {C : Table} {answers : Answers} {number : ℕ} {header : List ℕ} {m : Struct_of}
-    {s : List ℕ} → Follows C answers number header m s →
-    is_over (stage_of (message (signatures_of C (answers number)) header s)) ≡ false
+pub follows_goes : {C : Table} {answers : Answers} {phase : Phase} {number : ℕ} {header : List ℕ}
+    {m : Struct_of}
+    {s : List ℕ} → Follows C answers phase number header m s →
+    is_over (stage_of (message (signatures_of C (answers number) phase) header s)) ≡ false
 unfolding is_over stage_of
-follows_goes {C} {answers} {number} {header} {m} {s} f = search (arith, section_over)
+follows_goes {C} {answers} {phase} {number} {header} {m} {s} f = search (arith, section_over)
 
 -- ---- the request id
 
@@ -202,7 +203,7 @@ module _ {C : Table} {S : Signatures} {number : ℕ} {header s : List ℕ} {sect
     (e : Decodes C S number header s section d) where
   -- the reading whose notes the decoder has
   abbrev pub noted_reading : Read
-  noted_reading = reading (plain (order header)) [] e.T (12 + length e.front) e.octets
+  noted_reading = reading (coding_of S header) [] e.T (12 + length e.front) e.octets
 
   header_told : section ≡ sections.Header → message_lines (message S header s)
       ≡ section_lines (root_of section) (calling S header section) nothing_noted e.reads.lines
@@ -226,21 +227,23 @@ module _ {C : Table} {S : Signatures} {number : ℕ} {header s : List ℕ} {sect
       ∙ ap first_request_id (sym emitted)))
 
 -- the request id that a message gives inside a section
-pub id_read : {C : Table} {answers : Answers} {number : ℕ} {header : List ℕ} {m : Struct_of}
-    {s : List ℕ} {section : Section} → Follows C answers number header m s →
+pub id_read : {C : Table} {answers : Answers} {phase : Phase} {number : ℕ} {header : List ℕ}
+    {m : Struct_of}
+    {s : List ℕ} {section : Section} → Follows C answers phase number header m s →
     m.part ≡ parts.Typed section →
     (r : Read) × decoders.KeepsNoted C (root_of section) m.decoder r
     × (cond (is_header section) (noted_of true r).request_id m.id
-    ≡ first_request_id (message_lines (message (signatures_of C (answers number)) header s)))
-id_read {C} {answers} {number} {header} {m} {s} {section} f is =
+    ≡ first_request_id (message_lines (message (signatures_of C (answers number) phase) header s)))
+id_read {C} {answers} {phase} {number} {header} {m} {s} {section} f is =
     (noted_reading stands, stands.reads.keeps_noted, go (is_header section) refl)
   where
-    stands : Decodes C (signatures_of C (answers number)) number header s section m.decoder
+    stands : Decodes C (signatures_of C (answers number) phase) number header s section m.decoder
     stands = search (arith)
 
     go : (inside : Bool) → is_header section ≡ inside →
         cond inside (noted_of true (noted_reading stands)).request_id m.id
-        ≡ first_request_id (message_lines (message (signatures_of C (answers number)) header s))
+        ≡ first_request_id (message_lines (message (signatures_of C (answers number) phase)
+        header s))
     go true e = id_noted stands (header_only section e)
     go false e = f.id ∙ rw (is, e) refl
 
@@ -251,25 +254,46 @@ pub record Moved (m n : Struct_of) (count : ℕ) : Type 0 where
   pub number : n.number ≡ m.number
   pub header : n.header ≡ m.header
   pub at : n.at ≡ m.at + count
+  pub lacks : n.lacks ≡ m.lacks
 
-pub at_more : {number : ℕ} {header : List ℕ} {m n : Struct_of} {s : List ℕ} (more : List ℕ) →
-    IsAt number header m s → Moved m n (length more) → IsAt number header n (s ++ more)
-at_more {s = s} more is move = record {
+-- the phase of an offset from which it is counted, and that of those after it
+pub counted_now : (phase : Phase) (lacks here : ℕ) → IsCounted phase lacks here →
+    phase here % 8 ≡ (here + lacks) % 8
+counted_now phase lacks here c = rw (add-zero here, add-zero (here + lacks)) at (c 0)
+
+pub even_from : (phase : Phase) (lacks here : ℕ) → IsCounted phase lacks here → (k : ℕ) →
+    phase (here + k) % 8 ≡ (phase here + k) % 8
+even_from phase lacks here c k = omega (arith, c k, counted_now phase lacks here c)
+
+-- what is counted from an offset on is counted so from a later one on
+counted_on : (phase : Phase) (lacks at n : ℕ) → IsCounted phase lacks at →
+    IsCounted phase lacks (at + n)
+counted_on phase lacks at n c k =
+    let here : (at + n) + k ≡ at + (n + k) = omega arith in
+    let there : ((at + n) + lacks) + k ≡ (at + lacks) + (n + k) = omega arith in
+    rw (here, there) (c (n + k))
+
+pub at_more : {phase : Phase} {number : ℕ} {header : List ℕ} {m n : Struct_of} {s : List ℕ}
+    (more : List ℕ) → IsAt phase number header m s → Moved m n (length more) →
+    IsAt phase number header n (s ++ more)
+at_more {phase} {m = m} {s = s} more is move = record {
   same_number = move.number ∙ is.same_number;
   same_header = move.header ∙ is.same_header;
   at = omega (arith, length-append s more, is.at, move.at);
+  counted = rw (move.lacks, move.at) (counted_on phase m.lacks m.at (length more) is.counted);
 }
 
-module _ {C : Table} {answers : Answers} {number : ℕ} {header : List ℕ} {m : Struct_of} {s : List ℕ}
-    (f : Follows C answers number header m s) (more : List ℕ) where
-  pub is_at : {n : Struct_of} → Moved m n (length more) → IsAt number header n (s ++ more)
+module _ {C : Table} {answers : Answers} {phase : Phase} {number : ℕ} {header : List ℕ}
+    {m : Struct_of} {s : List ℕ}
+    (f : Follows C answers phase number header m s) (more : List ℕ) where
+  pub is_at : {n : Struct_of} → Moved m n (length more) → IsAt phase number header n (s ++ more)
   is_at move = search (arith, at_more)
 
   pub follows_on : {n : Struct_of} → Moved m n (length more) → n.id ≡ cond (in_header n.part) None
-      (first_request_id (message_lines (message (signatures_of C (answers number)) header
+      (first_request_id (message_lines (message (signatures_of C (answers number) phase) header
       (s ++ more)))) →
-      Stands C answers number header (s ++ more) n.decoder n.part →
-      Follows C answers number header n (s ++ more)
+      Stands C answers phase number header (s ++ more) n.decoder n.part →
+      Follows C answers phase number header n (s ++ more)
   follows_on move id stands =
       let is = is_at move in
       record {
@@ -277,19 +301,30 @@ module _ {C : Table} {answers : Answers} {number : ℕ} {header : List ℕ} {m :
         same_header = is.same_header;
         id = id;
         at = is.at;
+        counted = is.counted;
         stands = stands;
       }
 
   -- if no line has a request id, the message keeps the one that it has
-  pub id_kept : first_request_id (due (signatures_of C (answers number)) header s more) ≡ None →
+  pub id_kept : first_request_id (due (signatures_of C (answers number) phase) header s more) ≡
+      None →
       in_header m.part ≡ false →
       m.id ≡ first_request_id (message_lines
-      (message (signatures_of C (answers number)) header (s ++ more)))
+      (message (signatures_of C (answers number) phase) header (s ++ more)))
   id_kept none past = search (arith, id_stays)
 
 -- if two messages have the same fields, both follow the same octets
-pub same_fields : {C : Table} {answers : Answers} {number : ℕ} {header : List ℕ} {m n : Struct_of}
+pub same_fields : {C : Table} {answers : Answers} {phase : Phase} {number : ℕ} {header : List ℕ}
+    {m n : Struct_of}
     {s : List ℕ} →
-    Follows C answers number header m s → n.number ≡ m.number → n.header ≡ m.header → n.id ≡ m.id →
-    n.at ≡ m.at → n.part ≡ m.part → n.decoder ≡ m.decoder → Follows C answers number header n s
-same_fields f same_number same_header id at part decoder = search (arith)
+    Follows C answers phase number header m s → n.number ≡ m.number → n.header ≡ m.header →
+    n.id ≡ m.id → n.at ≡ m.at → n.lacks ≡ m.lacks → n.part ≡ m.part → n.decoder ≡ m.decoder →
+    Follows C answers phase number header n s
+same_fields f same_number same_header id at lacks part decoder = record {
+  same_number = same_number ∙ f.same_number;
+  same_header = same_header ∙ f.same_header;
+  id = rw (id, part) f.id;
+  at = at ∙ f.at;
+  counted = rw (lacks, at) f.counted;
+  stands = rw (decoder, part) f.stands;
+}

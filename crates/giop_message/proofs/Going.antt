@@ -8,16 +8,16 @@ use Rattle.giop_cdr.specs.Alignment.{padding}
 use Rattle.giop_print.specs.declared.path.Root.{Root}
 use Rattle.giop_sig.specs.Types.{Ty}
 use Rattle.giop_decode.specs.ReadResult
-use Rattle.giop_decode.specs.ReadResult.{plain, Line, Read, Done, Short, Fault}
+use Rattle.giop_decode.specs.ReadResult.{Line, Read, Done, Short, Fault}
 use Rattle.giop_decode.specs.Reading.{reading}
 use Rattle.giop_decode.specs.ReadingSteps as decoder
 use Rattle.giop_decode.specs.Noted.{Noted, nothing_noted, note, noted, is_header_root}
 use Rattle.giop_decode.proofs.ReadingLaws.{noted-append, length_one_more, reading_goes}
 use Rattle.giop_message.specs.declared.part.Section.{Section}
 use Rattle.giop_message.specs.declared.part.Section.TheVariants as sections
-use Rattle.giop_message.specs.Headers.{minor, kind, order}
+use Rattle.giop_message.specs.Headers.{minor, kind}
 use Rattle.giop_message.specs.Signatures.{Signatures}
-use Rattle.giop_message.specs.Messages.{Calling, Said, only_lines, nothing_said, said_both, ValueLine, RestLine, line_at, calls, section_lines, BodyType, Untyped, Typed, UserException, SystemException, Stage, In_padding, In_rest, Over, Message, ReadTo, with_front, section_then, rest_in, rest, typed, option_typed, after_exception, body, body_of, is_aligned, padded, after_header, of_header, message, root_of, calling, after, section_and_rest}
+use Rattle.giop_message.specs.Messages.{coding_of, Calling, Said, only_lines, nothing_said, said_both, ValueLine, RestLine, line_at, calls, section_lines, BodyType, Untyped, Typed, UserException, SystemException, Stage, In_padding, In_rest, Over, Message, ReadTo, with_front, section_then, rest_in, rest, typed, option_typed, after_exception, body, body_of, is_aligned, padded, after_header, of_header, message, root_of, calling, after, section_and_rest}
 use Rattle.giop_message.specs.MessageState.{is_header}
 use Rattle.giop_message.specs.StageSteps.{rest_step, message_step, advance, goes_on}
 
@@ -92,13 +92,13 @@ module _ (section : Section) (is : Calling) (next : Noted → ℕ → List ℕ �
 -- a section goes on as its reading does, if what follows the section goes on
 pub through_goes : (S : Signatures) (header : List ℕ) (section : Section) →
     ((h : Noted) → Goes S header (after S header section h)) → (h : Noted) (r : Read) (b : ℕ) →
-    section_and_rest S header section h (decoder.root_advance (plain (order header)) [] r b)
+    section_and_rest S header section h (decoder.root_advance (coding_of S header) [] r b)
     ≡ advance S header (section_and_rest S header section h r) b
 unfolding section_then with_front advance message_step
 through_goes S header section goes h (Done lines at s) b = search (arith, front_advance)
 through_goes S header section goes h (Short lines at outer leaf) b =
     passes_front section (calling S header section) (after S header section) h lines
-    (decoder.root_step (plain (order header)) [] outer leaf at b)
+    (decoder.root_step (coding_of S header) [] outer leaf at b)
 through_goes S header section goes h (Fault lines at why T) b = search (arith, stays)
 
 -- ---- the rest
@@ -205,13 +205,13 @@ module _ (S : Signatures) (header : List ℕ) (P : (ℕ → List ℕ → Message
     (reads : (section : Section) (T : Ty) → is_header section ≡ false →
     ((h : Noted) → P (after S header section h)) →
     P (λ at s. section_and_rest S header section nothing_noted
-    (reading (plain (order header)) [] T at s)))
+    (reading (coding_of S header) [] T at s)))
     (pads : (t : BodyType) → P (body S header t) → P (padded S header t)) where
-  typed_has : (T : Ty) → P (typed (order header) T)
+  typed_has : (T : Ty) → P (typed (coding_of S header) T)
   unfolding typed
   typed_has T = reads sections.Body T refl (λ h. rests)
 
-  option_has : (found : Option Ty) → P (option_typed (order header) found)
+  option_has : (found : Option Ty) → P (option_typed (coding_of S header) found)
   unfolding option_typed
   option_has None = rests
   option_has (Some T) = typed_has T
@@ -246,7 +246,7 @@ module _ (S : Signatures) (header : List ℕ) (P : (ℕ → List ℕ → Message
   -- P holds of a message, if it also holds of a header when it holds of what follows the header
   module _ (heads : (T : Ty) → ((h : Noted) → P (after S header sections.Header h)) →
       P (λ at s. section_and_rest S header sections.Header nothing_noted
-      (reading (plain (order header)) [] T at s))) where
+      (reading (coding_of S header) [] T at s))) where
     message_by : (found : Option Ty) → P (of_header S header found)
     unfolding of_header
     message_by None = rests
@@ -258,7 +258,7 @@ module _ (S : Signatures) (header : List ℕ) (P : (ℕ → List ℕ → Message
 reads_go : (S : Signatures) (header : List ℕ) (section : Section) (T : Ty) →
     ((h : Noted) → Goes S header (after S header section h)) →
     Goes S header (λ at s. section_and_rest S header section nothing_noted
-    (reading (plain (order header)) [] T at s))
+    (reading (coding_of S header) [] T at s))
 reads_go S header section T goes at s b = search (arith, reading_goes, through_goes)
 
 pub after_goes : (S : Signatures) (header : List ℕ) (section : Section) (h : Noted) →

@@ -6,15 +6,14 @@ use Rattle.std.proofs.lemmas.Bool.{false≢true}
 use Rattle.std.specs.Prelude.{if◌then◌else◌}
 use Rattle.std.proofs.Math.Seq.{drop-append_seam}
 use Rattle.giop_print.specs.declared.path.Root.{Root}
-use Rattle.giop_decode.specs.ReadResult.{plain, Line, Read, Done, Short, Fault as Faulted}
+use Rattle.giop_decode.specs.ReadResult.{Line, Read, Done, Short, Fault as Faulted}
 use Rattle.giop_decode.specs.ReadingSteps as decoder
 use Rattle.giop_decode.specs.ReadingSteps.{IsOctetResult, root_step}
 use Rattle.giop_decode.specs.Noted.{Noted, note, noted, is_header_root}
 use Rattle.giop_decode.proofs.ReadingLaws.{root_now}
 use Rattle.giop_message.specs.declared.part.Section.{Section}
-use Rattle.giop_message.specs.Headers.{order}
 use Rattle.giop_message.specs.MessageState.{due}
-use Rattle.giop_message.specs.Messages.{Calling, Said, only_lines, nothing_said, RestLine, LineAt, line_at, calls, section_lines, Stage, In_typed, In_padding, In_rest, Over, Message, ReadTo, with_front, section_then, message, message_lines, stage_of, root_of, calling, after}
+use Rattle.giop_message.specs.Messages.{coding_of, Calling, Said, only_lines, nothing_said, RestLine, LineAt, line_at, calls, section_lines, Stage, In_typed, In_padding, In_rest, Over, Message, ReadTo, with_front, section_then, message, message_lines, stage_of, root_of, calling, after}
 use Rattle.giop_message.specs.ReaderOfTable.{line_class_of, timed_line_of, due_by}
 use Rattle.giop_message.specs.MessageReader.{LineClass, Rest, is_fault}
 use Rattle.giop_message.specs.Signatures.{Signatures}
@@ -101,8 +100,8 @@ unfolding message_step rest_step
 step_settles S header at (In_typed section k outer leaf) b =
     passes_settles section (calling S header section) (after S header section) (at + 1)
     (λ k. after_silent S header section k (at + 1)) k
-    (decoder.root_step (plain (order header)) [] outer leaf at b)
-    (root_now (plain (order header)) [] outer leaf at b)
+    (decoder.root_step (coding_of S header) [] outer leaf at b)
+    (root_now (coding_of S header) [] outer leaf at b)
 step_settles S header at (In_padding t) b = search (arith, false≢true, silent_settles, body_silent)
 step_settles S header at (In_rest offset held) b = search (arith, rest_settles)
 step_settles S header at Over b = search (arith, false≢true)

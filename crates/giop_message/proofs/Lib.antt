@@ -22,6 +22,8 @@ mod Dues
 mod Marks
 mod HeaderEndLaws
 mod MessageAgreement
+mod Phased
+mod Seams
 mod Closing
 mod Leaving
 mod Closes

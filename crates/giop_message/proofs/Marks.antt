@@ -11,16 +11,17 @@ use Rattle.giop_sig.specs.Builtin.{builtin_table}
 use Rattle.giop_sig.specs.HeaderTypes.{fixed_type}
 use Rattle.giop_sig.specs.declared.types.Fixed.{Fixed}
 use Rattle.giop_sig.specs.declared.types.Fixed.TheVariants as fixeds
-use Rattle.giop_decode.specs.ReadResult.{plain, OpenPart, Leaf, Read, Done, Short, Fault}
+use Rattle.giop_decode.specs.ReadResult.{Coding, OpenPart, Leaf, Read, Done, Short, Fault}
 use Rattle.giop_decode.specs.Reading.{reading}
 use Rattle.giop_decode.specs.ReadingSteps.{IsEmptyResult, root_step}
 use Rattle.giop_decode.specs.Noted.{Noted, nothing_noted, noted, is_header_root}
 use Rattle.giop_decode.proofs.ReadingLaws.{reading_quiet, root_now}
+use Rattle.giop_message.specs.Phases.{Phase}
 use Rattle.giop_message.specs.declared.part.Section.{Section}
 use Rattle.giop_message.specs.declared.part.Section.TheVariants as sections
 use Rattle.giop_message.specs.Headers.{minor, kind, order}
 use Rattle.giop_message.specs.Signatures.{Signatures, Answer, signatures_of}
-use Rattle.giop_message.specs.Messages.{no_calls, Mark, HeaderMark, NameMark, RestLine, line_at, Said, only_lines, nothing_said, BodyType, Untyped, Typed, UserException, SystemException, Stage, In_typed, In_padding, In_rest, Over, Message, ReadTo, with_front, name_mark, end_mark, section_then, rest_in, rest, typed, option_typed, after_exception, type_if, request_body, result_body, reply_body, locate_body, body, body_of, padded, after_header, of_header, message, message_marks, stage_of, root_of, after, section_and_rest}
+use Rattle.giop_message.specs.Messages.{coding_of, no_calls, Mark, HeaderMark, NameMark, RestLine, line_at, Said, only_lines, nothing_said, BodyType, Untyped, Typed, UserException, SystemException, Stage, In_typed, In_padding, In_rest, Over, Message, ReadTo, with_front, name_mark, end_mark, section_then, rest_in, rest, typed, option_typed, after_exception, type_if, request_body, result_body, reply_body, locate_body, body, body_of, padded, after_header, of_header, message, message_marks, stage_of, root_of, after, section_and_rest}
 use Rattle.giop_message.specs.StageSteps.{rest_step, message_step, advance, goes_on}
 use Rattle.giop_message.specs.HeaderEnds.{marks, end_of, header_ends}
 use Rattle.giop_message.specs.MessageState.{is_header}
@@ -86,9 +87,10 @@ ended_same section h r q same = ended_shows section h r
     ∙ (ap (ended_by section) (same.shows h) ∙ sym (ended_shows section h q))
 
 module _ (header : List ℕ) where
-  typed_unmarked : (T : Ty) (at : ℕ) (s : List ℕ) → message_marks (typed (order header) T at s) ≡ []
+  typed_unmarked : (coding : Coding) (T : Ty) (at : ℕ) (s : List ℕ) →
+      message_marks (typed coding T at s) ≡ []
   unfolding typed
-  typed_unmarked T at s = search (arith, section_marks, body_unended, rest_unmarked)
+  typed_unmarked coding T at s = search (arith, section_marks, body_unended, rest_unmarked)
 
   members_unmarked : (S : Signatures) (h : Noted) (at : ℕ) (s : List ℕ) →
       message_marks (after_exception S header h at s) ≡ []
@@ -99,16 +101,16 @@ module _ (header : List ℕ) where
   Raising S Untyped at s = []
   Raising S (Typed T) at s = []
   Raising S UserException at s =
-      ended sections.Exception nothing_noted (reading (plain (order header)) [] S.exception_id at s)
+      ended sections.Exception nothing_noted (reading (coding_of S header) [] S.exception_id at s)
   Raising S SystemException at s =
       ended sections.SystemException nothing_noted
-      (reading (plain (order header)) [] S.system_exception at s)
+      (reading (coding_of S header) [] S.system_exception at s)
 
   body_marks : (S : Signatures) (b : BodyType) (at : ℕ) (s : List ℕ) →
       message_marks (body S header b at s) ≡ Raising S b at s
   unfolding body
   body_marks S Untyped at s = rest_unmarked at s
-  body_marks S (Typed T) at s = typed_unmarked T at s
+  body_marks S (Typed T) at s = typed_unmarked (coding_of S header) T at s
   body_marks S UserException at s =
       section_marks sections.Exception (after_exception S header) (members_unmarked S) _
   body_marks S SystemException at s =
@@ -140,19 +142,23 @@ module _ (header : List ℕ) where
 
   -- ---- the marks are the same with each table, whatever the ids answer
 
-  module _ (C : Table) (x y : Answer) where
+  module _ (C : Table) (x y : Answer) (phase : Phase) where
     abbrev Sx : Signatures
-    Sx = signatures_of builtin_table x
+    Sx = signatures_of builtin_table x phase
 
     abbrev Sy : Signatures
-    Sy = signatures_of C y
+    Sy = signatures_of C y phase
+
+    -- padding is counted by the same phase with each table
+    abbrev Alike : Coding
+    Alike = record { order = order header; phase = phase }
 
     fixed_same : (section : Section) (fixed : Fixed) (at : ℕ) (s : List ℕ) →
-        ended section nothing_noted (reading (plain (order header)) [] (fixed_type 1 fixed) at s)
+        ended section nothing_noted (reading Alike [] (fixed_type 1 fixed) at s)
         ≡ ended section nothing_noted
-        (reading (plain (order header)) [] (fixed_type C.version fixed) at s)
+        (reading Alike [] (fixed_type C.version fixed) at s)
     fixed_same section fixed at s = ended_same section nothing_noted _ _
-        (reading_same (is_header_root (root_of section)) (plain (order header)) []
+        (reading_same (is_header_root (root_of section)) Alike []
         (fixed_type 1 fixed) (fixed_type C.version fixed) (fixed_alike C.version fixed) at s)
 
     user_same : (at : ℕ) (s : List ℕ) →
@@ -223,26 +229,27 @@ module _ (header : List ℕ) where
 
     marks_same : (a b : Option Ty) → AreAlikeFound a b → (s : List ℕ) →
         message_marks (of_header Sx header a 12 s) ≡ message_marks (of_header Sy header b 12 s)
-    unfolding of_header
+    unfolding of_header signatures_of
     marks_same None None alike s = refl
     marks_same (Some A) (Some B) alike s = through_same
-        (reading (plain (order header)) [] A 12 s) (reading (plain (order header)) [] B 12 s)
-        (reading_same true (plain (order header)) [] A B alike 12 s)
+        (reading Alike [] A 12 s) (reading Alike [] B 12 s)
+        (reading_same true Alike [] A B alike 12 s)
     marks_same a b alike s = absurd alike
 
-pub marks_are : (C : Table) (answer : Answer) (header s : List ℕ) →
-    marks header s ≡ message_marks (message (signatures_of C answer) header s)
+pub marks_are : (C : Table) (answer : Answer) (phase : Phase) (header s : List ℕ) →
+    marks phase header s ≡ message_marks (message (signatures_of C answer phase) header s)
 unfolding marks message signatures_of
-marks_are C answer header s = marks_same header C (λ id. None) answer _ _
+marks_are C answer phase header s = marks_same header C (λ id. None) answer phase _ _
     (headers_alike C.version (minor header) (kind header)) s
 
-pub ends_alike : (C : Table) (answer : Answer) (number : ℕ) (header s more : List ℕ) →
-    header_ends number header s more ≡ map (end_of number header)
-    (drop (length (message_marks (message (signatures_of C answer) header s)))
-    (message_marks (message (signatures_of C answer) header (s ++ more))))
+pub ends_alike : (C : Table) (answer : Answer) (phase : Phase) (number : ℕ)
+    (header s more : List ℕ) →
+    header_ends phase number header s more ≡ map (end_of number header)
+    (drop (length (message_marks (message (signatures_of C answer phase) header s)))
+    (message_marks (message (signatures_of C answer phase) header (s ++ more))))
 unfolding header_ends
-ends_alike C answer number header s more =
-    rw (marks_are C answer header s, marks_are C answer header (s ++ more)) refl
+ends_alike C answer phase number header s more =
+    rw (marks_are C answer phase header s, marks_are C answer phase header (s ++ more)) refl
 
 -- ---- more octets
 
@@ -259,34 +266,34 @@ goes_marks S header (b ∷ t) (ReadTo said at stage) =
           ∙ append_assoc said.marks (message_marks step) more.0),
     )
 
-pub marks_on : (header s more : List ℕ) →
-    (later : List Mark) × (marks header (s ++ more) ≡ marks header s ++ later)
+pub marks_on : (phase : Phase) (header s more : List ℕ) →
+    (later : List Mark) × (marks phase header (s ++ more) ≡ marks phase header s ++ later)
 unfolding marks
-marks_on header s more =
-    let S = signatures_of builtin_table (λ id. None) in
+marks_on phase header s more =
+    let S = signatures_of builtin_table (λ id. None) phase in
     let all = goes_marks S header more (message S header s) in
     (all.0, ap message_marks (message_resumes S header s more) ∙ all.1)
 
-pub ends_by : (number : ℕ) (header s more : List ℕ) (later : List Mark) →
-    marks header (s ++ more) ≡ marks header s ++ later →
-    header_ends number header s more ≡ map (end_of number header) later
+pub ends_by : (phase : Phase) (number : ℕ) (header s more : List ℕ) (later : List Mark) →
+    marks phase header (s ++ more) ≡ marks phase header s ++ later →
+    header_ends phase number header s more ≡ map (end_of number header) later
 unfolding header_ends
-ends_by number header s more later e = search (arith, drop, drop-append_seam)
+ends_by phase number header s more later e = search (arith, drop, drop-append_seam)
 
 -- What ends in more octets are the marks that these octets add to the message.
-pub ends_are : (C : Table) (answer : Answer) (number : ℕ) (header s more : List ℕ)
-    (later : List Mark) → message_marks (message (signatures_of C answer) header (s ++ more))
-    ≡ message_marks (message (signatures_of C answer) header s) ++ later →
-    header_ends number header s more ≡ map (end_of number header) later
-ends_are C answer number header s more later e =
-    ends_by number header s more later (marks_are C answer header (s ++ more)
-    ∙ (e ∙ ap (λ ms. ms ++ later) (sym (marks_are C answer header s))))
+pub ends_are : (C : Table) (answer : Answer) (phase : Phase) (number : ℕ) (header s more : List ℕ)
+    (later : List Mark) → message_marks (message (signatures_of C answer phase) header (s ++ more))
+    ≡ message_marks (message (signatures_of C answer phase) header s) ++ later →
+    header_ends phase number header s more ≡ map (end_of number header) later
+ends_are C answer phase number header s more later e =
+    ends_by phase number header s more later (marks_are C answer phase header (s ++ more)
+    ∙ (e ∙ ap (λ ms. ms ++ later) (sym (marks_are C answer phase header s))))
 
-pub unmarked : (C : Table) (answer : Answer) (number : ℕ) (header s more : List ℕ) →
-    message_marks (message (signatures_of C answer) header (s ++ more))
-    ≡ message_marks (message (signatures_of C answer) header s) →
-    header_ends number header s more ≡ []
-unmarked C answer number header s more e = ends_are C answer number header s more []
+pub unmarked : (C : Table) (answer : Answer) (phase : Phase) (number : ℕ) (header s more : List ℕ) →
+    message_marks (message (signatures_of C answer phase) header (s ++ more))
+    ≡ message_marks (message (signatures_of C answer phase) header s) →
+    header_ends phase number header s more ≡ []
+unmarked C answer phase number header s more e = ends_are C answer phase number header s more []
     (e ∙ sym (append-nil _))
 
 -- ---- one octet
@@ -371,10 +378,10 @@ module _ (S : Signatures) (header : List ℕ) where
   reads_past : (section : Section) (T : Ty) → is_header section ≡ false →
       ((h : Noted) → IsPast (after S header section h)) →
       IsPast (λ at s. section_and_rest S header section nothing_noted
-      (reading (plain (order header)) [] T at s))
+      (reading (coding_of S header) [] T at s))
   reads_past section T other next = record {
     quiet = λ n. section_quiet section other next n _
-        (reading_quiet (plain (order header)) [] T n);
+        (reading_quiet (coding_of S header) [] T n);
     past = λ at s. section_past section other next _;
   }
 
@@ -442,10 +449,10 @@ module _ (S : Signatures) (header : List ℕ) where
       OneMark stage (message_marks (message_step S header at stage b))
   unfolding message_step message_marks
   step_one at (In_typed section h outer leaf) b =
-      let r = root_step (plain (order header)) [] outer leaf at b in
+      let r = root_step (coding_of S header) [] outer leaf at b in
       subst (OneMark (In_typed section h outer leaf))
       (sym (marks_ended section h r (now_all (at + 1) r
-      (root_now (plain (order header)) [] outer leaf at b))))
+      (root_now (coding_of S header) [] outer leaf at b))))
       (ended_one section h outer leaf r)
   step_one at (In_padding t) b = inl (padding_step_marks at t b)
   step_one at (In_rest offset held) b = inl (rest_step_marks offset (held ++ b ∷ []) (at + 1))
@@ -464,7 +471,7 @@ module _ (S : Signatures) (header : List ℕ) where
       message_marks (of_header S header found 12 s) ≡ []
   unfolding of_header section_then stage_of message_marks
   in_header_unmarked None s e = rest_unmarked 12 s
-  in_header_unmarked (Some T) s e = go (reading (plain (order header)) [] T 12 s) e
+  in_header_unmarked (Some T) s e = go (reading (coding_of S header) [] T 12 s) e
     where
       go : (r : Read) →
           heads (stage_of (section_and_rest S header sections.Header nothing_noted r)) ≡ true →

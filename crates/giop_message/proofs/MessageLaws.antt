@@ -1,11 +1,12 @@
 -- What the crate above may use of the reading of a message, in addition to the contracts of this
 -- crate: lemmas on the public definitions. No other file of this crate's proofs can be cited from
 -- outside.
-use Rattle.std.proofs.Common.{false, ◌≡◌, ℕ, ◌<◌, List, [], ◌∷◌, length, Some}
+use Rattle.std.proofs.Common.{false, refl, ◌≡◌, ℕ, ◌%◌, ◌<◌, List, [], ◌∷◌, length, Some}
 use Rattle.giop_cdr.specs.Numbers.{num}
 use Rattle.giop_sig.specs.Types.{Ty}
 use Rattle.giop_sig.specs.HeaderTypes.{BeginsWithId, header_type}
 use Rattle.giop_sig.specs.Table.{Table}
+use Rattle.giop_message.specs.Phases.{Phase}
 use Rattle.giop_message.specs.declared.message.Message.{Message as MessageValue}
 use Rattle.giop_message.specs.MessageReader.{HasOnlyValuesInId}
 use Rattle.giop_message.specs.Headers.{minor, kind, order}
@@ -41,38 +42,44 @@ pub use Rattle.giop_message.proofs.MessageAgreement.{follows_agree}
 -- answer
 
 pub is_named : (C : Table) (answers : Answers) → HasOnlyValuesInId (message_reader C answers)
-is_named C answers = named.is_named (λ number. signatures_of C (answers number))
-    (λ number. named.has_ids C (answers number))
+unfolding signatures_of
+is_named C answers = named.is_named (λ phase number. signatures_of C (answers number) phase)
+    (λ phase number. refl) (λ phase number. named.has_ids C (answers number) phase)
 
 -- If a header begins with its request id in version 1, it does so with each table. The id is the
 -- number of the first four octets.
-pub id_is_said : (C : Table) (answer : Answer) (header : List ℕ) (T : Ty) →
-    header_type 1 (minor header) (kind header) ≡ Some T → BeginsWithId T → (a b c d : ℕ)
-    (xs : List ℕ) → first_request_id (message_lines (message (signatures_of C answer) header
+pub id_is_said : (C : Table) (answer : Answer) (phase : Phase) (header : List ℕ) (T : Ty) →
+    header_type 1 (minor header) (kind header) ≡ Some T → BeginsWithId T →
+    phase 12 % 4 ≡ 0 → (a b c d : ℕ) (xs : List ℕ) → first_request_id
+    (message_lines (message (signatures_of C answer phase) header
     (a ∷ b ∷ c ∷ d ∷ xs))) ≡ Some (num (order header) (a ∷ b ∷ c ∷ d ∷ []))
 unfolding signatures_of
-id_is_said C answer header T found begins =
+id_is_said C answer phase header T found begins even =
     let each = begins_in_each C.version (minor header) (kind header) T found begins in
-    named.id_is_said (signatures_of C answer) header each.0 each.1 each.2
+    named.id_is_said (signatures_of C answer phase) even header each.0 each.1 each.2
 
 -- The line of the id is all that these octets add.
-module _ (C : Table) (answers : Answers) (number : ℕ) (header : List ℕ) (T : Ty)
-    (found : header_type 1 (minor header) (kind header) ≡ Some T) (begins : BeginsWithId T) where
+module _ (C : Table) (answers : Answers) (phase : Phase) (number : ℕ) (header : List ℕ) (T : Ty)
+    (found : header_type 1 (minor header) (kind header) ≡ Some T) (begins : BeginsWithId T)
+    (even : phase 12 % 4 ≡ 0) where
   pub few_said : (xs : List ℕ) → length xs < 4 →
-      (message_reader C answers).reads number header xs ≡ []
+      (message_reader C answers).reads phase number header xs ≡ []
   unfolding signatures_of
   few_said =
       let each = begins_in_each C.version (minor header) (kind header) T found begins in
-      lines.few_said (λ k. signatures_of C (answers k)) number header each.0 each.1 each.2
+      lines.few_said (λ phase k. signatures_of C (answers k) phase) phase number even header each.0
+      each.1 each.2
 
-  pub four_said : (a b c d : ℕ) → (message_reader C answers).reads number header
+  pub four_said : (a b c d : ℕ) → (message_reader C answers).reads phase number header
       (a ∷ b ∷ c ∷ d ∷ []) ≡ request_id_said (num (order header) (a ∷ b ∷ c ∷ d ∷ [])) ∷ []
   unfolding signatures_of
   four_said =
       let each = begins_in_each C.version (minor header) (kind header) T found begins in
-      lines.four_said (λ k. signatures_of C (answers k)) number header each.0 each.1 each.2
+      lines.four_said (λ phase k. signatures_of C (answers k) phase) phase number even header each.0
+      each.1 each.2
 
-pub follows_goes : (C : Table) (answers : Answers) (number : ℕ) (header : List ℕ) (m : MessageValue)
-    (s : List ℕ) → Follows C answers number header m s →
-    is_over (stage_of (message (signatures_of C (answers number)) header s)) ≡ false
-follows_goes C answers number header m s f = followings.follows_goes f
+pub follows_goes : (C : Table) (answers : Answers) (phase : Phase) (number : ℕ) (header : List ℕ)
+    (m : MessageValue)
+    (s : List ℕ) → Follows C answers phase number header m s →
+    is_over (stage_of (message (signatures_of C (answers number) phase) header s)) ≡ false
+follows_goes C answers phase number header m s f = followings.follows_goes f

@@ -1,12 +1,11 @@
 -- The close ends a message; and if a message begins with its request id, its first four octets have
 -- no line except the line of the id.
-use Rattle.std.proofs.Common.{◌≡◌, ℕ, suc, ◌<◌, ◌≤◌, ◌⊎◌, inl, inr, Bool, true, false, List, [], ◌∷◌, ◌++◌, length, map, Option, Some, None, refl, ap, ◌∙◌, append-nil, arith}
+use Rattle.std.proofs.Common.{◌≡◌, ℕ, suc, ◌%◌, ◌<◌, ◌≤◌, ◌⊎◌, inl, inr, Bool, true, false, List, [], ◌∷◌, ◌++◌, length, map, Option, Some, None, refl, ap, ◌∙◌, append-nil, arith}
 use Rattle.std.specs.Prelude.{◌&&◌, ◌||◌, IfSome, codes}
 use Rattle.std.proofs.lemmas.Bool.{eqb-true}
 use Rattle.std.specs.List.{AllByRecursion as Each}
 use Rattle.giop_cdr.specs.Alignment.{padding}
 use Rattle.giop_cdr.specs.Numbers.{num}
-use Rattle.giop_cdr.specs.declared.order.Order.{Order}
 use Rattle.giop_cdr.specs.declared.prim.Primitive.TheVariants as prims
 use Rattle.giop_print.specs.declared.path.Root.TheVariants as roots
 use Rattle.giop_sig.specs.Types.{Ty, Plain, Single, Struct}
@@ -14,17 +13,18 @@ use Rattle.giop_sig.specs.Table.{Table}
 use Rattle.giop_sig.specs.HeaderTypes.{BeginsWithId, IdStandsFirst, header_type}
 use Rattle.giop_sig.proofs.HeaderLaws.{id_first}
 use Rattle.giop_decode.specs.ReadResult as spine
-use Rattle.giop_decode.specs.ReadResult.{plain, PathSegment, Name, Line, Number, line, Part, Read, Done, Short, followed, within, Fault}
+use Rattle.giop_decode.specs.ReadResult.{Coding, PathSegment, Name, Line, Number, line, Part, Read, Done, Short, followed, within, Fault}
 use Rattle.giop_decode.specs.Pieces.{block, number}
 use Rattle.giop_decode.specs.Reading.{read, left_after, parts_from, reading, rooted}
 use Rattle.giop_decode.specs.ReadingSteps.{IsEmptyResult, part_at}
 use Rattle.giop_decode.specs.Noted.{Noted, nothing_noted, ends_operation}
 use Rattle.giop_decode.proofs.ReadingLaws.{quiet_parts, part_quiet}
+use Rattle.giop_message.specs.Phases.{Phase}
 use Rattle.giop_message.specs.declared.part.Section.TheVariants as sections
 use Rattle.giop_message.specs.Headers.{minor, kind, order, is_opener, is_fragment, is_cancel, has_name}
 use Rattle.giop_message.specs.MessageReader.{Value, IsEnding, HasOnlyValuesInId}
 use Rattle.giop_message.specs.Signatures.{Signatures, Answer, signatures_of}
-use Rattle.giop_message.specs.Messages.{calling_of, Calling, ValueLine, LineAt, line_at, calls, section_lines, Message, section_then, rest_in, rest, after_header, of_header, message, message_lines, close}
+use Rattle.giop_message.specs.Messages.{coding_of, calling_of, Calling, ValueLine, LineAt, line_at, calls, section_lines, Message, section_then, rest_in, rest, after_header, of_header, message, message_lines, close}
 use Rattle.giop_message.specs.ReaderOfTable.{line_class_of, timed_line_of, remarks_by, closes_by, reader_by, HasIds, id_in, first_id, first_request_id}
 use Rattle.giop_message.proofs.Going.{passes_front}
 use Rattle.giop_message.proofs.Octets.{told_front, told_silent}
@@ -32,7 +32,7 @@ use Rattle.giop_message.proofs.Causal.{Silent, passes_silent, after_silent, told
 
 -- ---- the close
 
-pub is_ending : (S : ℕ → Signatures) → IsEnding (reader_by S)
+pub is_ending : (S : Phase → ℕ → Signatures) → IsEnding (reader_by S)
 unfolding closes_by line_class_of close
 is_ending S = search (arith, map)
 
@@ -54,31 +54,32 @@ section_lines_id : (is : Calling) (path : List PathSegment) (n : ℕ) →
 unfolding section_lines calls
 section_lines_id is path n = search (arith, number_no_operation)
 
-module _ (o : Order) (path : List PathSegment) where
+module _ (coding : Coding) (even : coding.phase 12 % 4 ≡ 0) (path : List PathSegment) where
   read_four : (a b c d : ℕ) →
-      read (plain o) path (Single (Plain prims.ULong)) 12 (a ∷ b ∷ c ∷ d ∷ [])
-      ≡ Done (line 16 path (Number (Plain prims.ULong) (num o (a ∷ b ∷ c ∷ d ∷ []))) ∷ []) 16 []
+      read coding path (Single (Plain prims.ULong)) 12 (a ∷ b ∷ c ∷ d ∷ [])
+      ≡ Done (line 16 path (Number (Plain prims.ULong) (num coding.order (a ∷ b ∷ c ∷ d ∷ []))) ∷
+      []) 16 []
   unfolding number block padding
-  read_four a b c d = refl
+  read_four a b c d = rw even refl
 
 -- the first part of a struct, if it is an unsigned long
-module _ (o : Order) (n : ℕ) (of : ℕ → List ℕ) (parts : ℕ → Ty)
-    (is : parts 0 ≡ Single (Plain prims.ULong)) where
+module _ (coding : Coding) (even : coding.phase 12 % 4 ≡ 0) (n : ℕ) (of : ℕ → List ℕ)
+    (parts : ℕ → Ty) (is : parts 0 ≡ Single (Plain prims.ULong)) where
   next : ℕ → List ℕ → Read
-  next = parts_from (part_at (plain o) [] (Struct (suc n) of parts) (suc n)) n 1
+  next = parts_from (part_at coding [] (Struct (suc n) of parts) (suc n)) n 1
 
   -- the reading of a struct whose first part is read so
   in_first : List ℕ → Read → Read
   in_first xs r = rooted (left_after 12 xs)
       (followed (within (Part (Struct (suc n) of parts) 0 (suc n)) r) next)
 
-  first_part : (xs : List ℕ) → reading (plain o) [] (Struct (suc n) of parts) 12 xs
-      ≡ in_first xs (read (plain o) (Name (of 0) ∷ []) (Single (Plain prims.ULong)) 12 xs)
+  first_part : (xs : List ℕ) → reading coding [] (Struct (suc n) of parts) 12 xs
+      ≡ in_first xs (read coding (Name (of 0) ∷ []) (Single (Plain prims.ULong)) 12 xs)
   unfolding next in_first
   first_part xs = search (arith, next, in_first)
 
   id_line : List ℕ → Line
-  id_line xs = line 16 (Name (of 0) ∷ []) (Number (Plain prims.ULong) (num o xs))
+  id_line xs = line 16 (Name (of 0) ∷ []) (Number (Plain prims.ULong) (num coding.order xs))
 
   next_quiet : IsEmptyResult 16 (next 16 [])
   unfolding next
@@ -91,7 +92,7 @@ module _ (o : Order) (n : ℕ) (of : ℕ → List ℕ) (parts : ℕ → Ty)
   rooted_quiet left front (Fault lines at why T) h = absurd h
 
   first_four : (a b c d : ℕ) →
-      reading (plain o) [] (Struct (suc n) of parts) 12 (a ∷ b ∷ c ∷ d ∷ [])
+      reading coding [] (Struct (suc n) of parts) 12 (a ∷ b ∷ c ∷ d ∷ [])
       ≡ spine.with_front (id_line (a ∷ b ∷ c ∷ d ∷ []) ∷ []) (next 16 [])
   unfolding id_line in_first
   first_four a b c d = search (arith, first_part, in_first, read_four, rooted_quiet, next_quiet)
@@ -100,7 +101,7 @@ module _ (o : Order) (n : ℕ) (of : ℕ → List ℕ) (parts : ℕ → Ty)
       (silent : (h : Noted) → Silent 16 (onward h 16 [])) where
     told_few : (xs : List ℕ) → length xs < 4 →
         message_lines (section_then sections.Header is_req onward nothing_noted
-        (reading (plain o) [] (Struct (suc n) of parts) 12 xs)) ≡ []
+        (reading coding [] (Struct (suc n) of parts) 12 xs)) ≡ []
     unfolding in_first number block padding section_then section_lines message_lines
     told_few [] h = search (arith, first_part)
     told_few (a ∷ []) h = search (arith, first_part)
@@ -110,9 +111,9 @@ module _ (o : Order) (n : ℕ) (of : ℕ → List ℕ) (parts : ℕ → Ty)
 
     told_four : (a b c d : ℕ) → message_lines
         (section_then sections.Header is_req onward nothing_noted
-        (reading (plain o) [] (Struct (suc n) of parts) 12 (a ∷ b ∷ c ∷ d ∷ []))) ≡ line_at 16
+        (reading coding [] (Struct (suc n) of parts) 12 (a ∷ b ∷ c ∷ d ∷ []))) ≡ line_at 16
         (ValueLine roots.Header (Name (of 0) ∷ [])
-        (Number (Plain prims.ULong) (num o (a ∷ b ∷ c ∷ d ∷ [])))) ∷ []
+        (Number (Plain prims.ULong) (num coding.order (a ∷ b ∷ c ∷ d ∷ [])))) ∷ []
     unfolding id_line
     told_four a b c d = search (
       arith,
@@ -133,21 +134,23 @@ module _ (S : Signatures) (header : List ℕ) where
   id_told xs = line_at 16 (ValueLine roots.Header (Name (codes "request_id") ∷ [])
       (Number (Plain prims.ULong) (num (order header) xs))) ∷ []
 
-  pub few_by : (T : Ty) → BeginsWithId T → (xs : List ℕ) → length xs < 4 →
+  pub few_by : S.phase 12 % 4 ≡ 0 → (T : Ty) → BeginsWithId T → (xs : List ℕ) → length xs < 4 →
       message_lines (of_header S header (Some T) 12 xs) ≡ []
   unfolding of_header
-  few_by T (n, of, parts, is, name_is, long) xs h =
+  few_by even T (n, of, parts, is, name_is, long) xs h =
       ap (λ U. message_lines (of_header S header (Some U) 12 xs)) is
-      ∙ told_few (order header) n of parts long (calling_of S header) (after_header S header)
+      ∙ told_few (coding_of S header) even n of parts long (calling_of S header)
+      (after_header S header)
       (λ h. after_silent S header sections.Header h 16) xs h
 
-  pub four_by : (T : Ty) → BeginsWithId T → (a b c d : ℕ) →
+  pub four_by : S.phase 12 % 4 ≡ 0 → (T : Ty) → BeginsWithId T → (a b c d : ℕ) →
       message_lines (of_header S header (Some T) 12 (a ∷ b ∷ c ∷ d ∷ []))
       ≡ id_told (a ∷ b ∷ c ∷ d ∷ [])
   unfolding of_header id_told
-  four_by T (n, of, parts, is, name_is, long) a b c d =
+  four_by even T (n, of, parts, is, name_is, long) a b c d =
       ap (λ U. message_lines (of_header S header (Some U) 12 (a ∷ b ∷ c ∷ d ∷ []))) is
-      ∙ (told_four (order header) n of parts long (calling_of S header) (after_header S header)
+      ∙ (told_four (coding_of S header) even n of parts long (calling_of S header)
+      (after_header S header)
       (λ h. after_silent S header sections.Header h 16) a b c d
       ∙ ap (λ name. line_at 16 (ValueLine roots.Header (Name name ∷ [])
       (Number (Plain prims.ULong) (num (order header) (a ∷ b ∷ c ∷ d ∷ [])))) ∷ []) name_is)
@@ -161,42 +164,46 @@ module _ (S : Signatures) (header : List ℕ) where
   are_values : List LineAt → Type 0
   are_values ts = Each (λ r. r.line_class ≡ Value) (map timed_line_of ts)
 
-  named_by : (found : Option Ty) → IfSome found BeginsWithId → (xs : List ℕ) → length xs ≤ 4 →
+  named_by : S.phase 12 % 4 ≡ 0 → (found : Option Ty) → IfSome found BeginsWithId → (xs : List ℕ) →
+      length xs ≤ 4 →
       are_values (message_lines (of_header S header found 12 xs))
   unfolding are_values line_class_of line_at id_told
-  named_by None begins xs h = rw (rest_few xs h) tt
-  named_by (Some T) begins [] h = search (arith, few_by)
-  named_by (Some T) begins (a ∷ []) h = search (arith, few_by)
-  named_by (Some T) begins (a ∷ b ∷ []) h = search (arith, few_by)
-  named_by (Some T) begins (a ∷ b ∷ c ∷ []) h = search (arith, few_by)
-  named_by (Some T) begins (a ∷ b ∷ c ∷ d ∷ []) h = search (arith, four_by)
-  named_by (Some T) begins (a ∷ b ∷ c ∷ d ∷ e ∷ xs) h = absurd (omega arith)
+  named_by even None begins xs h = rw (rest_few xs h) tt
+  named_by even (Some T) begins [] h = search (arith, few_by)
+  named_by even (Some T) begins (a ∷ []) h = search (arith, few_by)
+  named_by even (Some T) begins (a ∷ b ∷ []) h = search (arith, few_by)
+  named_by even (Some T) begins (a ∷ b ∷ c ∷ []) h = search (arith, few_by)
+  named_by even (Some T) begins (a ∷ b ∷ c ∷ d ∷ []) h = search (arith, four_by)
+  named_by even (Some T) begins (a ∷ b ∷ c ∷ d ∷ e ∷ xs) h = absurd (omega arith)
 
-  id_four : (T : Ty) → BeginsWithId T → (a b c d : ℕ) (later : List LineAt) →
+  id_four : S.phase 12 % 4 ≡ 0 → (T : Ty) → BeginsWithId T → (a b c d : ℕ) (later : List LineAt) →
       first_request_id (message_lines (of_header S header (Some T) 12 (a ∷ b ∷ c ∷ d ∷ []))
       ++ later)
       ≡ Some (num (order header) (a ∷ b ∷ c ∷ d ∷ []))
   unfolding first_request_id id_in first_id line_at id_told
-  id_four T begins a b c d later = search (arith, four_by)
+  id_four even T begins a b c d later = search (arith, four_by)
 
-pub is_named : (S : ℕ → Signatures) → ((number : ℕ) → HasIds (S number)) →
+pub is_named : (S : Phase → ℕ → Signatures) →
+    ((phase : Phase) (number : ℕ) → (S phase number).phase ≡ phase) →
+    ((phase : Phase) (number : ℕ) → HasIds (S phase number)) →
     HasOnlyValuesInId (reader_by S)
 unfolding remarks_by message are_values
-is_named S ids = record {
-  named = λ number header xs by few.
-      named_by (S number) header ((S number).header (minor header) (kind header))
-      ((ids number).begins header by) xs few;
+is_named S own ids = record {
+  named = λ phase number header xs even by few.
+      named_by (S phase number) header (rw own even)
+      ((S phase number).header (minor header) (kind header))
+      ((ids phase number).begins header by) xs few;
 }
 
 -- The request id of the header is the number of the first four octets.
-pub id_is_said : (S : Signatures) (header : List ℕ) (T : Ty) →
+pub id_is_said : (S : Signatures) → S.phase 12 % 4 ≡ 0 → (header : List ℕ) (T : Ty) →
     S.header (minor header) (kind header) ≡ Some T → BeginsWithId T → (a b c d : ℕ) (xs : List ℕ) →
     first_request_id (message_lines (message S header (a ∷ b ∷ c ∷ d ∷ xs)))
     ≡ Some (num (order header) (a ∷ b ∷ c ∷ d ∷ []))
 unfolding message
-id_is_said S header T found begins a b c d xs =
+id_is_said S even header T found begins a b c d xs =
     let g = told_begins S header (a ∷ b ∷ c ∷ d ∷ []) xs in
-    ap first_request_id g.1 ∙ rw found (id_four S header T begins a b c d g.0)
+    ap first_request_id g.1 ∙ rw found (id_four S header even T begins a b c d g.0)
 
 -- ---- the catalogue's headers
 
@@ -215,6 +222,6 @@ pub begins_with_id : (version : ℕ) (header : List ℕ) → has_name header ≡
 begins_with_id version header by =
     id_first version (minor header) (kind header) (goes_first header by)
 
-pub has_ids : (C : Table) (answer : Answer) → HasIds (signatures_of C answer)
+pub has_ids : (C : Table) (answer : Answer) (phase : Phase) → HasIds (signatures_of C answer phase)
 unfolding signatures_of
-has_ids C answer = search (arith, begins_with_id)
+has_ids C answer phase = search (arith, begins_with_id)

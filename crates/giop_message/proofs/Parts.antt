@@ -5,7 +5,7 @@ use Rattle.std.proofs.Math.Seq.{drop-append_seam}
 use Rattle.giop_print.specs.declared.path.Root.{Root}
 use Rattle.giop_decode.specs.declared.progress.Progress.TheVariants as progress
 use Rattle.giop_decode.specs.ReadResult
-use Rattle.giop_decode.specs.ReadResult.{Coding, plain, Line, OpenPart, Leaf, Read, Done, Short, Fault, lines_of}
+use Rattle.giop_decode.specs.ReadResult.{Coding, Line, OpenPart, Leaf, Read, Done, Short, Fault, lines_of}
 use Rattle.giop_decode.specs.Reading.{reading as whole_of}
 use Rattle.giop_decode.specs.ReadingSteps as decoder
 use Rattle.giop_decode.specs.ReadingSteps.{IsOctetResult}
@@ -16,9 +16,8 @@ use Rattle.giop_decode.specs.Spelling.{lines_text}
 use Rattle.giop_decode.proofs.ReadingLaws.{length_one_more, lines_front, reading_goes, root_now}
 use Rattle.giop_sig.specs.Types.{Ty}
 use Rattle.giop_message.specs.declared.part.Section.{Section}
-use Rattle.giop_message.specs.Headers.{order}
 use Rattle.giop_message.specs.Signatures.{Signatures}
-use Rattle.giop_message.specs.Messages.{Calling, Said, section_lines, Message, with_front, section_then, message, message_lines, root_of, calling, section_and_rest}
+use Rattle.giop_message.specs.Messages.{coding_of, Calling, Said, section_lines, Message, with_front, section_then, message, message_lines, root_of, calling, section_and_rest}
 use Rattle.giop_message.specs.MessageState.{message_lines_text, due, due_text, IsFirst}
 use Rattle.giop_message.specs.MessageSteps.{fault_text}
 use Rattle.giop_message.proofs.Going.{front_twice, front_advance, passes_front, through_goes, after_goes, message_goes}
@@ -47,12 +46,12 @@ module _ (w : Begun) where
 
   -- the reading of the section's octets
   abbrev pub reading : List ℕ → Read
-  reading octets = whole_of (plain (order header)) [] T start octets
+  reading octets = whole_of (coding_of S header) [] T start octets
 
   -- whether the next octet ends an operation
   abbrev pub is_named : List ℕ → ℕ → Bool
   is_named octets b = names_operation (is_header_root (root_of section))
-      (decoders.added_lines (order header) T start octets b)
+      (decoders.added_lines (coding_of S header) T start octets b)
 
   -- the message, from this reading of the section
   abbrev pub comes : Read → Message
@@ -152,7 +151,7 @@ module _ (w : Begun) (s octets : List ℕ) (i : Inside w s octets) (b : ℕ) whe
   Is = calling S header section
 
   abbrev coding : Coding
-  coding = plain (order header)
+  coding = coding_of S header
 
   -- the offset of the section's next octet
   abbrev Here : ℕ
@@ -176,7 +175,7 @@ module _ (w : Begun) (s octets : List ℕ) (i : Inside w s octets) (b : ℕ) whe
   pub added_none : CallsNone Is.is_request Added
   added_none = search (arith, root_none)
 
-  pub lines_due : decoders.added_lines (order header) T (start w) octets b ≡ lines_of Added
+  pub lines_due : decoders.added_lines (coding_of S header) T (start w) octets b ≡ lines_of Added
   lines_due = search (arith, next_is, lines_front, drop-append_seam)
 
   pub goes_more : message S header (s ++ b ∷ []) ≡ comes w Next
@@ -202,7 +201,7 @@ module _ (w : Begun) (s octets : List ℕ) (i : Inside w s octets) (b : ℕ) whe
 
   -- the text of the octet: its line or its fault, and its call
   pub text_here : (place : ℕ) → due_text S number place header s (b ∷ []) ≡
-      (lines_text number R (decoders.added_lines (order header) T (start w) octets b)
+      (lines_text number R (decoders.added_lines (coding_of S header) T (start w) octets b)
       ++ fault_text number (place + 1) Next)
       ++ message_lines_text number place (12 + length s)
       (first_call R Is noted_before (lines_of Added))
@@ -220,7 +219,7 @@ module _ (w : Begun) (s octets : List ℕ) (i : Inside w s octets) (b : ℕ) whe
   )
 
   -- the section goes on after the octet
-  pub inside_on : Answers (order header) T (start w) R octets b progress.More →
+  pub inside_on : Answers (coding_of S header) T (start w) R octets b progress.More →
       Inside w (s ++ b ∷ []) (octets ++ b ∷ [])
   inside_on answer =
       let g = short_by (Here + 1) (start w + length (octets ++ b ∷ [])) (is_named w octets b) Next

@@ -5,6 +5,7 @@ use Rattle.std.proofs.lemmas.Bool.{lt-ltb, le-ltb}
 use Rattle.giop_cdr.specs.Alignment.{padding}
 use Rattle.giop_print.specs.Lines.{rest_line}
 use Rattle.giop_sig.specs.Table.{Table, in_version}
+use Rattle.giop_message.specs.Phases.{Phase}
 use Rattle.giop_message.specs.Headers.{minor}
 use Rattle.giop_decode.proofs.ReadingLaws.{length_one_more}
 use Rattle.giop_message.specs.declared.message.Message.{Message as Struct_of}
@@ -67,12 +68,14 @@ pub no_text : (S : Signatures) (number place : ℕ) (header s more : List ℕ) �
 unfolding due_text message_lines_text
 no_text S number place header s more e = rw e refl
 
-module _ {C : Table} {answers : Answers} {number : ℕ} {header : List ℕ} {m : Struct_of} {s : List ℕ}
+module _ {C : Table} {answers : Answers} {phase : Phase} {number : ℕ} {header : List ℕ}
+    {m : Struct_of} {s : List ℕ}
     {body_type_id : BodyTypeId}
-    (f : Follows C answers number header m s) (is : m.part ≡ parts.Padding body_type_id) (b : ℕ)
+    (f : Follows C answers phase number header m s) (is : m.part ≡ parts.Padding body_type_id)
+    (b : ℕ)
   where
     abbrev S : Signatures
-    S = signatures_of C (answers number)
+    S = signatures_of C (answers number) phase
 
     abbrev T : BodyType
     T = body_type (in_version (minor header) C) body_type_id
@@ -107,20 +110,21 @@ module _ {C : Table} {answers : Answers} {number : ℕ} {header : List ℕ} {m :
     same_id none = search (arith, id_kept, none_said)
 
     pub padding_follows : (1 < padding Here 8) → {n : Struct_of} → Moved m n 1 → n.id ≡ m.id →
-        n.part ≡ m.part → Follows C answers number header n further
+        n.part ≡ m.part → Follows C answers phase number header n further
     padding_follows h {n} move id part =
         let comes = one_comes (ReadTo nothing_said (Here + 1) (In_padding T))
         (padding_on S header Here b T h) in
         let at = comes_next padded.0 nothing_said (Here + 1) (12 + length further) (In_padding T)
         (next_at s b) in
         follows_on f (b ∷ []) move (id ∙ rw (part, is) (same_id (padding_told h)))
-        (subst (Stands C answers number header further n.decoder) (sym (part ∙ is))
+        (subst (Stands C answers phase number header further n.decoder) (sym (part ∙ is))
         (_, comes ∙ at))
 
     pub last_follows : padding Here 8 ≤ 1 → {k n : Struct_of} → Moved m k 1 →
-        Arrives C answers number header k n further (body S header T (12 + length further) []) →
+        Arrives C answers phase number header k n further
+        (body S header T (12 + length further) []) →
         Moved m n 1 → n.id ≡ m.id → in_header n.part ≡ false →
-        Follows C answers number header n further
+        Follows C answers phase number header n further
     last_follows h move_k arrives move_n id past =
         let comes = one_comes (body S header T (Here + 1) []) (padding_last S header Here b T h) in
         follows_on f (b ∷ []) move_n (id ∙ rw past (same_id (last_told h)))
@@ -157,9 +161,10 @@ part_goes S header said at offset held b (b' ∷ bs) h = search (
       offset (held ++ b ∷ []) b' bs (omega (arith, length_one_more held b, h)),
 )
 
-module _ {C : Table} {answers : Answers} {number : ℕ} {header : List ℕ} {m : Struct_of} {s : List ℕ}
+module _ {C : Table} {answers : Answers} {phase : Phase} {number : ℕ} {header : List ℕ}
+    {m : Struct_of} {s : List ℕ}
     {r : Rest}
-    {room n : ℕ} (f : Follows C answers number header m s) (is : m.part ≡ parts.Rest r)
+    {room n : ℕ} (f : Follows C answers phase number header m s) (is : m.part ≡ parts.Rest r)
     (octets : List ℕ)
     (some : 0 < length octets) (left : room ≡ 32 - length r.held.items)
     (taken : n ≡ min room (length octets)) where
@@ -178,24 +183,27 @@ module _ {C : Table} {answers : Answers} {number : ℕ} {header : List ℕ} {m :
   abbrev Stood : Said → Message
   Stood said = ReadTo said At (In_rest r.offset r.held.items)
 
-  stood : (said : Said) × (message (signatures_of C (answers number)) header s ≡ Stood said)
+  stood : (said : Said) × (message (signatures_of C (answers number) phase) header s ≡ Stood said)
   stood = search (arith)
 
-  rest_comes : message (signatures_of C (answers number)) header (s ++ xs) ≡ with_front stood.0 Step
+  rest_comes : message (signatures_of C (answers number) phase) header (s ++ xs) ≡ with_front
+      stood.0 Step
   rest_comes = search (arith, message_resumes, stood, size, part_goes)
 
-  rest_due : due (signatures_of C (answers number)) header s xs ≡ message_lines Step
+  rest_due : due (signatures_of C (answers number) phase) header s xs ≡ message_lines Step
   unfolding message_lines
   rest_due = search (arith, due_is, stood, rest_comes)
 
-  pub rest_text : (place : ℕ) → due_text (signatures_of C (answers number)) number place header s xs
+  pub rest_text : (place : ℕ) → due_text (signatures_of C (answers number) phase) number place
+      header s xs
       ≡ message_lines_text m.number place At (message_lines Step)
   unfolding due_text
   rest_text place = search (arith, rest_due)
 
   pub rest_follows : {m' : Struct_of} {r' : Rest} → Moved m m' n → m'.id ≡ m.id →
       m'.part ≡ parts.Rest r' →
-      stage_of Step ≡ In_rest r'.offset r'.held.items → Follows C answers number header m' (s ++ xs)
+      stage_of Step ≡ In_rest r'.offset r'.held.items → Follows C answers phase number header m'
+      (s ++ xs)
   rest_follows {m' = m'} {r' = r'} move id part stage =
       let step = rested r.offset (r.held.items ++ xs) (At + length xs) in
       let e : At + length xs ≡ 12 + length (s ++ xs) = omega (arith, length-append s xs) in
@@ -206,7 +214,7 @@ module _ {C : Table} {answers : Answers} {number : ℕ} {header : List ℕ} {m :
       ∙ ap (ReadTo said (At + length xs)) stage) in
       follows_on f xs (rw size move) (id ∙ rw part
       (id_kept f xs (ap first_request_id rest_due ∙ step.no_id) (rw is refl)))
-      (subst (Stands C answers number header (s ++ xs) m'.decoder) (sym part)
+      (subst (Stands C answers phase number header (s ++ xs) m'.decoder) (sym part)
       (_, rest_comes ∙ (comes ∙ next)))
 
 -- the text of a step in the rest

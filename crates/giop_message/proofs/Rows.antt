@@ -16,6 +16,7 @@ use Rattle.giop_sig.specs.Builtin.{builtin_types, member}
 use Rattle.giop_decode.specs.Pieces.{block, number}
 use Rattle.giop_decode.specs.Spelling.{path_text}
 use Rattle.giop_message.specs.Headers.{minor, kind, order}
+use Rattle.giop_message.specs.Phases.{Phase, unbroken, seamed}
 use Rattle.giop_message.specs.MessageReader.{LineClass, Value, Call, Rest, Fault, End, TimedLine, MessageReader}
 use Rattle.giop_message.specs.Text.{value_line_text, call_text, rest_text}
 use Rattle.giop_message.specs.Signatures.{RequestTable, by_list, signatures_of}
@@ -127,9 +128,14 @@ ended = (End, codes "end") ∷ []
 short : List (LineClass × List ℕ)
 short = (Fault, codes "short") ∷ []
 
--- the lines of a message's octets, and those of its close
+-- the lines of a message's octets, and those of its close, with padding counted by this phase
+abbrev Joined : Phase → List ℕ → List ℕ → List TimedLine → List (LineClass × List ℕ) → Type 0
+Joined phase header s reads closes =
+    (r.reads phase 1 header s ≡ reads) × (r.closes phase 1 header s ≡ closes)
+
+-- the same for a message in one piece
 abbrev Row : List ℕ → List ℕ → List TimedLine → List (LineClass × List ℕ) → Type 0
-Row header s reads closes = (r.reads 1 header s ≡ reads) × (r.closes 1 header s ≡ closes)
+Row = Joined unbroken
 
 -- A Request without parameters. The message ends at the header's end, within the padding, or at the
 -- padding's end; or a rest of two octets follows.
@@ -197,6 +203,35 @@ body_of_1_0 : Row (head 0 0)
     ∷ says 36 (codes "body.v long -5") ∷ []) ended
 unfolding rows head h t_nop t_say t_raw ended short
 body_of_1_0 = (refl, refl)
+
+-- the 32 octets of a Request's header in 1.1, and its lines
+put_11 : List ℕ
+put_11 = 0 ∷ 0 ∷ 0 ∷ 0 ∷ 0 ∷ 0 ∷ 0 ∷ 1 ∷ 1 ∷ 0 ∷ 0 ∷ 0 ∷ 0 ∷ 0 ∷ 0 ∷ 1 ∷ 65 ∷ 0 ∷ 0 ∷ 0 ∷ 0 ∷ 0 ∷ 0
+    ∷ 4 ∷ 112 ∷ 117 ∷ 116 ∷ 0 ∷ 0 ∷ 0 ∷ 0 ∷ 0 ∷ []
+
+t_put : List TimedLine
+t_put = says 4 (codes "header.service_contexts count 0") ∷ says 8 (codes "header.request_id ulong 1")
+    ∷ says 9 (codes "header.response_expected boolean true")
+    ∷ says 10 (codes "header.reserved[0] octet 0") ∷ says 11 (codes "header.reserved[1] octet 0")
+    ∷ says 12 (codes "header.reserved[2] octet 0") ∷ says 17 (codes "header.object_key octets @0 41")
+    ∷ says 28 (codes "header.operation string @0 \"put\"")
+    ∷ record { at = 28; line_class = Call; text = codes "call 1 put" }
+    ∷ says 32 (codes "header.requesting_principal octets @0") ∷ []
+
+-- A Fragment of 1.1 begins in the middle of a number: the number has its octets on both sides.
+seam_in_number : Joined (seamed unbroken 52) (head 1 0)
+    (put_11 ++ 0 ∷ 0 ∷ 0 ∷ 0 ∷ 63 ∷ 248 ∷ 0 ∷ 0 ∷ 0 ∷ 0 ∷ 0 ∷ 0 ∷ [])
+    (t_put ++ says 44 (codes "body.d double 3ff8000000000000") ∷ []) ended
+unfolding rows head h put_11 t_put ended short
+seam_in_number = (refl, refl)
+
+-- One begins in the padding of a number, at an offset at which the number would be aligned: padding
+-- goes on to the next multiple of 8, counted by the Fragment.
+seam_in_padding : Joined (seamed unbroken 48) (head 1 0)
+    (put_11 ++ 0 ∷ 0 ∷ 0 ∷ 0 ∷ 255 ∷ 255 ∷ 255 ∷ 255 ∷ 63 ∷ 248 ∷ 0 ∷ 0 ∷ 0 ∷ 0 ∷ 0 ∷ 0 ∷ [])
+    (t_put ++ says 48 (codes "body.d double 3ff8000000000000") ∷ []) ended
+unfolding rows head h put_11 t_put ended short
+seam_in_padding = (refl, refl)
 
 -- In 1.2, a body begins at the next multiple of 8, here in a little-endian Request.
 body_of_1_2 : Row (71 ∷ 73 ∷ 79 ∷ 80 ∷ 1 ∷ 2 ∷ 1 ∷ 0 ∷ 44 ∷ 0 ∷ 0 ∷ 0 ∷ [])

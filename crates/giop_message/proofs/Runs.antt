@@ -2,7 +2,6 @@
 use Rattle.std.proofs.Common.{◌≡◌, ℕ, zero, suc, ◌+◌, ◌-◌, ◌<◌, ◌≤◌, Bool, true, false, List, [], ◌∷◌, ◌++◌, length, take, drop, refl, sym, ap, subst, ◌∙◌, append_assoc, append-nil, arith, length-append}
 use Rattle.std.proofs.Math.Seq.{take-append_seam}
 use Rattle.std.proofs.lemmas.List.{length-take-le, take-append-drop}
-use Rattle.giop_cdr.specs.declared.order.Order.{Order}
 use Rattle.giop_print.proofs.Writing.{front-append}
 use Rattle.giop_print.specs.Lines.{fault_line}
 use Rattle.giop_print.specs.Output.{OutLog, WroteFront}
@@ -13,7 +12,7 @@ use Rattle.giop_decode.specs.declared.decoder.Decoder.{Decoder}
 use Rattle.giop_decode.specs.declared.progress.Kind.{Kind}
 use Rattle.giop_decode.specs.declared.progress.Progress.{Progress}
 use Rattle.giop_decode.specs.declared.progress.Progress.TheVariants as progress
-use Rattle.giop_decode.specs.ReadResult.{Read, Done, Fault}
+use Rattle.giop_decode.specs.ReadResult.{Coding, Read, Done, Fault}
 use Rattle.giop_decode.specs.Noted.{nothing_noted, noted, noted_of, is_header_root}
 use Rattle.giop_decode.specs.DecoderState as decoders
 use Rattle.giop_decode.specs.Runs.{added_lines_of_run, Answers, AreAnswered, BreaksOff}
@@ -21,9 +20,8 @@ use Rattle.giop_decode.specs.Spelling.{lines_text}
 use Rattle.giop_decode.proofs.ReadingLaws as readings
 use Rattle.giop_message.specs.declared.part.Section.{Section}
 use Rattle.giop_message.specs.declared.part.Section.TheVariants as sections
-use Rattle.giop_message.specs.Headers.{order}
 use Rattle.giop_message.specs.Signatures.{Signatures}
-use Rattle.giop_message.specs.Messages.{Said, end_mark, section_lines, with_front, said_both, section_then, message, message_lines, stage_of, root_of, calling, after, section_and_rest}
+use Rattle.giop_message.specs.Messages.{coding_of, Said, end_mark, section_lines, with_front, said_both, section_then, message, message_lines, stage_of, root_of, calling, after, section_and_rest}
 use Rattle.giop_message.specs.ReaderOfTable.{first_request_id, is_over}
 use Rattle.giop_message.specs.Text.{fault_word}
 use Rattle.giop_message.specs.MessageState.{due_text, Decodes, IsFirst, is_header, FaultedAt}
@@ -38,7 +36,7 @@ use Rattle.giop_message.proofs.Followings.{id_both, first_none, section_no_id}
 -- ---- the last octet of a run
 
 -- The octets are a front, after which the value goes on, and a last octet.
-pub record LastOne (o : Order) (T : Ty) (at : ℕ) (root : Root) (s xs : List ℕ)
+pub record LastOne (o : Coding) (T : Ty) (at : ℕ) (root : Root) (s xs : List ℕ)
     (p : Progress) : Type 0 where
   pub front : List ℕ
   pub octet : ℕ
@@ -46,13 +44,13 @@ pub record LastOne (o : Order) (T : Ty) (at : ℕ) (root : Root) (s xs : List �
   pub before : AreAnswered o T at root s front progress.More
   pub answer : Answers o T at root (s ++ front) octet p
 
-answered_more : (o : Order) (T : Ty) (at : ℕ) (root : Root) (s : List ℕ) (b : ℕ) (ys : List ℕ) →
+answered_more : (o : Coding) (T : Ty) (at : ℕ) (root : Root) (s : List ℕ) (b : ℕ) (ys : List ℕ) →
     Answers o T at root s b progress.More → AreAnswered o T at root (s ++ b ∷ []) ys progress.More →
     AreAnswered o T at root s (b ∷ ys) progress.More
 answered_more o T at root s b [] h k = h
 answered_more o T at root s b (y ∷ ys) h k = (h, k)
 
-pub last_one : (o : Order) (T : Ty) (at : ℕ) (root : Root) (s xs : List ℕ) (p : Progress) →
+pub last_one : (o : Coding) (T : Ty) (at : ℕ) (root : Root) (s xs : List ℕ) (p : Progress) →
     0 < length xs → AreAnswered o T at root s xs p → LastOne o T at root s xs p
 last_one o T at root s [] p some h = absurd (omega arith)
 last_one o T at root s (b ∷ []) p some h =
@@ -72,7 +70,7 @@ last_one o T at root s (b ∷ b' ∷ xs) p some h = search (
 )
 
 -- if the value goes on after octets, it goes on after each front of them
-pub more_fronts : (o : Order) (T : Ty) (at : ℕ) (root : Root) (k : ℕ) (s xs : List ℕ) →
+pub more_fronts : (o : Coding) (T : Ty) (at : ℕ) (root : Root) (k : ℕ) (s xs : List ℕ) →
     AreAnswered o T at root s xs progress.More →
     AreAnswered o T at root s (take k xs) progress.More
 more_fronts o T at root zero s xs h = refl
@@ -91,8 +89,8 @@ module _ (w : Begun) where
   abbrev R : Root
   R = root_of section
 
-  abbrev O : Order
-  O = order header
+  abbrev O : Coding
+  O = coding_of S header
 
   abbrev Answered : List ℕ → List ℕ → Type 0
   Answered octets xs = AreAnswered O T (start w) R octets xs progress.More

@@ -4,7 +4,6 @@ use Rattle.std.proofs.Common.{◌≡◌, append-nil, Result, Ok, Err, IsErr, ℕ
 use Rattle.std.specs.Prelude.{cond, IfOk}
 use Rattle.std.proofs.lemmas.List.{length-take-le, length_push, take-append-drop, take-append-le, take-take, take_at}
 use Rattle.std.proofs.lemmas.Bool.{false≢true}
-use Rattle.giop_cdr.specs.declared.order.Order.{Order}
 use Rattle.giop_print.proofs.Writing.{writes_failed, wrote-front}
 use Rattle.giop_print.specs.Lines.{fault_line}
 use Rattle.giop_print.specs.Output.{OutLog, Wrote, WroteFront, Writes}
@@ -16,19 +15,20 @@ use Rattle.giop_decode.specs.declared.decoder.Decoder.{Decoder}
 use Rattle.giop_decode.specs.declared.progress.Kind.{Kind}
 use Rattle.giop_decode.specs.declared.progress.Progress.{Progress}
 use Rattle.giop_decode.specs.declared.progress.Progress.TheVariants as progress
-use Rattle.giop_decode.specs.ReadResult.{Read, Done, Short, Fault}
+use Rattle.giop_decode.specs.ReadResult.{Coding, Read, Done, Short, Fault}
 use Rattle.giop_decode.specs.Noted.{nothing_noted, noted_of, is_header_root}
 use Rattle.giop_decode.specs.DecoderState as decoders
 use Rattle.giop_decode.specs.Runs.{AreAnswered, BreaksOff}
+use Rattle.giop_message.specs.Phases.{Phase}
 use Rattle.giop_message.specs.declared.message.Message.{Message as Struct_of}
 use Rattle.giop_message.specs.declared.part.Section.{Section}
 use Rattle.giop_message.specs.declared.part.Part.TheVariants as parts
 use Rattle.giop_message.specs.declared.part.Section.TheVariants as sections
 use Rattle.giop_message.specs.declared.part.Rest.{Rest}
 use Rattle.giop_message.specs.declared.body_type.BodyTypeId.{BodyTypeId}
-use Rattle.giop_message.specs.Headers.{minor, kind, order}
+use Rattle.giop_message.specs.Headers.{minor, kind}
 use Rattle.giop_message.specs.Signatures.{Signatures, Answer, Answers, signatures_of}
-use Rattle.giop_message.specs.Messages.{Mark, name_mark, end_mark, message_marks, section_then, message, message_lines, root_of, after}
+use Rattle.giop_message.specs.Messages.{coding_of, Mark, name_mark, end_mark, message_marks, section_then, message, message_lines, root_of, after}
 use Rattle.giop_message.specs.HeaderEnds.{HeaderEnd, CallEvent, Header_end, end_of, header_ends, operation_of, raise_event, after_event, after_ends, AgreesAtEnds}
 use Rattle.giop_message.specs.ReaderOfTable.{first_request_id}
 use Rattle.giop_message.specs.Text.{fault_word}
@@ -60,23 +60,26 @@ first_alone (x ∷ xs) some = refl
 pub record Standing : Type 0 where
   pub C : Table
   pub answers : Answers
+  pub phase : Phase
   pub number : ℕ
   pub header : List ℕ
   pub m : Struct_of
   pub s : List ℕ
-  pub follows : Follows C answers number header m s
+  pub follows : Follows C answers phase number header m s
   pub section : Section
   pub is : m.part ≡ parts.Typed section
   pub fits : FitsVersion C (minor m.header) m.decoder
 
-abbrev pub standing : {C : Table} {answers : Answers} {number : ℕ} {header : List ℕ} {m : Struct_of}
-    {s : List ℕ} {section : Section} → Follows C answers number header m s →
+abbrev pub standing : {C : Table} {answers : Answers} {phase : Phase} {number : ℕ} {header : List ℕ}
+    {m : Struct_of}
+    {s : List ℕ} {section : Section} → Follows C answers phase number header m s →
     m.part ≡ parts.Typed section → Fits C m → Standing
 standing {C} {m = m} f is fits =
     let e = subst (FitsPart C (minor m.header) m.at m.decoder) is fits in
     record {
       C = C;
       answers = _;
+      phase = _;
       number = _;
       header = _;
       m = m;
@@ -88,13 +91,13 @@ standing {C} {m = m} f is fits =
     }
 
 module _ (t : Standing) where
-  open t use {C, answers, number, header, m, s, follows, section, is}
+  open t use {C, answers, phase, number, header, m, s, follows, section, is}
 
   abbrev S : Signatures
-  S = signatures_of C (answers number)
+  S = signatures_of C (answers number) phase
 
   abbrev opened : Decodes C S number header s section m.decoder
-  opened = subst (Stands C answers number header s m.decoder) is follows.stands
+  opened = subst (Stands C answers phase number header s m.decoder) is follows.stands
 
   abbrev octets_of : List ℕ
   octets_of = opened.octets
@@ -132,7 +135,8 @@ module _ (t : Standing) where
   LastOf xs p = Last begun octets_of xs p
 
   abbrev ReadsWith : Decoder → List ℕ → Type 0
-  ReadsWith d' xs = decoders.Reads C opened.T (order header) (start begun) number (root_of section)
+  ReadsWith d' xs = decoders.Reads C opened.T (coding_of S header) (start begun) number
+      (root_of section)
       d' (octets_of ++ xs)
 
   abbrev pub ReadWith : List ℕ → Read
@@ -148,10 +152,10 @@ module _ (t : Standing) where
   section_on : (xs : List ℕ) (p : Progress) → LastOf xs p → (n : Struct_of) →
       Moved m n (length xs) → n.id ≡ m.id → n.part ≡ parts.Typed section →
       ReadsWith n.decoder xs →
-      Follows C answers number header n (s ++ xs)
+      Follows C answers phase number header n (s ++ xs)
   section_on xs p l n move id part reads =
       follows_on follows xs move (id ∙ rw part (kept_id xs p l (is_header section) refl))
-      (subst (Stands C answers number header (s ++ xs) n.decoder) (sym part)
+      (subst (Stands C answers phase number header (s ++ xs) n.decoder) (sym part)
       (decodes begun s octets_of inside C xs n.decoder refl reads))
 
   ended_id : (xs : List ℕ) → LastOf xs progress.Done → (d' : Decoder) → ReadsWith d' xs →
@@ -164,32 +168,35 @@ module _ (t : Standing) where
       (header_only section e)
 
   -- if P holds of each reading of the decoder, it holds of this one
-  pub by_reads : {P : Ty → Order → ℕ → ℕ → Root → List ℕ → Type 0} →
-      ((T : Ty) (o : Order) (at number : ℕ) (root : Root) (xs : List ℕ) →
+  pub by_reads : {P : Ty → Coding → ℕ → ℕ → Root → List ℕ → Type 0} →
+      ((T : Ty) (o : Coding) (at number : ℕ) (root : Root) (xs : List ℕ) →
       decoders.Reads C T o at number root m.decoder xs → P T o at number root xs) →
-      P opened.T (order header) (start begun) number (root_of section) octets_of
-  by_reads each = each opened.T (order header) (start begun) number (root_of section) octets_of
+      P opened.T (coding_of S header) (start begun) number (root_of section) octets_of
+  by_reads each = each opened.T (coding_of S header) (start begun) number (root_of section)
+      octets_of
       opened.reads
 
   -- a put failed at one of the octets
   abbrev pub Breaks : List ℕ → OutLog → OutLog → Type 0
-  Breaks xs a b = BreaksOff opened.T (order header) (start begun) number (root_of section) octets_of
+  Breaks xs a b = BreaksOff opened.T (coding_of S header) (start begun) number (root_of section)
+      octets_of
       xs a b
 
   -- The decoder took the first `n` octets, and this is its answer to the last of them.
   pub record Took (octets : List ℕ) (n : ℕ) (d' : Decoder) (p : Progress) : Type 0 where
     pub within : n ≤ length octets
     pub some : 0 < n
-    pub takes : decoders.TakesRun C opened.T (order header) (start begun) number
+    pub takes : decoders.TakesRun C opened.T (coding_of S header) (start begun) number
         (root_of section) d' octets_of (take n octets) p
 
   abbrev pub took : {d' : Decoder} {p q : Progress} (octets : List ℕ) (n : ℕ) → n ≤ length octets →
-      0 < n → decoders.TakesRun C opened.T (order header) (start begun) number (root_of section) d'
+      0 < n → decoders.TakesRun C opened.T (coding_of S header) (start begun) number
+      (root_of section) d'
       octets_of (take n octets) q → q ≡ p → Took octets n d' p
   took octets n within some takes e = record {
     within = within;
     some = some;
-    takes = subst (decoders.TakesRun C opened.T (order header) (start begun) number
+    takes = subst (decoders.TakesRun C opened.T (coding_of S header) (start begun) number
         (root_of section) _ octets_of (take n octets)) e takes;
   }
 
@@ -201,7 +208,7 @@ abbrev ValueLine : Standing → List ℕ → ℕ → List ℕ
 ValueLine t octets n = LinesOf (begun t) (octets_of t) (take n octets)
 
 module _ {t : Standing} {octets : List ℕ} {n : ℕ} {d' : Decoder} where
-  open t use {C, answers, number, header, m, s, follows, section}
+  open t use {C, answers, phase, number, header, m, s, follows, section}
 
   last : (p : Progress) → Took t octets n d' p → LastOf t (take n octets) p
   last p k = search (arith, take, length-take-le, last_one, start)
@@ -258,17 +265,17 @@ module _ {t : Standing} {octets : List ℕ} {n : ℕ} {d' : Decoder} where
   pub went_on : {p : Progress} → Took t octets n d' p → (decoders.IsFault p → ⊥) →
       (m' : Struct_of) → Moved m m' n → m'.id ≡ m.id →
       m'.part ≡ parts.Typed section → m'.decoder ≡ d' →
-      Follows C answers number header m' (s ++ (take n octets))
+      Follows C answers phase number header m' (s ++ (take n octets))
   went_on {p} k going m' move id part decoder = section_on t (take n octets) p (last p k) m'
       (moved p k m' move) id part (rw decoder (k.takes.reads going))
 
   pub went_done : Took t octets n d' progress.Done → (m1 m2 : Struct_of) → Moved m m1 n →
-      m1.id ≡ m.id → Arrives C answers number header m1 m2 (s ++ (take n octets))
+      m1.id ≡ m.id → Arrives C answers phase number header m1 m2 (s ++ (take n octets))
       (after (S t) header section
       (noted_of (is_header_root (root_of section)) (ReadWith t (take n octets)))
       (12 + length (s ++ (take n octets))) []) → Moved m m2 n → m2.id ≡ cond (is_header section)
       (noted_of true (ReadWith t (take n octets))).request_id m1.id →
-      in_header m2.part ≡ false → Follows C answers number header m2 (s ++ (take n octets))
+      in_header m2.part ≡ false → Follows C answers phase number header m2 (s ++ (take n octets))
   went_done k m1 m2 move_1 id_1 arrives move_2 id_2 past =
       let l = last progress.Done k in
       let g = done_comes (begun t) s (octets_of t) (inside t) (take n octets) l in
@@ -332,10 +339,10 @@ module _ (C : Table) (number : ℕ) (header : List ℕ) {St : Type 0} (notified 
   event_ends sections.Body r = refl
 
 module _ (t : Standing) (xs : List ℕ) (p : Progress) (l : LastOf t xs p) where
-  open t use {C, answers, number, header, s, section}
+  open t use {C, answers, phase, number, header, s, section}
 
   -- the marks that the octets add to the message are those of its section
-  here_ends : header_ends number header s xs
+  here_ends : header_ends phase number header s xs
       ≡ map (end_of number header) (ended section nothing_noted (ReadWith t xs))
   unfolding section_then message_marks
   here_ends =
@@ -345,13 +352,13 @@ module _ (t : Standing) (xs : List ℕ) (p : Progress) (l : LastOf t xs p) where
       let so_far : message_marks (message (S t) header s) ≡ before.marks =
       ap message_marks (i.is ∙ ap (comes (begun t)) i.was_short)
       ∙ (marks_front before _ ∙ append-nil before.marks) in
-      ends_are C (answers number) number header s xs _
+      ends_are C (answers number) phase number header s xs _
       (ap message_marks (behind (begun t) s (octets_of t) i xs) ∙ (marks_front before _
       ∙ (ap (λ (ms : List Mark). before.marks ++ ms) (marks_ended (S t) header section nothing_noted
       (ReadWith t xs) (answer_all a.0 a.1 p (ReadWith t xs) a.2))
       ∙ ap (λ (ms : List Mark). ms ++ ended section nothing_noted (ReadWith t xs)) (sym so_far))))
 
-  ends_none : IsNoEnd p → header_ends number header s xs ≡ []
+  ends_none : IsNoEnd p → header_ends phase number header s xs ≡ []
   ends_none other =
       let a = last_answer (begun t) s (octets_of t) (inside t) xs p l in
       here_ends ∙ ap (map (end_of number header))
@@ -359,17 +366,18 @@ module _ (t : Standing) (xs : List ℕ) (p : Progress) (l : LastOf t xs p) where
 
 -- nothing ends in a front of octets after which the section goes on
 ends_sooner : (t : Standing) (front more : List ℕ) →
-    AreAnswered (order t.header) (opened t).T (start (begun t)) (root_of t.section) (octets_of t)
+    AreAnswered (coding_of (S t) t.header) (opened t).T (start (begun t)) (root_of t.section)
+    (octets_of t)
     front progress.More → (k : ℕ) → k ≤ length front →
-    header_ends t.number t.header t.s (take k (front ++ more)) ≡ []
+    header_ends t.phase t.number t.header t.s (take k (front ++ more)) ≡ []
 ends_sooner t front more on zero few = search (arith, header_ends_none)
 ends_sooner t front more on (suc k) few =
-    let o = order t.header in
+    let o = coding_of (S t) t.header in
     let fronts = more_fronts o (opened t).T (start (begun t)) (root_of t.section) (suc k)
     (octets_of t) front on in
     let some : 0 < length (take (suc k) front) =
     omega (arith, length-take-le (suc k) front few) in
-    ap (header_ends t.number t.header t.s) (take-append-le (suc k) front more few)
+    ap (header_ends t.phase t.number t.header t.s) (take-append-le (suc k) front more few)
     ∙ ends_none t (take (suc k) front) progress.More
     (last_one o (opened t).T (start (begun t)) (root_of t.section) (octets_of t)
     (take (suc k) front) progress.More some fronts) tt
@@ -377,7 +385,7 @@ ends_sooner t front more on (suc k) few =
 -- a put failed at one of the octets
 pub broken_front : (t : Standing) {E : Type 0} (r : Result (ℕ × Bool) E) (octets : List ℕ)
     (place : ℕ) {a b : OutLog} → IsErr r → Breaks t octets a b →
-    TakesFront (λ went. went.0) (λ xs. header_ends t.number t.header t.s xs ≡ [])
+    TakesFront (λ went. went.0) (λ xs. header_ends t.phase t.number t.header t.s xs ≡ [])
     (λ xs. Writes r a b (due_text (S t) t.number place t.header t.s xs)) r octets
 broken_front t r octets place {a} {b} failed broke =
     let fr = broke.front ++ broke.octet ∷ [] in
@@ -391,7 +399,7 @@ broken_front t r octets place {a} {b} failed broke =
       counted = if_err _ r failed;
       within = omega (arith, ap length all, length-append fr broke.rest, long);
       some = λ _. omega arith;
-      fronts = λ k few. ap (λ z. header_ends t.number t.header t.s (take k z)) broke.all
+      fronts = λ k few. ap (λ z. header_ends t.phase t.number t.header t.s (take k z)) broke.all
           ∙ ends_sooner t broke.front (broke.octet ∷ broke.rest) broke.answers k
           (omega (arith, few));
       all = rw first (writes_failed r a b _ failed
@@ -399,22 +407,22 @@ broken_front t r octets place {a} {b} failed broke =
     }
 
 module _ {t : Standing} {octets : List ℕ} {n : ℕ} {d' : Decoder} where
-  open t use {C, answers, number, header, m, s, follows, section}
+  open t use {C, answers, phase, number, header, m, s, follows, section}
 
   -- if octets don't end a section, no header and no name ends in them
   pub none_ends : {p : Progress} → Took t octets n d' p → IsNoEnd p →
-      header_ends number header s (take n octets) ≡ []
+      header_ends phase number header s (take n octets) ≡ []
   none_ends {p} k other = ends_none t (take n octets) p (last p k) other
 
   -- no header and no name ends in the octets before the last of a run
   none_sooner : {p : Progress} → Took t octets n d' p → (k : ℕ) → k < n →
-      header_ends number header s (take k octets) ≡ []
+      header_ends phase number header s (take k octets) ≡ []
   none_sooner {p} k i few =
       let l = last p k in
       let same : take i (l.front ++ l.octet ∷ []) ≡ take i octets =
       ap (take i) (sym l.all) ∙ take-take i n octets (omega (arith, few)) in
       let long = ap length l.all ∙ length_push l.front l.octet in
-      ap (header_ends number header s) (sym same)
+      ap (header_ends phase number header s) (sym same)
       ∙ ends_sooner t l.front (l.octet ∷ []) l.before i
       (omega (arith, long, length-take-le n octets k.within, few))
 
@@ -422,7 +430,7 @@ module _ {t : Standing} {octets : List ℕ} {n : ℕ} {d' : Decoder} where
   pub took_front : {p : Progress} {E : Type 0} (r : Result (ℕ × Bool) E) (place : ℕ)
       (a b : OutLog) → IfOk r (λ went. went.0 ≡ n) → Took t octets n d' p →
       Writes r a b (Text t octets n place) →
-      TakesFront (λ went. went.0) (λ xs. header_ends number header s xs ≡ [])
+      TakesFront (λ went. went.0) (λ xs. header_ends phase number header s xs ≡ [])
       (λ xs. Writes r a b (due_text (S t) number place header s xs)) r octets
   took_front r place a b counted k wrote = search (arith, none_sooner)
 
@@ -430,14 +438,14 @@ module _ {t : Standing} {octets : List ℕ} {n : ℕ} {d' : Decoder} where
   pub failed_front : {p : Progress} {E : Type 0} (r : Result (ℕ × Bool) E) (place : ℕ)
       {a b c : OutLog} {x y : List ℕ} → IsErr r → Took t octets n d' p →
       Text t octets n place ≡ x ++ y → Wrote a b x → WroteFront b c y →
-      TakesFront (λ went. went.0) (λ xs. header_ends number header s xs ≡ [])
+      TakesFront (λ went. went.0) (λ xs. header_ends phase number header s xs ≡ [])
       (λ xs. Writes r a c (due_text (S t) number place header s xs)) r octets
   failed_front r place {a} {b} {c} {x} {y} failed k text wrote front =
       took_front r place a c (if_err _ r failed) k
       (writes_failed r a c _ failed (rw text (wrote-front a b c x y wrote front)))
 
   done_ends : Took t octets n d' progress.Done →
-      header_ends number header s (take n octets)
+      header_ends phase number header s (take n octets)
       ≡ section_ends section number header (ReadWith t (take n octets))
   done_ends k =
       let xs = take n octets in
@@ -447,7 +455,7 @@ module _ {t : Standing} {octets : List ℕ} {n : ℕ} {d' : Decoder} where
       (answer_ended section a.0 a.1 (ReadWith t xs) a.2)
 
   one_ends : Took t octets n d' progress.Done → section ≡ sections.Header →
-      header_ends number header s (take n octets)
+      header_ends phase number header s (take n octets)
       ≡ Header_end number header (noted_of true (ReadWith t (take n octets))) ∷ []
   one_ends k in_it =
       done_ends k ∙ ap (λ x. section_ends x number header (ReadWith t (take n octets))) in_it
@@ -456,15 +464,15 @@ module _ {t : Standing} {octets : List ℕ} {n : ℕ} {d' : Decoder} where
     -- if a header ends, the operations of its message are those that the correspondent's state
     -- before that gives
     pub answered_here : (a : Answers) → Took t octets n d' progress.Done →
-        AgreesAtEnds answer notified C st a (header_ends number header s octets) →
+        AgreesAtEnds answer notified C st a (header_ends phase number header s octets) →
         is_header section ≡ true → a number ≡ answer st
     answered_here a k h e =
-        let split = ap (header_ends number header s) (sym (take-append-drop n octets))
-        ∙ header_ends_both number header s (take n octets) (drop n octets) in
+        let split = ap (header_ends phase number header s) (sym (take-append-drop n octets))
+        ∙ header_ends_both phase number header s (take n octets) (drop n octets) in
         let whole_list = subst (AgreesAtEnds answer notified C st a) split h in
         let front = answers_first answer notified C st a
-        (header_ends number header s (take n octets))
-        (header_ends number header (s ++ take n octets) (drop n octets)) whole_list in
+        (header_ends phase number header s (take n octets))
+        (header_ends phase number header (s ++ take n octets) (drop n octets)) whole_list in
         let here = subst (AgreesAtEnds answer notified C st a) (one_ends k (header_only section e))
         front in
         here.0
@@ -474,7 +482,7 @@ module _ {t : Standing} {octets : List ℕ} {n : ℕ} {d' : Decoder} where
         now ≡ after_event notified st (section_event section m.number m.header
         (ReadWith t (take n octets))
         (operation_of C m.header (noted_of true (ReadWith t (take n octets))))) →
-        now ≡ after_ends notified C st (header_ends number header s (take n octets))
+        now ≡ after_ends notified C st (header_ends phase number header s (take n octets))
     told_here now k told =
         let r = ReadWith t (take n octets) in
         told
@@ -487,15 +495,16 @@ module _ {t : Standing} {octets : List ℕ} {n : ℕ} {d' : Decoder} where
 
 -- ---- padding, and a rest
 
-module _ {C : Table} {answers : Answers} {number : ℕ} {header : List ℕ} {m : Struct_of} {s : List ℕ}
-    (f : Follows C answers number header m s) where
+module _ {C : Table} {answers : Answers} {phase : Phase} {number : ℕ} {header : List ℕ}
+    {m : Struct_of} {s : List ℕ}
+    (f : Follows C answers phase number header m s) where
   pub padding_none : {body_type_id : BodyTypeId} → m.part ≡ parts.Padding body_type_id → (x : ℕ) →
-      header_ends number header s (x ∷ []) ≡ []
+      header_ends phase number header s (x ∷ []) ≡ []
   unfolding message_marks
   padding_none {body_type_id} is x =
-      let S = signatures_of C (answers number) in
-      let stands = subst (Stands C answers number header s m.decoder) is f.stands in
-      unmarked C (answers number) number header s (x ∷ [])
+      let S = signatures_of C (answers number) phase in
+      let stands = subst (Stands C answers phase number header s m.decoder) is f.stands in
+      unmarked C (answers number) phase number header s (x ∷ [])
       (ap message_marks (comes_more S header s x stands.0 (12 + length s) _ stands.1)
       ∙ (marks_front stands.0 _ ∙ (ap (λ (ms : List Mark). stands.0.marks ++ ms)
       (padding_step_marks S header (12 + length s)
@@ -503,12 +512,12 @@ module _ {C : Table} {answers : Answers} {number : ℕ} {header : List ℕ} {m :
       ∙ (append-nil stands.0.marks ∙ sym (ap message_marks stands.1)))))
 
   pub rest_none : {r : Rest} → m.part ≡ parts.Rest r → (more : List ℕ) →
-      header_ends number header s more ≡ []
+      header_ends phase number header s more ≡ []
   unfolding message_marks
   rest_none {r} is more =
-      let S = signatures_of C (answers number) in
-      let stands = subst (Stands C answers number header s m.decoder) is f.stands in
-      unmarked C (answers number) number header s more
+      let S = signatures_of C (answers number) phase in
+      let stands = subst (Stands C answers phase number header s m.decoder) is f.stands in
+      unmarked C (answers number) phase number header s more
       (ap message_marks (message_resumes S header s more
       ∙ ap (λ x. goes_on S header x more) stands.1)
       ∙ (rest_goes_unmarked S header more stands.0 (12 + length s) r.offset r.held.items
@@ -518,9 +527,10 @@ module _ {C : Table} {answers : Answers} {number : ℕ} {header : List ℕ} {m :
   pub rest_front : {r : Rest} → m.part ≡ parts.Rest r → (octets : List ℕ) (place : ℕ) {E : Type 0}
       (result : Result (ℕ × Bool) E) (n : ℕ) (a b : OutLog) → IfOk result (λ went. went.0 ≡ n) →
       n ≤ length octets → (0 < length octets → 0 < n) →
-      Writes result a b (due_text (signatures_of C (answers number)) number place header s
+      Writes result a b (due_text (signatures_of C (answers number) phase) number place header s
       (take n octets)) →
-      TakesFront (λ went. went.0) (λ xs. header_ends number header s xs ≡ [])
-      (λ xs. Writes result a b (due_text (signatures_of C (answers number)) number place header s
+      TakesFront (λ went. went.0) (λ xs. header_ends phase number header s xs ≡ [])
+      (λ xs. Writes result a b (due_text (signatures_of C (answers number) phase) number place
+      header s
       xs)) result octets
   rest_front is octets place result n a b counted within some wrote = search (arith, rest_none)

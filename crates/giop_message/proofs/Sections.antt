@@ -10,7 +10,7 @@ use Rattle.giop_decode.specs.declared.progress.Kind.{Kind}
 use Rattle.giop_decode.specs.declared.progress.Progress.{Progress}
 use Rattle.giop_decode.specs.declared.progress.Progress.TheVariants as progress
 use Rattle.giop_decode.specs.ReadResult
-use Rattle.giop_decode.specs.ReadResult.{plain, Line, Read, Done, Short, Fault, lines_of}
+use Rattle.giop_decode.specs.ReadResult.{Line, Read, Done, Short, Fault, lines_of}
 use Rattle.giop_decode.specs.Fits.{FitsIn, Sound}
 use Rattle.giop_decode.specs.ReadingSteps.{OneAt}
 use Rattle.giop_decode.specs.Noted.{Noted, nothing_noted, note, noted, noted_of, ends_in_string, ends_text, is_member, is_header_root, ends_operation, names_operation}
@@ -20,8 +20,8 @@ use Rattle.giop_decode.specs.Spelling.{lines_text}
 use Rattle.giop_decode.proofs.ReadingLaws.{front_inside, lines_front, noted-append, reading_keeps}
 use Rattle.giop_message.specs.declared.part.Section.{Section}
 use Rattle.giop_message.specs.declared.part.Section.TheVariants as sections
-use Rattle.giop_message.specs.Headers.{minor, kind, order}
-use Rattle.giop_message.specs.Messages.{Calling, CallLine, line_at, call_of, calls, is_request, root_of, calling}
+use Rattle.giop_message.specs.Headers.{minor, kind}
+use Rattle.giop_message.specs.Messages.{coding_of, Calling, CallLine, line_at, call_of, calls, is_request, root_of, calling}
 use Rattle.giop_message.specs.ReaderOfTable.{line_class_of, text_of}
 use Rattle.giop_message.specs.Text.{fault_word}
 use Rattle.giop_message.specs.MessageState.{message_line_text, message_lines_text, due_text, IsFirst}
@@ -201,7 +201,7 @@ named_is end named r answer = absurd answer
 sound_by : (w : Begun) (s octets : List ℕ) (i : Inside w s octets) →
     header_type w.version (minor w.header) (kind w.header) ≡ Some w.T → FitsIn w.T i.outer i.leaf
 sound_by w s octets i found =
-    let reads = reading_keeps 24 (plain (order w.header)) [] w.T
+    let reads = reading_keeps 24 (coding_of w.S w.header) [] w.T
     (header_fit w.version (minor w.header) (kind w.header) w.T found) (start w) octets in
     (subst (Sound w.T (start w + length octets)) i.was_short reads).1
 
@@ -228,7 +228,7 @@ module _ (w : Begun) (s octets : List ℕ) (i : Inside w s octets) (b : ℕ) whe
 
   -- the octet's lines; and below them, its fault, its call, and its whole text
   abbrev Lines : List ℕ
-  Lines = lines_text number R (decoders.added_lines (order header) T (start w) octets b)
+  Lines = lines_text number R (decoders.added_lines (coding_of S header) T (start w) octets b)
 
   abbrev Wrongs : ℕ → List ℕ
   Wrongs place = fault_text number (place + 1) Behind
@@ -248,7 +248,7 @@ module _ (w : Begun) (s octets : List ℕ) (i : Inside w s octets) (b : ℕ) whe
   Names = is_named w octets b
 
   abbrev Is : Progress → Type 0
-  Is p = Answers (order header) T (start w) R octets b p
+  Is p = Answers (coding_of S header) T (start w) R octets b p
 
   -- no line of the octet ends an operation that may have a call
   abbrev Silences : Type 0
@@ -271,7 +271,7 @@ module _ (w : Begun) (s octets : List ℕ) (i : Inside w s octets) (b : ℕ) whe
               (request_kind header r) first.0 in
               let ends = subst (λ o. IfSome o EndsOtherwise) found
               (request_ends version (minor header)) in
-              root_no_call (plain (order header)) true T _ _ _ b ends
+              root_no_call (coding_of S header) true T _ _ _ b ends
               (header_fit version (minor header) (kind header) T first.0)
               (sound_by w s octets i first.0) done
       go section first = never (lines_of St)
@@ -331,7 +331,7 @@ module _ (w : Begun) (s octets : List ℕ) (i : Inside w s octets) (b : ℕ) whe
       let now = added_now w s octets i b in
       let named = subst (λ ls. names_operation (is_header_root R) ls ≡ true)
       (lines_due w s octets i b) (named_is End Names Behind answer) in
-      let closed = closed_root _ (step_closed (plain (order header)) [] i.outer i.leaf _ b
+      let closed = closed_root _ (step_closed (coding_of S header) [] i.outer i.leaf _ b
       (holds_by w s octets i (named_in answer))) in
       joined_text place [] _ (no_fault number (place + 1) End Names progress.Named Behind answer
       (λ fault. fault))

@@ -3,20 +3,20 @@ use Rattle.std.proofs.Common.{◌≡◌, ℕ, zero, Bool, true, false, List, [],
 use Rattle.std.specs.Prelude.{◌&&◌, nat_lt, if◌then◌else◌}
 use Rattle.std.proofs.lemmas.Bool.{ltb-false, ne_eqb, false≢true}
 use Rattle.giop_cdr.specs.Alignment.{padding}
-use Rattle.giop_cdr.specs.declared.order.Order.{Order}
+use Rattle.giop_decode.specs.ReadResult.{Coding}
 use Rattle.giop_sig.specs.Types.{Ty, Struct}
 use Rattle.giop_sig.specs.Fits.{IsFit, IsEmptyStruct}
-use Rattle.giop_decode.specs.ReadResult.{plain}
 use Rattle.giop_decode.specs.Reading.{reading}
 use Rattle.giop_decode.specs.Noted.{Noted, nothing_noted}
+use Rattle.giop_message.specs.Phases.{Phase}
 use Rattle.giop_message.specs.declared.part.Section.{Section}
 use Rattle.giop_message.specs.declared.part.Section.TheVariants as sections
-use Rattle.giop_message.specs.Headers.{minor, kind, order}
+use Rattle.giop_message.specs.Headers.{minor, kind}
 use Rattle.giop_sig.specs.Table.{Table, in_version}
 use Rattle.giop_message.specs.Signatures.{Signatures, Answer, request_type, signatures_of}
 use Rattle.giop_message.specs.HeaderEnds.{operation_of}
 use Rattle.giop_message.specs.MessageState.{is_header}
-use Rattle.giop_message.specs.Messages.{Said, nothing_said, section_lines, ReadTo, In_rest, In_padding, with_front, section_then, rest, rest_in, typed, BodyType, body, body_of, padded, option_typed, members_of, type_if, after_exception, Untyped, Typed, body_may_be_missing, is_request, request_body, reply_body, locate_body, after_header, of_header, message_lines, message, after, section_and_rest}
+use Rattle.giop_message.specs.Messages.{coding_of, Said, nothing_said, section_lines, ReadTo, In_rest, In_padding, with_front, section_then, rest, rest_in, typed, BodyType, body, body_of, padded, option_typed, members_of, type_if, after_exception, Untyped, Typed, body_may_be_missing, is_request, request_body, reply_body, locate_body, after_header, of_header, message_lines, message, after, section_and_rest}
 use Rattle.giop_message.specs.MessageSteps.{is_padded, body_type_after}
 use Rattle.giop_message.proofs.Going.{front_none, none_front}
 use Rattle.giop_message.proofs.Causal.{message_silent}
@@ -42,7 +42,7 @@ none_rests S header e = rw e refl
 pub header_first : (S : Signatures) (header : List ℕ) (T : Ty) →
     S.header (minor header) (kind header) ≡ Some T → message S header [] ≡ with_front nothing_said
     (section_and_rest S header sections.Header nothing_noted
-    (reading (plain (order header)) [] T 12 []))
+    (reading (coding_of S header) [] T 12 []))
 unfolding message of_header
 header_first S header T e = rw (e, front_none) refl
 
@@ -68,7 +68,7 @@ by_tests S header b n true true e = rw (e, add-zero) refl
 by_tests S header b n true false e = search (arith, ltb-false, add-zero)
 
 option_body : (S : Signatures) (header : List ℕ) (found : Option Ty) (n : ℕ) →
-    option_typed (order header) found n [] ≡ body S header (type_if found) n []
+    option_typed (coding_of S header) found n [] ≡ body S header (type_if found) n []
 unfolding option_typed body type_if
 option_body S header None n = refl
 option_body S header (Some T) n = refl
@@ -96,11 +96,11 @@ pub left_bare : (S : Signatures) (header : List ℕ) (section : Section) (h : No
 left_bare S header section h n e = search (arith, follows_by)
 
 -- the empty struct is done at once
-pub empty_rests : (o : Order) (T : Ty) (n : ℕ) → body_may_be_missing (Typed T) ≡ true →
-    typed o T n [] ≡ rest n []
+pub empty_rests : (coding : Coding) (T : Ty) (n : ℕ) → body_may_be_missing (Typed T) ≡ true →
+    typed coding T n [] ≡ rest n []
 unfolding typed section_then section_lines body_may_be_missing
-empty_rests o (Struct zero names parts) n empty = front_none (rest n [])
-empty_rests o T n empty = absurd (false≢true empty)
+empty_rests coding (Struct zero names parts) n empty = front_none (rest n [])
+empty_rests coding T n empty = absurd (false≢true empty)
 
 -- no other type is done at once
 pub some_not_empty : (T : Ty) → body_may_be_missing (Typed T) ≡ false → IsEmptyStruct T → ⊥
@@ -131,20 +131,22 @@ unfolding body_of is_request
 others_want S header h f g k = search (arith, ne_eqb)
 
 -- the body of a Request, from the operation that it names
-pub named_body : (C : Table) (answer : Answer) (header : List ℕ) (n : Noted) → kind header ≡ 0 →
+pub named_body : (C : Table) (answer : Answer) (phase : Phase) (header : List ℕ) (n : Noted) →
+    kind header ≡ 0 →
     type_if (option_and_then (request_type (in_version (minor header) C))
     (operation_of C header n))
-    ≡ request_body (signatures_of C answer) header n.key n.name
+    ≡ request_body (signatures_of C answer phase) header n.key n.name
 unfolding operation_of signatures_of request_body type_if
-named_body C answer header n request = search (arith, option_map, option_and_then)
+named_body C answer phase header n request = search (arith, option_map, option_and_then)
 
 -- After a header only, what follows a section depends on what the ids answer.
-pub wanted_agree : (C : Table) (a b : Answer) (header : List ℕ) (section : Section) (h : Noted) →
+pub wanted_agree : (C : Table) (a b : Answer) (phase : Phase) (header : List ℕ) (section : Section)
+    (h : Noted) →
     (is_header section ≡ true → a ≡ b) →
-    body_type_after (signatures_of C a) header section h
-    ≡ body_type_after (signatures_of C b) header section h
+    body_type_after (signatures_of C a phase) header section h
+    ≡ body_type_after (signatures_of C b phase) header section h
 unfolding signatures_of members_of
-wanted_agree C a b header sections.Header h same = search (arith)
-wanted_agree C a b header sections.Exception h same = search (arith)
-wanted_agree C a b header sections.SystemException h same = refl
-wanted_agree C a b header sections.Body h same = refl
+wanted_agree C a b phase header sections.Header h same = search (arith)
+wanted_agree C a b phase header sections.Exception h same = search (arith)
+wanted_agree C a b phase header sections.SystemException h same = refl
+wanted_agree C a b phase header sections.Body h same = refl

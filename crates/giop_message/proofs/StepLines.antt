@@ -3,7 +3,7 @@
 use Rattle.std.proofs.Common.{arith, ◌≡◌, ℕ, zero, suc, ◌+◌, ◌-◌, ◌⊎◌, inl, Bool, true, false, List, [], ◌∷◌, ◌++◌, take, get_or, Option, Some, None, refl, ◌∙◌, append-nil}
 use Rattle.std.specs.List.{AllByRecursion as Each}
 use Rattle.giop_cdr.specs.Numbers.{num}
-use Rattle.giop_sig.specs.Types.{Encapsulation, Ty, Single, Text, Octets, Struct, Union, Sequence, Array, Led, Hearing, Told, Sequel, Then, Ends, Stops, part_of}
+use Rattle.giop_sig.specs.Types.{Encapsulation, Recursive, Ty, Single, Text, Octets, Struct, Union, Sequence, Array, Led, Hearing, Told, Sequel, Then, Ends, Stops, part_of}
 use Rattle.giop_decode.specs.declared.progress.Kind.{Kind}
 use Rattle.giop_decode.specs.declared.progress.Kind.TheVariants as kinds
 use Rattle.giop_decode.specs.ReadResult
@@ -110,6 +110,12 @@ module _ (n : ℕ) (path : List PathSegment) where
   after_says coding (Array count T) k at s = bare _ refl
   after_says coding (Led g F parts) k at s = bare _ refl
   after_says coding (Sequence bound T) k at s = search (arith, unless_says, front_says, at_path)
+  after_says coding (Recursive bound fits T) k at s = search (
+    arith,
+    unless_says,
+    front_says,
+    at_path,
+  )
   after_says coding (Union choice scalar select names cases) k at s = search (
     arith,
     front_says,

@@ -1,11 +1,12 @@
 -- What was stored of a message is read as it was written.
-use Rattle.std.proofs.Common.{◌≡◌, ◌≢◌, Bool, true, false, cond, IsTrue, Option, Some, None, ℕ, ◌^◌, ◌<◌, List, ◌∷◌, ◌++◌, length, take, drop, get_or, replicate, refl, sym, ap, ◌∙◌, append_assoc, length-append, length-drop, arith}
+use Rattle.std.proofs.Common.{◌≡◌, ◌≢◌, Bool, true, false, cond, IsTrue, Option, Some, None, ℕ, ◌^◌, ◌<◌, List, [], ◌∷◌, ◌++◌, length, take, drop, get_or, replicate, refl, sym, ap, ◌∙◌, append_assoc, length-append, length-drop, arith}
 use Rattle.std.specs.Option.{IsSomeAnd}
 use Rattle.std.proofs.lemmas.List.{take-append-drop, length-take-le}
 use Rattle.giop_sig.specs.Table.{Table}
 use Rattle.giop_octets.specs.Fields.{four, eight, optional, held}
 use Rattle.giop_octets.proofs.FieldLaws.{eight_long, optional_long, behind}
 use Rattle.giop_decode.specs.declared.decoder.Decoder.{Decoder}
+use Rattle.giop_message.specs.Phases.{Phase}
 use Rattle.giop_message.specs.declared.message.Message.{Message}
 use Rattle.giop_message.specs.declared.part.Part.{Part}
 use Rattle.giop_message.specs.declared.part.Part.TheVariants as parts
@@ -110,9 +111,10 @@ both fixed = sym (take-append-drop 16 fixed)
 pub record OwnFields (m : Message) (fixed : List ℕ) : Type 0 where
   pub rest : List ℕ
   pub part : drop 0 fixed
-      ≡ part_octet m.part ∷ (eight m.at ++ (optional (kept_id m.part m.id) ++ rest))
-  pub at : drop 1 fixed ≡ eight m.at ++ (optional (kept_id m.part m.id) ++ rest)
-  pub id : drop 9 fixed ≡ optional (kept_id m.part m.id) ++ rest
+      ≡ part_octet m.part ∷ (eight m.at ++ (optional (kept_id m.part m.id) ++ m.lacks ∷ rest))
+  pub at : drop 1 fixed ≡ eight m.at ++ (optional (kept_id m.part m.id) ++ m.lacks ∷ rest)
+  pub id : drop 9 fixed ≡ optional (kept_id m.part m.id) ++ m.lacks ∷ rest
+  pub lacks : drop 14 fixed ≡ m.lacks ∷ rest
 
 four_parts : (a b c d : List ℕ) → a ++ b ++ c ++ d ≡ a ++ (b ++ (c ++ d))
 four_parts a b c d = search (arith, append_assoc)
@@ -121,29 +123,34 @@ pub own_fields : (m : Message) (fixed : List ℕ) → IsOwnOf (take 16 fixed) m 
 unfolding own_octets
 own_fields m fixed own =
     let id : List ℕ = optional (kept_id m.part m.id) in
-    let rest : List ℕ = replicate 2 0 ++ drop 16 fixed in
-    let split : eight m.at ++ id ++ replicate 2 0 ++ drop 16 fixed ≡ eight m.at ++ (id ++ rest) =
-    four_parts (eight m.at) id (replicate 2 0) (drop 16 fixed) in
-    let part : drop 0 fixed ≡ part_octet m.part ∷ (eight m.at ++ (id ++ rest)) =
+    let rest : List ℕ = 0 ∷ drop 16 fixed in
+    let split : eight m.at ++ id ++ (m.lacks ∷ 0 ∷ []) ++ drop 16 fixed
+    ≡ eight m.at ++ (id ++ m.lacks ∷ rest) =
+    four_parts (eight m.at) id (m.lacks ∷ 0 ∷ []) (drop 16 fixed) in
+    let part : drop 0 fixed ≡ part_octet m.part ∷ (eight m.at ++ (id ++ m.lacks ∷ rest)) =
     both fixed
     ∙ ap (λ (xs : List ℕ). xs ++ drop 16 fixed) own.is
     ∙ ap (λ (xs : List ℕ). part_octet m.part ∷ xs) split in
-    let at : drop 1 fixed ≡ eight m.at ++ (id ++ rest) = ap (drop 1) part in
+    let at : drop 1 fixed ≡ eight m.at ++ (id ++ m.lacks ∷ rest) = ap (drop 1) part in
+    let read : drop 9 fixed ≡ id ++ m.lacks ∷ rest =
+    behind 1 8 fixed (eight m.at) _ at (eight_long m.at) in
     record {
       rest = rest;
       part = part;
       at = at;
-      id = behind 1 8 fixed (eight m.at) _ at (eight_long m.at);
+      id = read;
+      lacks = behind 9 5 fixed id _ read (optional_long (kept_id m.part m.id));
     }
 
 pub own_long : (m : Message) → length (own_octets m) ≡ 16
 unfolding own_octets
 own_long m = search (arith, length-append, replicate, eight_long, optional_long)
 
-pub same_own : (e m : Message) → e.at ≡ m.at → part_octet e.part ≡ part_octet m.part
+pub same_own : (e m : Message) → e.at ≡ m.at → e.lacks ≡ m.lacks → part_octet e.part ≡ part_octet
+    m.part
     → kept_id e.part e.id ≡ kept_id m.part m.id → own_octets e ≡ own_octets m
 unfolding own_octets
-same_own e m at octet id = rw (octet, at, id) refl
+same_own e m at lacks octet id = rw (octet, at, id, lacks) refl
 
 -- ---- a part that goes on in the place of another
 
@@ -184,13 +191,13 @@ pub id_on : (C : Table) (d e : Decoder) (p q : Part) (id given said : Option ℕ
     → given ≡ kept_id p id → id ≡ kept_id p said → given ≡ kept_id q said
 id_on C d e p q id given said on is was = search (arith, cond_again, said, cond, same_place)
 
-pub stands_on : (C : Table) (answers : Answers) (number : ℕ) (header s : List ℕ) (d e : Decoder)
-    (p q : Part) → GoesOn C d p e q → Stands C answers number header s d p →
-    Stands C answers number header s e q
-stands_on C answers number header s d e (parts.Typed section) (parts.Typed other) on is = search
-    (arith)
-stands_on C answers number header s d e (parts.Padding body_type_id) (parts.Padding other) on is =
-    rw on is
-stands_on C answers number header s d e (parts.Rest r) (parts.Rest other) on is =
+pub stands_on : (C : Table) (answers : Answers) (phase : Phase) (number : ℕ) (header s : List ℕ)
+    (d e : Decoder) (p q : Part) → GoesOn C d p e q → Stands C answers phase number header s d p →
+    Stands C answers phase number header s e q
+stands_on C answers phase number header s d e (parts.Typed section) (parts.Typed other) on is =
+    search (arith)
+stands_on C answers phase number header s d e (parts.Padding body_type_id)
+    (parts.Padding other) on is = rw on is
+stands_on C answers phase number header s d e (parts.Rest r) (parts.Rest other) on is =
     rw (on.offset, on.held) is
-stands_on C answers number header s d e p q on is = absurd on
+stands_on C answers phase number header s d e p q on is = absurd on

@@ -6,6 +6,7 @@ use Rattle.giop_sig.specs.Builtin.{builtin_table}
 use Rattle.giop_sig.specs.Table.{Table}
 use Rattle.giop_decode.specs.Noted.{Noted}
 use Rattle.giop_message.specs.Headers.{kind}
+use Rattle.giop_message.specs.Phases.{Phase}
 use Rattle.giop_message.specs.Signatures.{Answer, Answers, called_operation, signatures_of}
 use Rattle.giop_message.specs.Messages.{Mark, HeaderMark, NameMark, message, message_marks, is_shown}
 
@@ -21,8 +22,9 @@ pub data HeaderEnd : Type 0 where
 -- The marks of a message, from the octets `s` that follow the 12 of `header`. They are the same
 -- with each table of each version, and whatever the ids answer; so they are defined by the built-in
 -- types of version 1 only.
-unfoldable pub marks : List ℕ → List ℕ → List Mark
-marks header s = message_marks (message (signatures_of builtin_table (λ id. None)) header s)
+unfoldable pub marks : Phase → List ℕ → List ℕ → List Mark
+marks phase header s =
+    message_marks (message (signatures_of builtin_table (λ id. None) phase) header s)
 
 abbrev pub noted_in : List Mark → Option Noted
 noted_in [] = None
@@ -30,17 +32,17 @@ noted_in (HeaderMark n ∷ ms) = Some n
 noted_in (NameMark name ∷ ms) = noted_in ms
 
 -- what is noted of a message's header, if it is complete
-unfoldable pub header_noted : List ℕ → List ℕ → Option Noted
-header_noted header s = noted_in (marks header s)
+unfoldable pub header_noted : Phase → List ℕ → List ℕ → Option Noted
+header_noted phase header s = noted_in (marks phase header s)
 
 abbrev pub end_of : ℕ → List ℕ → Mark → HeaderEnd
 end_of number header (HeaderMark n) = Header_end number header n
 end_of number header (NameMark name) = Exception_end number name
 
 -- what ends in these octets after `s`: the header, and the name of an exception
-unfoldable pub header_ends : ℕ → List ℕ → List ℕ → List ℕ → List HeaderEnd
-header_ends number header s more = map (end_of number header)
-    (drop (length (marks header s)) (marks header (s ++ more)))
+unfoldable pub header_ends : Phase → ℕ → List ℕ → List ℕ → List ℕ → List HeaderEnd
+header_ends phase number header s more = map (end_of number header)
+    (drop (length (marks phase header s)) (marks phase header (s ++ more)))
 
 -- ---- what is told of these ends
 

@@ -1,4 +1,5 @@
 pub mod Headers
+pub mod Phases
 pub mod MessageReader
 pub mod Apart
 pub mod Text

@@ -1,8 +1,9 @@
 -- The reading of one message, as the stream takes it: the lines of its octets so far, and those of
 -- its close (meaning). The octets of a message after its header are counted from 1.
-use Rattle.std.specs.Prelude.{◌≡◌, ℕ, suc, ◌≤◌, ◌==◌, ◌⊎◌, Bool, true, false, List, [], ◌∷◌, ◌++◌, length, map}
+use Rattle.std.specs.Prelude.{◌≡◌, ℕ, suc, ◌+◌, ◌%◌, ◌≤◌, ◌==◌, ◌⊎◌, Bool, true, false, List, [], ◌∷◌, ◌++◌, length, map}
 use Rattle.std.specs.List.{filter, list_any, AllByRecursion as Each}
 use Rattle.giop_message.specs.Headers.{has_name}
+use Rattle.giop_message.specs.Phases.{Phase, AgreeBefore}
 
 -- what a line of a message shows, in the order of the lines of one octet
 pub data LineClass : Type 0 where
@@ -14,10 +15,11 @@ pub record TimedLine : Type 0 where
   pub line_class : LineClass
   pub text : List ℕ
 
--- how messages are read, from the message's number, its header, and the octets after the header
+-- how messages are read, from what padding is counted by, the message's number, its header, and the
+-- octets after the header
 pub record MessageReader : Type 0 where
-  pub reads : ℕ → List ℕ → List ℕ → List TimedLine
-  pub closes : ℕ → List ℕ → List ℕ → List (LineClass × List ℕ)
+  pub reads : Phase → ℕ → List ℕ → List ℕ → List TimedLine
+  pub closes : Phase → ℕ → List ℕ → List ℕ → List (LineClass × List ℕ)
 
 -- A message has no line after its fault or its end.
 abbrev pub is_last : LineClass → Bool
@@ -29,22 +31,33 @@ is_last End = true
 
 -- More octets don't change the lines of the octets before them.
 pub record IsCausal (R : MessageReader) : Type 0 where
-  pub earlier : (number : ℕ) (header xs more : List ℕ) (k : ℕ) → k ≤ length xs →
-      filter (λ r. r.at == k) (R.reads number header (xs ++ more))
-      ≡ filter (λ r. r.at == k) (R.reads number header xs)
+  pub earlier : (phase : Phase) (number : ℕ) (header xs more : List ℕ) (k : ℕ) → k ≤ length xs →
+      filter (λ r. r.at == k) (R.reads phase number header (xs ++ more))
+      ≡ filter (λ r. r.at == k) (R.reads phase number header xs)
+
+-- The lines of octets, and of a close after them, are the same by phases that agree before the end
+-- of the octets.
+pub record IsPhased (R : MessageReader) : Type 0 where
+  pub reads : (phase other : Phase) (number : ℕ) (header xs : List ℕ) →
+      AgreeBefore (12 + length xs) phase other →
+      R.reads phase number header xs ≡ R.reads other number header xs
+  pub closes : (phase other : Phase) (number : ℕ) (header xs : List ℕ) →
+      AgreeBefore (12 + length xs) phase other →
+      R.closes phase number header xs ≡ R.closes other number header xs
 
 -- A message that closes has ended, or is faulted.
 pub record IsEnding (R : MessageReader) : Type 0 where
-  pub ends : (number : ℕ) (header xs : List ℕ) →
-      list_any (λ l. is_last l.0) (R.closes number header xs) ≡ true
+  pub ends : (phase : Phase) (number : ℕ) (header xs : List ℕ) →
+      list_any (λ l. is_last l.0) (R.closes phase number header xs) ≡ true
 
 -- ---- What else the stream needs of a reading, since it finds messages by their request ids.
 
 -- If a message begins with its request id, its first four octets have no lines except those of
 -- values.
 pub record HasOnlyValuesInId (R : MessageReader) : Type 0 where
-  pub named : (number : ℕ) (header xs : List ℕ) → has_name header ≡ true → length xs ≤ 4 →
-      Each (λ r. r.line_class ≡ Value) (R.reads number header xs)
+  pub named : (phase : Phase) (number : ℕ) (header xs : List ℕ) → phase 12 % 4 ≡ 0 →
+      has_name header ≡ true → length xs ≤ 4 →
+      Each (λ r. r.line_class ≡ Value) (R.reads phase number header xs)
 
 -- the lines of one octet: none, a value, a value and its call, a part of the rest, a fault, or a
 -- value and a fault
@@ -55,13 +68,14 @@ AreInLineOrder line_classes =
     ⊎ (line_classes ≡ Fault ∷ []) ⊎ (line_classes ≡ Value ∷ Fault ∷ [])
 
 pub record IsOrdered (R : MessageReader) : Type 0 where
-  pub ordered : (number : ℕ) (header xs : List ℕ) (k : ℕ) →
-      AreInLineOrder (map (λ r. r.line_class) (filter (λ r. r.at == k) (R.reads number header xs)))
+  pub ordered : (phase : Phase) (number : ℕ) (header xs : List ℕ) (k : ℕ) →
+      AreInLineOrder (map (λ r. r.line_class)
+      (filter (λ r. r.at == k) (R.reads phase number header xs)))
 
 -- the lines that one more octet adds
-abbrev pub due : MessageReader → ℕ → List ℕ → List ℕ → ℕ → List TimedLine
-due R number header xs x = filter (λ r. r.at == suc (length xs))
-    (R.reads number header (xs ++ x ∷ []))
+abbrev pub due : MessageReader → Phase → ℕ → List ℕ → List ℕ → ℕ → List TimedLine
+due R phase number header xs x = filter (λ r. r.at == suc (length xs))
+    (R.reads phase number header (xs ++ x ∷ []))
 
 -- whether the line shows a fault
 abbrev pub is_fault : LineClass → Bool
@@ -80,14 +94,14 @@ AtClose line_classes = (line_classes ≡ Fault ∷ []) ⊎ (line_classes ≡ End
 -- only the line of its end; and if its last octet ends a part of its rest, nothing of the rest is
 -- left.
 pub record IsClosing (R : MessageReader) : Type 0 where
-  pub closed : (number : ℕ) (header xs : List ℕ) →
-      AtClose (map (λ l. l.0) (R.closes number header xs))
-  pub over : (number : ℕ) (header xs : List ℕ) (x : ℕ) →
-      list_any is_fault (map (λ r. r.line_class) (due R number header xs x)) ≡ true →
-      map (λ l. l.0) (R.closes number header (xs ++ x ∷ [])) ≡ End ∷ []
-  pub one_rest : (number : ℕ) (header xs : List ℕ) (x : ℕ) →
-      map (λ r. r.line_class) (due R number header xs x) ≡ Rest ∷ [] →
-      map (λ l. l.0) (R.closes number header (xs ++ x ∷ [])) ≡ Rest ∷ End ∷ [] → ⊥
+  pub closed : (phase : Phase) (number : ℕ) (header xs : List ℕ) →
+      AtClose (map (λ l. l.0) (R.closes phase number header xs))
+  pub over : (phase : Phase) (number : ℕ) (header xs : List ℕ) (x : ℕ) →
+      list_any is_fault (map (λ r. r.line_class) (due R phase number header xs x)) ≡ true →
+      map (λ l. l.0) (R.closes phase number header (xs ++ x ∷ [])) ≡ End ∷ []
+  pub one_rest : (phase : Phase) (number : ℕ) (header xs : List ℕ) (x : ℕ) →
+      map (λ r. r.line_class) (due R phase number header xs x) ≡ Rest ∷ [] →
+      map (λ l. l.0) (R.closes phase number header (xs ++ x ∷ [])) ≡ Rest ∷ End ∷ [] → ⊥
 
 -- what a reading needs so that its lines can be written as they come
 pub record IsStreamable (R : MessageReader) : Type 0 where

@@ -6,7 +6,6 @@ use Rattle.giop_sig.specs.Table.{Table, in_version, asked_number}
 use Rattle.giop_sig.specs.Trees.{tree}
 use Rattle.giop_sig.specs.HeaderTypes.{header_type}
 use Rattle.giop_sig.specs.RequestList.{Entry, IsOf}
-use Rattle.giop_decode.specs.ReadResult.{plain}
 use Rattle.giop_decode.specs.declared.decoder.Decoder.{Decoder}
 use Rattle.giop_decode.specs.Reading.{reading}
 use Rattle.giop_decode.specs.Noted.{nothing_noted}
@@ -18,11 +17,12 @@ use Rattle.giop_message.specs.declared.part.Section.{Section}
 use Rattle.giop_message.specs.declared.part.Section.TheVariants as sections
 use Rattle.giop_message.specs.declared.body_type.BodyTypeId.{BodyTypeId}
 use Rattle.giop_message.specs.declared.body_type.BodyTypeId.TheVariants as body_type_ids
-use Rattle.giop_message.specs.Headers.{minor, kind, order}
+use Rattle.giop_message.specs.Headers.{minor, kind}
+use Rattle.giop_message.specs.Phases.{Phase, IsCounted}
 use Rattle.giop_message.specs.MessageReader.{LineClass, TimedLine}
 use Rattle.giop_message.specs.Text.{line_class_text}
 use Rattle.giop_message.specs.Signatures.{Signatures, RequestTable, Answer, Answers, signatures_of}
-use Rattle.giop_message.specs.Messages.{MessageLine, ShortLine, LineAt, Said, nothing_said, BodyType, Untyped, Typed, UserException, SystemException, In_padding, In_rest, ReadTo, with_front, section_and_rest, root_of, message, message_lines, stage_of}
+use Rattle.giop_message.specs.Messages.{coding_of, MessageLine, ShortLine, LineAt, Said, nothing_said, BodyType, Untyped, Typed, UserException, SystemException, In_padding, In_rest, ReadTo, with_front, section_and_rest, root_of, message, message_lines, stage_of}
 use Rattle.giop_message.specs.ReaderOfTable.{line_class_of, text_of, first_request_id, is_over}
 
 -- ---- what is written
@@ -131,21 +131,22 @@ pub record Decodes (C : Table) (S : Signatures) (number : ℕ) (header s : List 
   pub since : s ≡ front ++ octets
   pub is : message S header s ≡ with_front before
       (section_and_rest S header section nothing_noted
-      (reading (plain (order header)) [] T (12 + length front) octets))
+      (reading (coding_of S header) [] T (12 + length front) octets))
   pub first : IsFirst C.version header section T before front
-  pub reads : decoder.Reads C T (order header) (12 + length front) number (root_of section) d octets
+  pub reads : decoder.Reads C T (coding_of S header) (12 + length front) number (root_of section) d
+      octets
 
 -- at which stage a message with this number and header is after these octets: from the part to
 -- which the next octet belongs, and from the decoder of a section
-abbrev pub Stands : Table → Answers → ℕ → List ℕ → List ℕ → Decoder → Part → Type 0
-Stands C answers number header s d (parts.Typed section) =
-    Decodes C (signatures_of C (answers number)) number header s section d
-Stands C answers number header s d (parts.Padding body_type_id) =
-    (said : Said) × (message (signatures_of C (answers number)) header s
+abbrev pub Stands : Table → Answers → Phase → ℕ → List ℕ → List ℕ → Decoder → Part → Type 0
+Stands C answers phase number header s d (parts.Typed section) =
+    Decodes C (signatures_of C (answers number) phase) number header s section d
+Stands C answers phase number header s d (parts.Padding body_type_id) =
+    (said : Said) × (message (signatures_of C (answers number) phase) header s
     ≡ ReadTo said (12 + length s)
     (In_padding (body_type (in_version (minor header) C) body_type_id)))
-Stands C answers number header s d (parts.Rest r) =
-    (said : Said) × (message (signatures_of C (answers number)) header s
+Stands C answers phase number header s d (parts.Rest r) =
+    (said : Said) × (message (signatures_of C (answers number) phase) header s
     ≡ ReadTo said (12 + length s) (In_rest r.offset r.held.items))
 
 -- whether the section is the header
@@ -160,16 +161,18 @@ in_header (parts.Typed section) = is_header section
 in_header (parts.Padding body_type_id) = false
 in_header (parts.Rest r) = false
 
--- The message's fields are those of a reading of its header and these octets after it. While the
--- header is being read, its decoder has the request id.
-pub record Follows (C : Table) (answers : Answers) (number : ℕ) (header : List ℕ) (m : Message)
-    (s : List ℕ) : Type 0 where
+-- The message's fields are those of a reading of its header and these octets after it, with padding
+-- counted by this phase; no payload is joined to them after the last one. While the header is
+-- being read, its decoder has the request id.
+pub record Follows (C : Table) (answers : Answers) (phase : Phase) (number : ℕ) (header : List ℕ)
+    (m : Message) (s : List ℕ) : Type 0 where
   pub same_number : m.number ≡ number
   pub same_header : m.header ≡ header
   pub id : m.id ≡ cond (in_header m.part) None
-      (first_request_id (message_lines (message (signatures_of C (answers number)) header s)))
+      (first_request_id (message_lines (message (signatures_of C (answers number) phase) header s)))
   pub at : m.at ≡ 12 + length s
-  pub stands : Stands C answers number header s m.decoder m.part
+  pub counted : IsCounted phase m.lacks m.at
+  pub stands : Stands C answers phase number header s m.decoder m.part
 
 -- ---- the calls of a message
 

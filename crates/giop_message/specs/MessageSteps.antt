@@ -7,7 +7,7 @@ use Rattle.giop_sig.specs.declared.types.OpId.{OpId}
 use Rattle.giop_sig.specs.Types.{Ty}
 use Rattle.giop_sig.specs.Table.{Table}
 use Rattle.giop_decode.specs.declared.decoder.Decoder.{Decoder}
-use Rattle.giop_decode.specs.ReadResult.{plain, Read, Done, Short, Fault}
+use Rattle.giop_decode.specs.ReadResult.{Read, Done, Short, Fault}
 use Rattle.giop_decode.specs.Reading.{reading}
 use Rattle.giop_decode.specs.Noted.{Noted, nothing_noted, noted_of}
 use Rattle.giop_decode.specs.DecoderState.{KeepsNoted}
@@ -16,11 +16,11 @@ use Rattle.giop_message.specs.declared.part.Section.{Section}
 use Rattle.giop_message.specs.declared.part.Section.TheVariants as sections
 use Rattle.giop_message.specs.declared.part.Part.{Part}
 use Rattle.giop_message.specs.declared.part.Part.TheVariants as parts
-use Rattle.giop_message.specs.Headers.{order}
+use Rattle.giop_message.specs.Phases.{Phase, IsCounted}
 use Rattle.giop_message.specs.Text.{fault_word}
 use Rattle.giop_message.specs.Signatures.{Signatures, Answers, signatures_of}
 use Rattle.giop_message.specs.Messages
-use Rattle.giop_message.specs.Messages.{Said, BodyType, Untyped, is_shown, is_request, is_aligned, body_of, members_of, type_if, with_front, section_and_rest, root_of, message}
+use Rattle.giop_message.specs.Messages.{coding_of, Said, BodyType, Untyped, is_shown, is_request, is_aligned, body_of, members_of, type_if, with_front, section_and_rest, root_of, message}
 use Rattle.giop_message.specs.HeaderEnds.{CallEvent, header_event, raise_event}
 use Rattle.giop_message.specs.MessageState.{IsFirst, Stands, Follows, FaultedAt}
 
@@ -60,30 +60,33 @@ is_padded header sections.Exception at = false
 is_padded header sections.SystemException at = false
 is_padded header sections.Body at = false
 
--- the message has this number and this header, and has taken as many octets as `s` has
-pub record IsAt (number : ℕ) (header : List ℕ) (m : Message) (s : List ℕ) : Type 0 where
-  pub same_number : m.number ≡ number
-  pub same_header : m.header ≡ header
-  pub at : m.at ≡ 12 + length s
+-- the message has this number and this header, has taken as many octets as `s` has, and counts
+-- padding by this phase
+pub record IsAt (phase : Phase) (number : ℕ) (header : List ℕ) (m : Message) (s : List ℕ) : Type 0
+  where
+    pub same_number : m.number ≡ number
+    pub same_header : m.header ≡ header
+    pub at : m.at ≡ 12 + length s
+    pub counted : IsCounted phase m.lacks m.at
 
 -- if a message has said what came before and then reads as `m`, the new part fits `m`
-abbrev pub Arrives : Table → Answers → ℕ → List ℕ → Message → Message → List ℕ → Messages.Message →
-    Type 0
-Arrives C answers number header old new s m =
-    IsAt number header old s → (before : Said) →
-    message (signatures_of C (answers number)) header s ≡ with_front before m →
-    Stands C answers number header s new.decoder new.part
+abbrev pub Arrives : Table → Answers → Phase → ℕ → List ℕ → Message → Message → List ℕ →
+    Messages.Message → Type 0
+Arrives C answers phase number header old new s m =
+    IsAt phase number header old s → (before : Said) →
+    message (signatures_of C (answers number) phase) header s ≡ with_front before m →
+    Stands C answers phase number header s new.decoder new.part
 
 -- If a message has said what came before, and then a section of this type begins, and no octet of
 -- it has come, the new part is that section.
-abbrev pub Enters : Table → Answers → ℕ → List ℕ → Message → Message → List ℕ → Section → Ty →
-    Type 0
-Enters C answers number header old new s section T =
-    IsAt number header old s → (before : Said) → IsFirst C.version header section T before s →
-    message (signatures_of C (answers number)) header s
-    ≡ with_front before (section_and_rest (signatures_of C (answers number)) header section
-    nothing_noted (reading (plain (order header)) [] T (12 + length s) [])) →
-    Stands C answers number header s new.decoder new.part
+abbrev pub Enters : Table → Answers → Phase → ℕ → List ℕ → Message → Message → List ℕ → Section →
+    Ty → Type 0
+Enters C answers phase number header old new s section T =
+    IsAt phase number header old s → (before : Said) → IsFirst C.version header section T before s →
+    (let S = signatures_of C (answers number) phase in message S header s
+    ≡ with_front before (section_and_rest S header section
+    nothing_noted (reading (coding_of S header) [] T (12 + length s) []))) →
+    Stands C answers phase number header s new.decoder new.part
 
 -- the part is read as a value
 abbrev pub IsTyped : Part → Type 0
@@ -119,8 +122,9 @@ last_rest_text number (parts.Rest r) = held_text number r.offset r.held.items
 -- ---- one call over a run of octets
 
 -- the call took n octets: the message is over at the last of them, or it follows the longer list
-abbrev pub TookSome : Table → Answers → ℕ → List ℕ → Message → List ℕ → List ℕ → ℕ → Bool → Type 0
-TookSome C answers number header m s octets n false =
-    Follows C answers number header m (s ++ take n octets)
-TookSome C answers number header m s octets n true =
-    FaultedAt (signatures_of C (answers number)) header s octets n
+abbrev pub TookSome : Table → Answers → Phase → ℕ → List ℕ → Message → List ℕ → List ℕ → ℕ → Bool →
+    Type 0
+TookSome C answers phase number header m s octets n false =
+    Follows C answers phase number header m (s ++ take n octets)
+TookSome C answers phase number header m s octets n true =
+    FaultedAt (signatures_of C (answers number) phase) header s octets n

@@ -4,12 +4,11 @@
 use Rattle.std.specs.Prelude.{ℕ, zero, suc, ◌+◌, ◌/◌, Bool, true, false, ◌&&◌, ◌||◌, List, [], ◌∷◌, ◌++◌, length, take, drop, Option, Some, None, ◌==◌, nat_lt, nat_le, if◌then◌else◌}
 use Rattle.std.specs.List.{list_all}
 use Rattle.giop_cdr.specs.Alignment.{padding}
-use Rattle.giop_cdr.specs.declared.order.Order.{Order}
 use Rattle.giop_print.specs.declared.path.Root.{Root}
 use Rattle.giop_print.specs.declared.path.Root.TheVariants as roots
 use Rattle.giop_sig.specs.Types.{Ty, Struct}
 use Rattle.giop_decode.specs.declared.progress.Kind.{Kind}
-use Rattle.giop_decode.specs.ReadResult.{plain, PathSegment, Value, Line, OpenPart, Leaf, Read, Done, Short, Fault}
+use Rattle.giop_decode.specs.ReadResult.{Coding, PathSegment, Value, Line, OpenPart, Leaf, Read, Done, Short, Fault}
 use Rattle.giop_decode.specs.Reading.{reading}
 use Rattle.giop_decode.specs.Noted.{Noted, nothing_noted, note, noted, ends_operation, is_header_root}
 use Rattle.giop_message.specs.declared.part.Section.{Section}
@@ -179,13 +178,17 @@ rest at s = rest_in (length s / 32) 0 at s
 
 -- ---- bodies
 
-unfoldable pub typed : Order → Ty → ℕ → List ℕ → Message
-typed o T at s = section_then sections.Body no_calls (λ h. rest) nothing_noted
-    (reading (plain o) [] T at s)
+-- how the octets of a message's values are taken
+abbrev pub coding_of : Signatures → List ℕ → Coding
+coding_of S header = record { order = order header; phase = S.phase }
 
-unfoldable pub option_typed : Order → Option Ty → ℕ → List ℕ → Message
-option_typed o None at s = rest at s
-option_typed o (Some T) at s = typed o T at s
+unfoldable pub typed : Coding → Ty → ℕ → List ℕ → Message
+typed coding T at s = section_then sections.Body no_calls (λ h. rest) nothing_noted
+    (reading coding [] T at s)
+
+unfoldable pub option_typed : Coding → Option Ty → ℕ → List ℕ → Message
+option_typed coding None at s = rest at s
+option_typed coding (Some T) at s = typed coding T at s
 
 unfoldable pub members_of : Signatures → List ℕ → Option (List ℕ) → Option Ty
 members_of S header None = None
@@ -193,17 +196,17 @@ members_of S header (Some repository) = S.members (minor header) repository
 
 -- the members of the exception whose repository id has come
 unfoldable pub after_exception : Signatures → List ℕ → Noted → ℕ → List ℕ → Message
-after_exception S header h = option_typed (order header) (members_of S header h.name)
+after_exception S header h = option_typed (coding_of S header) (members_of S header h.name)
 
 unfoldable pub body : Signatures → List ℕ → BodyType → ℕ → List ℕ → Message
 body S header Untyped at s = rest at s
-body S header (Typed T) at s = typed (order header) T at s
+body S header (Typed T) at s = typed (coding_of S header) T at s
 body S header UserException at s =
     section_then sections.Exception no_calls (after_exception S header) nothing_noted
-    (reading (plain (order header)) [] S.exception_id at s)
+    (reading (coding_of S header) [] S.exception_id at s)
 body S header SystemException at s =
     section_then sections.SystemException no_calls (λ h. rest) nothing_noted
-    (reading (plain (order header)) [] S.system_exception at s)
+    (reading (coding_of S header) [] S.system_exception at s)
 
 unfoldable pub type_if : Option Ty → BodyType
 type_if None = Untyped
@@ -281,7 +284,7 @@ unfoldable pub of_header : Signatures → List ℕ → Option Ty → ℕ → Lis
 of_header S header None at s = rest at s
 of_header S header (Some T) at s =
     section_then sections.Header (calling_of S header) (after_header S header) nothing_noted
-    (reading (plain (order header)) [] T at s)
+    (reading (coding_of S header) [] T at s)
 
 -- a message with this header of 12 octets, and these octets after it
 unfoldable pub message : Signatures → List ℕ → List ℕ → Message

@@ -11,6 +11,7 @@ use Rattle.giop_sig.specs.Types.{Plain}
 use Rattle.giop_sig.specs.Table.{Table}
 use Rattle.giop_sig.specs.HeaderTypes.{BeginsWithId}
 use Rattle.giop_message.specs.Headers.{minor, kind, has_name}
+use Rattle.giop_message.specs.Phases.{Phase}
 use Rattle.giop_message.specs.MessageReader.{LineClass, Value, Call, Rest, Fault, End, TimedLine, MessageReader}
 use Rattle.giop_message.specs.Text.{value_line_text, call_text, rest_text, fault_word}
 use Rattle.giop_message.specs.Signatures.{Signatures, Answers, signatures_of}
@@ -53,11 +54,11 @@ remarks_by S header xs = map timed_line_of (message_lines (message S header xs))
 unfoldable pub closes_by : Signatures → List ℕ → List ℕ → List (LineClass × List ℕ)
 closes_by S header xs = map closing_of (close (stage_of (message S header xs)))
 
--- the reader of messages, if each message is read by the signatures for its number
-abbrev pub reader_by : (ℕ → Signatures) → MessageReader
+-- the reader of messages, if each message is read by the signatures for its phase and number
+abbrev pub reader_by : (Phase → ℕ → Signatures) → MessageReader
 reader_by S = record {
-  reads = λ number. remarks_by (S number);
-  closes = λ number. closes_by (S number);
+  reads = λ phase number. remarks_by (S phase number);
+  closes = λ phase number. closes_by (S phase number);
 }
 
 -- the lines that one more octet adds
@@ -66,7 +67,7 @@ due_by S header xs x = filter (λ r. r.at == suc (length xs)) (remarks_by S head
 
 -- the reader of messages for this table and for what the ids of each message answer
 abbrev pub message_reader : Table → Answers → MessageReader
-message_reader C answers = reader_by (λ number. signatures_of C (answers number))
+message_reader C answers = reader_by (λ phase number. signatures_of C (answers number) phase)
 
 -- If the stream finds messages by their request ids, the headers of these messages begin with the
 -- ids.

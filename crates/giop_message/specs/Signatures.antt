@@ -1,5 +1,6 @@
--- The types of a message's parts, for a catalogue and the operations that the ids of replies
--- answer: the types of headers, and those that bodies can have (meaning).
+-- How a message is read: the types of its parts, for a catalogue and the operations that the ids of
+-- replies answer, which are those of headers and those that bodies can have; and what padding is
+-- counted by (meaning).
 use Rattle.std.specs.Prelude.{ℕ, Bool, ◌&&◌, cond, List, Option, None, Some, nat_le}
 use Rattle.std.specs.Option.{option_map, option_and_then}
 use Rattle.giop_sig.specs.declared.types.OpId.{OpId}
@@ -11,8 +12,11 @@ use Rattle.giop_sig.specs.Table.{Table, in_version, operation_for, operation_at,
 use Rattle.giop_sig.specs.Trees.{tree, wide_in}
 use Rattle.giop_sig.specs.HeaderTypes.{header_type, fixed_type}
 use Rattle.giop_sig.specs.RequestList.{kept_operation}
+use Rattle.giop_message.specs.Phases.{Phase}
 
 pub record Signatures : Type 0 where
+  -- what padding is counted by in a message
+  pub phase : Phase
   -- the type of a header, from the minor version and the message type
   pub header : ℕ → ℕ → Option Ty
   -- In a message of this minor version: the struct of an operation's parameters, from its name and
@@ -70,8 +74,9 @@ called_operation C key name = operation_for C name (whose C key)
 abbrev pub interface_of : Table → Option (List ℕ) → Option (List ℕ)
 interface_of C key = option_map (λ i. interface_name C i.0) (whose C key)
 
-unfoldable pub signatures_of : Table → Answer → Signatures
-signatures_of C answer = record {
+unfoldable pub signatures_of : Table → Answer → Phase → Signatures
+signatures_of C answer phase = record {
+  phase = phase;
   header = header_type C.version;
   request = λ minor name key.
       option_and_then (request_type (in_version minor C)) (called_operation C key name);

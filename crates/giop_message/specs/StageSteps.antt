@@ -1,11 +1,9 @@
 -- One more octet, from the stage of a message (steps).
 use Rattle.std.specs.Prelude.{ℕ, ◌+◌, List, [], ◌∷◌, ◌++◌, length, ◌==◌, nat_lt, if◌then◌else◌}
 use Rattle.giop_cdr.specs.Alignment.{padding}
-use Rattle.giop_decode.specs.ReadResult.{plain}
 use Rattle.giop_decode.specs.ReadingSteps as decoder
-use Rattle.giop_message.specs.Headers.{order}
 use Rattle.giop_message.specs.Signatures.{Signatures}
-use Rattle.giop_message.specs.Messages.{only_lines, nothing_said, line_at, RestLine, Stage, In_typed, In_padding, In_rest, Over, Message, ReadTo, with_front, body, section_and_rest}
+use Rattle.giop_message.specs.Messages.{coding_of, only_lines, nothing_said, line_at, RestLine, Stage, In_typed, In_padding, In_rest, Over, Message, ReadTo, with_front, body, section_and_rest}
 
 unfoldable pub rest_step : ℕ → List ℕ → ℕ → Message
 rest_step offset held at =
@@ -16,7 +14,7 @@ rest_step offset held at =
 unfoldable pub message_step : Signatures → List ℕ → ℕ → Stage → ℕ → Message
 message_step S header at (In_typed section h outer leaf) b =
     section_and_rest S header section h
-    (decoder.root_step (plain (order header)) [] outer leaf at b)
+    (decoder.root_step (coding_of S header) [] outer leaf at b)
 message_step S header at (In_padding t) b =
     if nat_lt 1 (padding at 8) then ReadTo nothing_said (at + 1) (In_padding t)
     else body S header t (at + 1) []

@@ -7,7 +7,8 @@
 --      1       8  the offset of its next octet, at least 12
 --      9       5  whether its request id was read, 0 or 1, and the id; all are zero in the header,
 --                 since the decoder has the id there
---     14       2  zero
+--     14       1  what its offset lacks of the one that padding is counted by, modulo 8
+--     15       1  zero
 --
 -- The other 208 are those of the decoder of a header, a repository id or a body; or of padding:
 --
@@ -24,12 +25,12 @@
 -- A decoder has its frames in addition. Numbers are big-endian; held octets are followed by zeros.
 use Rattle.std.specs.Prelude.{◌≡◌, ℕ, ◌^◌, ◌<◌, cond, List, [], ◌∷◌, ◌++◌, take, drop, replicate, Option, None, IfSome}
 use Rattle.giop_octets.specs.Fields.{four, eight, optional, held}
-use Rattle.giop_cdr.specs.declared.order.Order.{Order}
 use Rattle.giop_print.specs.declared.path.Root.{Root}
 use Rattle.giop_sig.specs.Types.{Ty}
 use Rattle.giop_sig.specs.Table.{Table}
 use Rattle.giop_decode.specs.declared.decoder.Decoder.{Decoder}
 use Rattle.giop_decode.specs.DecoderState as decoder
+use Rattle.giop_decode.specs.ReadResult.{Coding}
 use Rattle.giop_decode.specs.Stored as decoders
 use Rattle.giop_message.specs.declared.message.Message.{Message}
 use Rattle.giop_message.specs.declared.part.Part.{Part}
@@ -61,9 +62,10 @@ part_octet (parts.Rest r) = 4
 abbrev pub kept_id : Part → Option ℕ → Option ℕ
 kept_id part id = cond (in_header part) None id
 
--- the 16 octets of the message itself: the part, the offset of the next octet, and the request id
+-- the 16 octets of the message itself: the part, the offset of the next octet, the request id, and
+-- what the offset lacks
 unfoldable pub own_octets : Message → List ℕ
-own_octets m = part_octet m.part ∷ eight m.at ++ optional (kept_id m.part m.id) ++ replicate 2 0
+own_octets m = part_octet m.part ∷ eight m.at ++ optional (kept_id m.part m.id) ++ m.lacks ∷ 0 ∷ []
 
 -- the octets of a body's type: its kind, and its number
 abbrev pub body_type_octets : BodyTypeId → List ℕ
@@ -126,8 +128,8 @@ pub record IsSameRest (q r : Rest) : Type 0 where
 
 -- The other decoder reads all that this one reads.
 pub record ReadsOn (C : Table) (d e : Decoder) : Type 0 where
-  pub reads : (T : Ty) (order : Order) (at message : ℕ) (root : Root) (s : List ℕ) →
-      decoder.Reads C T order at message root d s → decoder.Reads C T order at message root e s
+  pub reads : (T : Ty) (coding : Coding) (at message : ℕ) (root : Root) (s : List ℕ) →
+      decoder.Reads C T coding at message root d s → decoder.Reads C T coding at message root e s
 
 -- the other part, with its decoder, goes on in the place of this one
 abbrev pub GoesOn : Table → Decoder → Part → Decoder → Part → Type 0

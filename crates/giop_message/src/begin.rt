@@ -1,7 +1,7 @@
 //! What begins: a message in the place of another, and what comes after a part of a message that
 //! has ended.
 
-ghost use Rattle.std.specs.Prelude.{◌≡◌, ℕ, ◌+◌, ◌<◌, List, [], length, true, false, cond, nat_lt};
+ghost use Rattle.std.specs.Prelude.{◌≡◌, ℕ, ◌+◌, ◌%◌, ◌<◌, List, [], length, true, false, cond, nat_lt};
 ghost use Rattle.giop_sig.specs.Trees.{tree};
 ghost use Rattle.giop_sig.specs.HeaderTypes.{fixed_type};
 ghost use Rattle.giop_sig.specs.Fits.{IsEmptyStruct};
@@ -9,6 +9,7 @@ ghost use Rattle.giop_decode.specs.ReadResult.{Read as MessageReader};
 ghost use Rattle.giop_decode.specs.Noted.{noted_of, is_header_root};
 ghost use Rattle.giop_decode.specs.DecoderState.{KeepsNoted};
 ghost use Rattle.giop_message.specs.Headers.{minor, kind};
+ghost use Rattle.giop_message.specs.Phases.{Phase, IsCounted};
 ghost use Rattle.giop_message.specs.Messages.{root_of, is_aligned};
 ghost use Rattle.giop_message.specs.MessageState.{is_header};
 ghost use Rattle.giop_message.specs.declared.part.Part.TheVariants as parts;
@@ -65,16 +66,15 @@ pub(crate) fn idle(catalogue: &Catalogue) -> Decoder {
 impl Message {
     ghost use Rattle.giop_message.specs.declared.part.Section.{Section as Within};
     ghost use Rattle.giop_message.specs.Signatures.{Answers, signatures_of};
-    ghost use Rattle.giop_message.specs.Headers.{order};
-    ghost use Rattle.giop_message.specs.Messages.{body, rest, typed, after};
+    ghost use Rattle.giop_message.specs.Messages.{body, rest, typed, after, coding_of};
     ghost use Rattle.giop_message.specs.MessageState.{AreKnown, IsKnown, Fits, Follows, in_header, body_type, reach};
     ghost use Rattle.giop_message.specs.HeaderEnds.{after_event, operation_of};
     ghost use Rattle.giop_message.specs.MessageSteps.{is_padded, Arrives, Enters, IsTyped, Ended, section_event};
 
     /// Begins a message with this number and this header in the place of another.
     pub fn restart(&mut self, catalogue: &Catalogue, number: u64, header: [u8; 12])
-        ensures follows { (answers : Answers) →
-            Follows catalogue.now answers number header self.new [] }
+        ensures follows { (answers : Answers) (phase : Phase) → IsCounted phase 0 12 →
+            Follows catalogue.now answers phase number header self.new [] }
         ensures fits { Fits catalogue.now self.new }
         ensures reach { reach self.new ≡ 12 }
     {
@@ -82,11 +82,19 @@ impl Message {
         self.header = header;
         self.id = None;
         self.at = 12;
+        self.lacks = 0;
         let minor = minor_of(&header);
         match catalogue.in_version(minor).header(minor, kind_of(&header)) {
             Some(of) => self.begin(catalogue, Section::Header, of),
             None => self.begin_rest(),
         }
+    }
+
+    /// The phase of the next octet, modulo 8.
+    fn phase(&self) -> u64
+        ensures { result % 8 ≡ (self.now.at + self.now.lacks) % 8 }
+    {
+        self.at % 8 + u64::from(self.lacks)
     }
 
     /// Begins the rest.
@@ -95,10 +103,12 @@ impl Message {
         ensures header { self.new.header ≡ self.old.header }
         ensures id { self.new.id ≡ self.old.id }
         ensures at { self.new.at ≡ self.old.at }
+        ensures lacks { self.new.lacks ≡ self.old.lacks }
         ensures past { in_header self.new.part ≡ false }
         ensures fits { (C : Table) → Fits C self.new }
-        ensures arrives { (C : Table) (answers : Answers) (number : ℕ) (header s : List ℕ) →
-            Arrives C answers number header self.old self.new s (rest (12 + length s) []) }
+        ensures arrives { (C : Table) (answers : Answers) (phase : Phase)
+            (number : ℕ) (header s : List ℕ) →
+            Arrives C answers phase number header self.old self.new s (rest (12 + length s) []) }
     {
         self.part = Part::Rest(Rest::new());
     }
@@ -112,17 +122,19 @@ impl Message {
         ensures header { self.new.header ≡ self.old.header }
         ensures id { self.new.id ≡ self.old.id }
         ensures at { self.new.at ≡ self.old.at }
+        ensures lacks { self.new.lacks ≡ self.old.lacks }
         ensures within { in_header self.new.part ≡ is_header section }
         ensures fits { Fits catalogue.now self.new }
-        ensures enters { (answers : Answers) (number : ℕ) (header s : List ℕ) →
-            Enters catalogue.now answers number header self.old self.new s section
+        ensures enters { (answers : Answers) (phase : Phase) (number : ℕ) (header s : List ℕ) →
+            Enters catalogue.now answers phase number header self.old self.new s section
             (tree (in_version (minor header) catalogue.now) of.0) }
     {
         let order = order_of(&self.header);
         let root = section.root();
         let minor = minor_of(&self.header);
+        let phase = self.phase();
         self.decoder
-            .restart(catalogue, of, order, self.at, self.number, root, minor);
+            .restart(catalogue, of, order, phase, self.number, root, minor);
         self.part = Part::Typed(section);
     }
 
@@ -132,10 +144,11 @@ impl Message {
         ensures header { self.new.header ≡ self.old.header }
         ensures id { self.new.id ≡ self.old.id }
         ensures at { self.new.at ≡ self.old.at }
+        ensures lacks { self.new.lacks ≡ self.old.lacks }
         ensures within { in_header self.new.part ≡ is_header section }
         ensures fits { Fits catalogue.now self.new }
-        ensures enters { (answers : Answers) (number : ℕ) (header s : List ℕ) →
-            Enters catalogue.now answers number header self.old self.new s section
+        ensures enters { (answers : Answers) (phase : Phase) (number : ℕ) (header s : List ℕ) →
+            Enters catalogue.now answers phase number header self.old self.new s section
             (fixed_type catalogue.now.version fixed) }
     {
         let of = catalogue.in_version(minor_of(&self.header)).fixed(fixed);
@@ -149,10 +162,12 @@ impl Message {
         ensures header { self.new.header ≡ self.old.header }
         ensures id { self.new.id ≡ self.old.id }
         ensures at { self.new.at ≡ self.old.at }
+        ensures lacks { self.new.lacks ≡ self.old.lacks }
         ensures past { in_header self.new.part ≡ false }
         ensures fits { Fits catalogue.now self.new }
-        ensures arrives { (answers : Answers) (number : ℕ) (header s : List ℕ) →
-            Arrives catalogue.now answers number header self.old self.new s (typed (order header)
+        ensures arrives { (answers : Answers) (phase : Phase) (number : ℕ) (header s : List ℕ) →
+            Arrives catalogue.now answers phase number header self.old self.new s (typed
+            (coding_of (signatures_of catalogue.now (answers number) phase) header)
             (tree (in_version (minor header) catalogue.now) of.0) (12 + length s) []) }
     {
         if is_empty(&catalogue.in_version(minor_of(&self.header)), of) {
@@ -169,11 +184,12 @@ impl Message {
         ensures header { self.new.header ≡ self.old.header }
         ensures id { self.new.id ≡ self.old.id }
         ensures at { self.new.at ≡ self.old.at }
+        ensures lacks { self.new.lacks ≡ self.old.lacks }
         ensures past { in_header self.new.part ≡ false }
         ensures fits { Fits catalogue.now self.new }
-        ensures arrives { (answers : Answers) (number : ℕ) (header s : List ℕ) →
-            Arrives catalogue.now answers number header self.old self.new s (body
-            (signatures_of catalogue.now (answers number)) header
+        ensures arrives { (answers : Answers) (phase : Phase) (number : ℕ) (header s : List ℕ) →
+            Arrives catalogue.now answers phase number header self.old self.new s (body
+            (signatures_of catalogue.now (answers number) phase) header
             (body_type (in_version (minor header) catalogue.now) body_type_id)
             (12 + length s) []) }
     {
@@ -198,6 +214,7 @@ impl Message {
         ensures number { self.new.number ≡ self.old.number }
         ensures header { self.new.header ≡ self.old.header }
         ensures at { self.new.at ≡ self.old.at }
+        ensures lacks { self.new.lacks ≡ self.old.lacks }
         ensures past { in_header self.new.part ≡ false }
         ensures fits { Fits catalogue.now self.new }
         ensures id { (section : Within) (r : MessageReader) →
@@ -208,12 +225,13 @@ impl Message {
             Q.state correspondent.new ≡ after_event Q.notified (Q.state correspondent.old)
             (section_event section self.old.number self.old.header r
             (operation_of catalogue.now self.old.header (noted_of true r))) }
-        ensures arrives { (answers : Answers) (number : ℕ) (header s : List ℕ) (section : Within)
+        ensures arrives { (answers : Answers) (phase : Phase)
+            (number : ℕ) (header s : List ℕ) (section : Within)
             (r : MessageReader) →
             Ended catalogue.now self.old.decoder self.old.part section r →
             (is_header section ≡ true → answers number ≡ Q.answer (Q.state correspondent.old)) →
-            Arrives catalogue.now answers number header self.old self.new s (after
-            (signatures_of catalogue.now (answers number)) header section
+            Arrives catalogue.now answers phase number header self.old self.new s (after
+            (signatures_of catalogue.now (answers number) phase) header section
             (noted_of (is_header_root (root_of section)) r) (12 + length s) []) }
     {
         let Part::Typed(section) = self.part else {

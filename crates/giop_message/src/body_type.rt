@@ -6,6 +6,7 @@ ghost use Rattle.giop_sig.specs.Table.{in_version};
 ghost use Rattle.giop_sig.specs.HeaderTypes.{fixed_type};
 ghost use Rattle.giop_sig.specs.Trees.{tree};
 ghost use Rattle.giop_message.specs.Headers.{minor};
+ghost use Rattle.giop_message.specs.Phases.{Phase};
 ghost use Rattle.giop_message.specs.Signatures.{Answer, body_tree, request_type, signatures_of};
 ghost use Rattle.giop_decode.specs.ReadResult.{Read};
 ghost use Rattle.giop_decode.specs.Noted.{noted_of, is_header_root};
@@ -44,11 +45,12 @@ pub fn body_type_after<Q: Correspondent>(
     requires header { length header.now ≡ 12 }
     requires of { AreKnown catalogue.now (Q.answer (Q.state correspondent.now)) }
     requires operation { IsKnownOperation catalogue.now operation }
-    ensures is { (r : Read) → KeepsNoted catalogue.now (root_of section) decoder.now r →
+    ensures is { (phase : Phase) (r : Read) →
+        KeepsNoted catalogue.now (root_of section) decoder.now r →
         (is_header section ≡ true → operation
         ≡ operation_of catalogue.now header.now (noted_of true r)) →
         body_type (in_version (minor header.now) catalogue.now) result ≡ body_type_after
-        (signatures_of catalogue.now (Q.answer (Q.state correspondent.now)))
+        (signatures_of catalogue.now (Q.answer (Q.state correspondent.now)) phase)
         header.now section (noted_of (is_header_root (root_of section)) r) }
     ensures known { IsKnown catalogue.now result }
 {
@@ -72,10 +74,10 @@ fn header_body<Q: Correspondent>(
     requires header { length header.now ≡ 12 }
     requires of { AreKnown catalogue.now (Q.answer (Q.state correspondent.now)) }
     requires operation { IsKnownOperation catalogue.now operation }
-    ensures is { (r : Read) → KeepsNoted catalogue.now Root.Header decoder.now r →
+    ensures is { (phase : Phase) (r : Read) → KeepsNoted catalogue.now Root.Header decoder.now r →
         operation ≡ operation_of catalogue.now header.now (noted_of true r) →
         body_type (in_version (minor header.now) catalogue.now) result ≡ body_type_after
-        (signatures_of catalogue.now (Q.answer (Q.state correspondent.now)))
+        (signatures_of catalogue.now (Q.answer (Q.state correspondent.now)) phase)
         header.now Section.Header (noted_of true r) }
     ensures known { IsKnown catalogue.now result }
 {
@@ -101,9 +103,9 @@ fn header_body<Q: Correspondent>(
 #[tactic(auto, unfolding(crate::specs::Messages::members_of, crate::specs::Messages::type_if, crate::specs::Signatures::signatures_of))]
 fn members_body(catalogue: &Catalogue, header: &[u8], repository: Option<&[u8]>) -> BodyTypeId
     requires { length header.now ≡ 12 }
-    ensures is { (answer : Answer) →
+    ensures is { (answer : Answer) (phase : Phase) →
         body_type (in_version (minor header.now) catalogue.now) result ≡ type_if (members_of
-        (signatures_of catalogue.now answer) header.now
+        (signatures_of catalogue.now answer phase) header.now
         (option_map (λ x. x.now) repository.entry)) }
     ensures known { IsKnown catalogue.now result }
 {
@@ -141,8 +143,9 @@ fn result_body<Q: Correspondent>(
 ) -> BodyTypeId
     requires header { length header.now ≡ 12 }
     requires of { AreKnown catalogue.now (Q.answer (Q.state correspondent.now)) }
-    ensures is { body_type (in_version (minor header.now) catalogue.now) result ≡ result_body
-        (signatures_of catalogue.now (Q.answer (Q.state correspondent.now))) header.now id }
+    ensures is { (phase : Phase) →
+        body_type (in_version (minor header.now) catalogue.now) result ≡ result_body
+        (signatures_of catalogue.now (Q.answer (Q.state correspondent.now)) phase) header.now id }
     ensures known { IsKnown catalogue.now result }
 {
     let Some(id) = id else {
@@ -165,8 +168,9 @@ fn reply_body<Q: Correspondent>(
 ) -> BodyTypeId
     requires header { length header.now ≡ 12 }
     requires of { AreKnown catalogue.now (Q.answer (Q.state correspondent.now)) }
-    ensures is { body_type (in_version (minor header.now) catalogue.now) result ≡ reply_body
-        (signatures_of catalogue.now (Q.answer (Q.state correspondent.now)))
+    ensures is { (phase : Phase) →
+        body_type (in_version (minor header.now) catalogue.now) result ≡ reply_body
+        (signatures_of catalogue.now (Q.answer (Q.state correspondent.now)) phase)
         header.now id status }
     ensures known { IsKnown catalogue.now result }
 {
@@ -195,9 +199,9 @@ fn has_locate_bodies(catalogue: &Catalogue) -> bool
 #[tactic(auto, unfolding(crate::specs::Messages::locate_body, crate::specs::Signatures::signatures_of))]
 fn locate_body(catalogue: &Catalogue, header: &[u8], status: Option<u32>) -> BodyTypeId
     requires { length header.now ≡ 12 }
-    ensures is { (answer : Answer) →
+    ensures is { (answer : Answer) (phase : Phase) →
         body_type (in_version (minor header.now) catalogue.now) result
-        ≡ locate_body (signatures_of catalogue.now answer) status }
+        ≡ locate_body (signatures_of catalogue.now answer phase) status }
     ensures known { IsKnown catalogue.now result }
 {
     let Some(status) = status else {

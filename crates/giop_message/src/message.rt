@@ -1,7 +1,7 @@
 //! One joined message: what it has begun and not ended, and the calls that take its octets and
 //! close it.
 
-ghost use Rattle.std.specs.Prelude.{◌≡◌, ℕ, ◌+◌, ◌^◌, ◌<◌, ◌≤◌, true, false, List, [], length, take, IfOk, None};
+ghost use Rattle.std.specs.Prelude.{◌≡◌, ◌↔◌, IsTrue, ℕ, ◌+◌, ◌%◌, ◌^◌, ◌<◌, ◌≤◌, true, false, List, [], length, take, IfOk, None};
 ghost use Rattle.giop_print.specs.Output.{Writes};
 
 use crate::begin::{id_behind, idle};
@@ -20,6 +20,8 @@ pub struct Message {
     pub(crate) header: [u8; 12],
     // The request id, after the header that has it has ended.
     pub(crate) id: Option<u32>,
+    // What the offset of the next octet lacks of what padding is counted by, modulo 8.
+    pub(crate) lacks: u8,
     // The offset of the next octet.
     pub(crate) at: u64,
     pub(crate) part: Part,
@@ -27,11 +29,13 @@ pub struct Message {
     // decoder.
     pub(crate) decoder: Decoder,
     ghost begun: { 12 ≤ at },
+    ghost few: { lacks < 8 },
 }
 
 impl Message {
     ghost use Rattle.giop_message.specs.Signatures.{Answers, signatures_of};
     ghost use Rattle.giop_sig.specs.Table.{Table};
+    ghost use Rattle.giop_message.specs.Phases.{Phase, IsCounted, seamed};
     ghost use Rattle.giop_message.specs.Messages.{message, message_lines, stage_of, close};
     ghost use Rattle.giop_message.specs.MessageSteps.{last_rest_text, TookSome};
     ghost use Rattle.giop_message.specs.ReaderOfTable.{first_request_id};
@@ -41,8 +45,8 @@ impl Message {
 
     /// A message with this number, whose header has come.
     pub fn start(catalogue: &Catalogue, number: u64, header: [u8; 12]) -> Message
-        ensures follows { (answers : Answers) →
-            Follows catalogue.now answers number header result [] }
+        ensures follows { (answers : Answers) (phase : Phase) → IsCounted phase 0 12 →
+            Follows catalogue.now answers phase number header result [] }
         ensures fits { Fits catalogue.now result }
         ensures reach { reach result ≡ 12 }
     {
@@ -51,6 +55,7 @@ impl Message {
             header,
             id: None,
             at: 12,
+            lacks: 0,
             part: Part::Rest(Rest::new()),
             decoder: idle(catalogue),
         };
@@ -77,28 +82,32 @@ impl Message {
         // Let `answers` give the operations that the ids of each message answer, and let it agree
         // with the correspondent if the header ends in these octets. The lines of the octets that
         // the call takes are written, or a front of these lines;
-        ensures writes { (answers : Answers) (number : ℕ) (header s : List ℕ) →
-            Follows catalogue.now answers number header self.old s →
+        ensures writes { (answers : Answers) (phase : Phase) (number : ℕ) (header s : List ℕ) →
+            Follows catalogue.now answers phase number header self.old s →
             AgreesAtEnds Q.answer Q.notified catalogue.now (Q.state correspondent.old) answers
-            (header_ends number header s octets.now) →
+            (header_ends phase number header s octets.now) →
             TakesFront (λ went. went.0) (StaysUndue Q.due Q.notified catalogue.now
-            (Q.state correspondent.old) (header_ends number header s))
+            (Q.state correspondent.old) (header_ends phase number header s))
             (λ xs. Writes result (O.log out.old) (O.log out.new) (due_text
-            (signatures_of catalogue.now (answers number)) number place header s xs))
+            (signatures_of catalogue.now (answers number) phase) number place header s xs))
             result octets.now }
         // the message follows its old octets and these;
-        ensures took { IfOk result (λ went. (answers : Answers) (number : ℕ) (header s : List ℕ) →
-            Follows catalogue.now answers number header self.old s →
+        ensures took { IfOk result (λ went. (answers : Answers) (phase : Phase)
+            (number : ℕ) (header s : List ℕ) →
+            Follows catalogue.now answers phase number header self.old s →
             AgreesAtEnds Q.answer Q.notified catalogue.now (Q.state correspondent.old) answers
-            (header_ends number header s octets.now) →
-            TookSome catalogue.now answers number header self.new s octets.now went.0 went.1) }
+            (header_ends phase number header s octets.now) →
+            TookSome catalogue.now answers phase number header self.new s octets.now went.0
+            went.1) }
         // and the correspondent was told of the header, and of the exception that a Reply raises.
-        ensures told { IfOk result (λ went. (answers : Answers) (number : ℕ) (header s : List ℕ) →
-            Follows catalogue.now answers number header self.old s →
+        ensures told { IfOk result (λ went. (answers : Answers) (phase : Phase)
+            (number : ℕ) (header s : List ℕ) →
+            Follows catalogue.now answers phase number header self.old s →
             AgreesAtEnds Q.answer Q.notified catalogue.now (Q.state correspondent.old) answers
-            (header_ends number header s octets.now) →
+            (header_ends phase number header s octets.now) →
             Q.state correspondent.new ≡ after_ends Q.notified catalogue.now
-            (Q.state correspondent.old) (header_ends number header s (take went.0 octets.now))) }
+            (Q.state correspondent.old) (header_ends phase number header s
+            (take went.0 octets.now))) }
         // If octets are left, the correspondent is due. After a fault it isn't due, unless it was
         // due before the call.
         ensures due { IfOk result (λ went. went.1 ≡ false → went.0 < length octets.now →
@@ -131,6 +140,30 @@ impl Message {
         Ok((taken, false))
     }
 
+    /// The payload of a Fragment of 1.1 begins at the next octet: from there on padding, except that
+    /// in encapsulations, is counted from the Fragment's own first octet (GIOP Message Formats,
+    /// Fragment Message).
+    pub fn seam(&mut self)
+        ensures follows { (C : Table) (answers : Answers) (phase : Phase) (number : ℕ)
+            (header s : List ℕ) → Follows C answers phase number header self.old s →
+            Follows C answers (seamed phase (12 + length s)) number header self.new s }
+        ensures fits { (C : Table) → Fits C self.old → Fits C self.new }
+        ensures reach { reach self.new ≡ reach self.old }
+    {
+        self.lacks = ((12 - self.at % 8) % 8) as u8;
+        self.decoder.seam();
+    }
+
+    /// Whether padding after the octets that the message has taken is counted by the offset, as in a
+    /// message in one piece.
+    pub fn is_unbroken(&self) -> bool
+        ensures { (C : Table) (answers : Answers) (phase : Phase) (number : ℕ)
+            (header s : List ℕ) → Follows C answers phase number header self.now s →
+            IsTrue result ↔ (phase (12 + length s) % 8 ≡ (12 + length s) % 8) }
+    {
+        self.lacks == 0
+    }
+
     /// Closes the message at a place of the stream: writes what is left of its rest, and its end;
     /// or that the message is short. Returns whether it was short.
     pub fn close<O: Out>(
@@ -140,14 +173,15 @@ impl Message {
         out: &mut O,
     ) -> Result<bool, OutFault>
         requires fits { Fits catalogue.now self.now }
-        ensures writes { (answers : Answers) (number : ℕ) (header s : List ℕ) →
-            Follows catalogue.now answers number header self.now s →
+        ensures writes { (answers : Answers) (phase : Phase) (number : ℕ) (header s : List ℕ) →
+            Follows catalogue.now answers phase number header self.now s →
             Writes result (O.log out.old) (O.log out.new) (closing_text number place (close
-            (stage_of (message (signatures_of catalogue.now (answers number)) header s)))) }
-        ensures short { IfOk result (λ short. (answers : Answers) (number : ℕ) (header s : List ℕ) →
-            Follows catalogue.now answers number header self.now s →
+            (stage_of (message (signatures_of catalogue.now (answers number) phase) header s)))) }
+        ensures short { IfOk result (λ short. (answers : Answers) (phase : Phase)
+            (number : ℕ) (header s : List ℕ) →
+            Follows catalogue.now answers phase number header self.now s →
             short ≡ is_short (close (stage_of (message
-            (signatures_of catalogue.now (answers number)) header s)))) }
+            (signatures_of catalogue.now (answers number) phase) header s)))) }
     {
         if self.is_short(catalogue) {
             fault_line(out, self.number, "short", place)?;
@@ -162,10 +196,10 @@ impl Message {
     /// out a body that is needed.
     fn is_short(&self, catalogue: &Catalogue) -> bool
         requires { Fits catalogue.now self.now }
-        ensures { (answers : Answers) (number : ℕ) (header s : List ℕ) →
-            Follows catalogue.now answers number header self.now s →
+        ensures { (answers : Answers) (phase : Phase) (number : ℕ) (header s : List ℕ) →
+            Follows catalogue.now answers phase number header self.now s →
             result ≡ is_short (close (stage_of (message
-            (signatures_of catalogue.now (answers number)) header s))) }
+            (signatures_of catalogue.now (answers number) phase) header s))) }
     {
         match &self.part {
             Part::Typed(_) => true,
@@ -204,10 +238,10 @@ impl Message {
 
     /// The request id of the header, if it has come.
     pub fn request_id(&self) -> Option<u32>
-        ensures { (C : Table) (answers : Answers) (number : ℕ) (header s : List ℕ) →
-            Follows C answers number header self.now s
+        ensures { (C : Table) (answers : Answers) (phase : Phase) (number : ℕ) (header s : List ℕ) →
+            Follows C answers phase number header self.now s
             → result ≡ first_request_id (message_lines
-            (message (signatures_of C (answers number)) header s)) }
+            (message (signatures_of C (answers number) phase) header s)) }
     {
         match &self.part {
             Part::Typed(section) => id_behind(*section, &self.decoder, self.id),

@@ -1,6 +1,6 @@
 //! The request id with which the header of a message begins: what its octets add, and its line.
 
-ghost use Rattle.std.specs.Prelude.{◌≡◌, ◌<◌, ℕ, List, [], ◌∷◌, length, Some};
+ghost use Rattle.std.specs.Prelude.{◌≡◌, ◌<◌, ◌%◌, ℕ, List, [], ◌∷◌, length, Some};
 ghost use Rattle.giop_cdr.specs.Numbers.{num};
 ghost use Rattle.giop_print.specs.Output.{Writes};
 ghost use Rattle.giop_sig.specs.Types.{Ty};
@@ -8,6 +8,7 @@ ghost use Rattle.giop_sig.specs.Table.{Table};
 ghost use Rattle.giop_sig.specs.HeaderTypes.{BeginsWithId, header_type};
 ghost use Rattle.giop_message.specs.Headers.{minor, kind, order};
 ghost use Rattle.giop_message.specs.Text.{numbered_line};
+ghost use Rattle.giop_message.specs.Phases.{Phase};
 ghost use Rattle.giop_message.specs.Signatures.{Answers};
 ghost use Rattle.giop_message.specs.ReaderOfTable.{message_reader};
 ghost use Rattle.giop_message.specs.RequestId.{request_id_text, request_id_said};
@@ -19,12 +20,15 @@ use giop_print::{Line, Out, OutFault, Path, Position, Root, Value, value_line};
 /// other line. If the header begins with the id in version 1, it does so with each table. The
 /// function has no body; it is called for its contract.
 pub fn request_id_laws()
-    ensures few { (C : Table) (answers : Answers) (number : ℕ) (header : List ℕ) (T : Ty) →
-        header_type 1 (minor header) (kind header) ≡ Some T → BeginsWithId T →
-        (xs : List ℕ) → length xs < 4 → (message_reader C answers).reads number header xs ≡ [] }
-    ensures value { (C : Table) (answers : Answers) (number : ℕ) (header : List ℕ) (T : Ty) →
-        header_type 1 (minor header) (kind header) ≡ Some T → BeginsWithId T →
-        (a b c d : ℕ) → (message_reader C answers).reads number header (a ∷ b ∷ c ∷ d ∷ [])
+    ensures few { (C : Table) (answers : Answers) (phase : Phase)
+        (number : ℕ) (header : List ℕ) (T : Ty) →
+        header_type 1 (minor header) (kind header) ≡ Some T → BeginsWithId T → phase 12 % 4 ≡ 0 →
+        (xs : List ℕ) → length xs < 4 →
+        (message_reader C answers).reads phase number header xs ≡ [] }
+    ensures value { (C : Table) (answers : Answers) (phase : Phase)
+        (number : ℕ) (header : List ℕ) (T : Ty) →
+        header_type 1 (minor header) (kind header) ≡ Some T → BeginsWithId T → phase 12 % 4 ≡ 0 →
+        (a b c d : ℕ) → (message_reader C answers).reads phase number header (a ∷ b ∷ c ∷ d ∷ [])
         ≡ request_id_said (num (order header) (a ∷ b ∷ c ∷ d ∷ [])) ∷ [] }
 {}
 

@@ -29,6 +29,13 @@ fn is_after_header(at: u64) -> bool
     at >= 12
 }
 
+/// Whether an offset can lack this of what padding is counted by, modulo 8.
+fn is_lack(lacks: u8) -> bool
+    ensures { IsTrue result ↔ (lacks < 8) }
+{
+    lacks < 8
+}
+
 /// Whether a message that has taken `at` octets can have a rest with this many octets before its
 /// last part, and this many in it.
 fn is_rest(offset: u64, held: usize, at: u64) -> bool
@@ -220,6 +227,7 @@ impl Part {
 impl Message {
     ghost use Rattle.giop_message.specs.declared.message.Message.{Message as StoredMessage};
     ghost use Rattle.giop_message.specs.Signatures.{Answers};
+    ghost use Rattle.giop_message.specs.Phases.{Phase};
     ghost use Rattle.giop_message.specs.MessageState.{Fits, Follows};
     ghost use Rattle.giop_message.specs.Stored.{Stored};
 
@@ -241,11 +249,16 @@ impl Message {
         // The message follows each list of octets that the stored one follows.
         ensures follows { IfSome result (λ e. (m : StoredMessage) → Fits catalogue.now m →
             m.number ≡ number → m.header ≡ header → Stored m fixed.now frames.now →
-            (answers : Answers) (n : ℕ) (h s : List ℕ) → Follows catalogue.now answers n h m s →
-            Follows catalogue.now answers n h e s) }
+            (answers : Answers) (phase : Phase)
+            (n : ℕ) (h s : List ℕ) → Follows catalogue.now answers phase n h m s →
+            Follows catalogue.now answers phase n h e s) }
     {
         let at = eight_at(fixed, 1);
         if !is_after_header(at) {
+            return None;
+        }
+        let lacks = octet_at(fixed, 14);
+        if !is_lack(lacks) {
             return None;
         }
         let octets: [u8; 208] = octets_at(fixed, 16);
@@ -264,6 +277,7 @@ impl Message {
             header,
             id: optional_at(fixed, 9),
             at,
+            lacks,
             part,
             decoder,
         };

@@ -154,7 +154,8 @@ impl Message {
         out.push(self.part.octet());
         put_eight(&mut out, self.at);
         put_optional(&mut out, self.kept_id());
-        put_zeros(&mut out, 2);
+        out.push(self.lacks);
+        out.push(0);
         let mut octets = [0; 16];
         octets.copy_from_slice(out.as_slice());
         octets

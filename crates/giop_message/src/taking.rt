@@ -7,6 +7,7 @@ ghost use Rattle.giop_decode.specs.Noted.{noted_of};
 ghost use Rattle.giop_decode.specs.DecoderState.{KeepsNoted};
 ghost use Rattle.giop_message.specs.MessageSteps.{request_call};
 ghost use Rattle.giop_message.specs.Signatures.{Answer, signatures_of};
+ghost use Rattle.giop_message.specs.Phases.{Phase};
 
 use crate::body_type::BodyTypeId;
 use crate::correspondent::Correspondent;
@@ -29,10 +30,10 @@ fn call<O: Out>(
     out: &mut O,
 ) -> Result<(), OutFault>
     requires { length header.now ≡ 12 }
-    ensures { (answer : Answer) (r : MessageReader) →
+    ensures { (answer : Answer) (phase : Phase) (r : MessageReader) →
         KeepsNoted catalogue.now Root.Header decoder.now r →
         Writes result (O.log out.old) (O.log out.new) (request_call
-        (signatures_of catalogue.now answer) number header.now (noted_of true r)) }
+        (signatures_of catalogue.now answer phase) number header.now (noted_of true r)) }
 {
     if kind_of(header) != 0 {
         return Ok(());
@@ -73,12 +74,14 @@ impl Message {
         requires is { self.old.part ≡ Part.Padding body_type_id }
         requires known { IsKnown catalogue.now body_type_id }
         requires limit { self.old.at ≤ 2 ^ 48 }
-        ensures told { (answers : Answers) (number : ℕ) (header s : List ℕ) (octet : ℕ) →
-            Follows catalogue.now answers number header self.old s →
-            due (signatures_of catalogue.now (answers number)) header s (octet ∷ []) ≡ [] }
-        ensures follows { (answers : Answers) (number : ℕ) (header s : List ℕ) (octet : ℕ) →
-            Follows catalogue.now answers number header self.old s →
-            Follows catalogue.now answers number header self.new (s ++ octet ∷ []) }
+        ensures told { (answers : Answers) (phase : Phase)
+            (number : ℕ) (header s : List ℕ) (octet : ℕ) →
+            Follows catalogue.now answers phase number header self.old s →
+            due (signatures_of catalogue.now (answers number) phase) header s (octet ∷ []) ≡ [] }
+        ensures follows { (answers : Answers) (phase : Phase)
+            (number : ℕ) (header s : List ℕ) (octet : ℕ) →
+            Follows catalogue.now answers phase number header self.old s →
+            Follows catalogue.now answers phase number header self.new (s ++ octet ∷ []) }
         ensures fits { Fits catalogue.now self.new }
         ensures at { self.new.at ≡ self.old.at + 1 }
     {
@@ -108,21 +111,25 @@ impl Message {
         requires before { self.old.at ≤ place }
         requires limit { place + length octets.now ≤ 2 ^ 48 }
         ensures known { AreKnown catalogue.now (Q.answer (Q.state correspondent.new)) }
-        ensures writes { (answers : Answers) (number : ℕ) (header s : List ℕ) →
-            Follows catalogue.now answers number header self.old s →
-            TakesFront (λ went. went.0) (λ xs. header_ends number header s xs ≡ [])
+        ensures writes { (answers : Answers) (phase : Phase) (number : ℕ) (header s : List ℕ) →
+            Follows catalogue.now answers phase number header self.old s →
+            TakesFront (λ went. went.0) (λ xs. header_ends phase number header s xs ≡ [])
             (λ xs. Writes result (O.log out.old) (O.log out.new) (due_text
-            (signatures_of catalogue.now (answers number)) number place header s xs))
+            (signatures_of catalogue.now (answers number) phase) number place header s xs))
             result octets.now }
-        ensures took { IfOk result (λ went. (answers : Answers) (number : ℕ) (header s : List ℕ) →
-            Follows catalogue.now answers number header self.old s →
+        ensures took { IfOk result (λ went. (answers : Answers) (phase : Phase)
+            (number : ℕ) (header s : List ℕ) →
+            Follows catalogue.now answers phase number header self.old s →
             AgreesAtEnds Q.answer Q.notified catalogue.now (Q.state correspondent.old) answers
-            (header_ends number header s octets.now) →
-            TookSome catalogue.now answers number header self.new s octets.now went.0 went.1) }
-        ensures told { IfOk result (λ went. (answers : Answers) (number : ℕ) (header s : List ℕ) →
-            Follows catalogue.now answers number header self.old s →
+            (header_ends phase number header s octets.now) →
+            TookSome catalogue.now answers phase number header self.new s octets.now went.0
+            went.1) }
+        ensures told { IfOk result (λ went. (answers : Answers) (phase : Phase)
+            (number : ℕ) (header s : List ℕ) →
+            Follows catalogue.now answers phase number header self.old s →
             Q.state correspondent.new ≡ after_ends Q.notified catalogue.now
-            (Q.state correspondent.old) (header_ends number header s (take went.0 octets.now))) }
+            (Q.state correspondent.old) (header_ends phase number header s
+            (take went.0 octets.now))) }
         ensures same { IfOk result (λ went. went.1 ≡ true →
             Q.state correspondent.new ≡ Q.state correspondent.old) }
         ensures some { IfOk result (λ went. 0 < went.0) }

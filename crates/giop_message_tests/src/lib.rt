@@ -8,6 +8,8 @@ mod due;
 #[cfg(test)]
 mod expecting;
 #[cfg(test)]
+mod joined;
+#[cfg(test)]
 mod known;
 #[cfg(test)]
 mod raised;

@@ -13,7 +13,7 @@ use std::process::Abort;
 use std::str::Split;
 
 /// The message that is restored from what is stored of a message.
-fn again(catalogue: &Catalogue, message: &Message) -> Option<Message>
+pub fn again(catalogue: &Catalogue, message: &Message) -> Option<Message>
     ensures { IfSome result (λ m. Fits catalogue.now m) }
 {
     let mut fixed = [0; 224];
@@ -237,6 +237,7 @@ fn stored_differs(
 static WRONG: &str = r#"0 0 6 a part of no kind
 0 8 11 a next octet in the message header
 0 9 2 a request id that was neither said nor not
+0 14 8 an offset that lacks a whole alignment
 0 15 1 an octet without a use behind the id
 0 16 4 a body of no kind
 0 20 41 a type that the catalogue doesn't have

@@ -4,6 +4,7 @@ ghost use Rattle.giop_message.specs.MessageState.{AreOf};
 
 use crate::due::each_row_stops;
 use crate::expecting::{expect, expect_same};
+use crate::joined::each_is_joined;
 use crate::known::{built_in, third};
 use crate::raised::each_reply_tells;
 use crate::rows::named_rows;
@@ -80,6 +81,7 @@ fn each(rt: &impl Abort, catalogue: &Catalogue, requests: &Requests)
     each_row_stops(rt, catalogue);
     each_reply_tells(rt, catalogue);
     each_is_stored(rt, catalogue, requests);
+    each_is_joined(rt, catalogue, requests);
 }
 
 #[test]

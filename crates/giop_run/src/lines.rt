@@ -99,7 +99,9 @@ impl<W: Write + Drop> Out for Lines<W> {
     #[inline]
     fn put(&mut self, octets: &[u8]) -> Result<usize, OutFault> {
         if octets.len() > self.buffer.left() {
-            return self.put_behind(octets);
+            // An answer that is handed on whole is tested by the caller after the usual put too.
+            let taken = self.put_behind(octets)?;
+            return Ok(taken);
         }
         self.puts = one_more(self.puts);
         self.buffer.add(octets);

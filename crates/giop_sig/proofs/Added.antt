@@ -1,4 +1,4 @@
--- A catalogue stays a table when a type, an operation or an exception is added.
+-- A catalogue's table is still one after a type, an operation or an exception was added.
 use Rattle.std.proofs.Common.{◌≡◌, ◌⊎◌, inl, inr, ℕ, zero, suc, ◌+◌, ◌^◌, ◌<◌, ◌≤◌, Bool, true, false, cond, ◌||◌, ltb, List, [], ◌∷◌, ◌++◌, length, map, get_or, Option, Some, None, refl, sym, ap, subst, ◌∙◌, append_assoc, arith}
 use Rattle.std.specs.List.{AllByRecursion, position, position_or_len, list_any}
 use Rattle.giop_cdr.specs.declared.prim.Primitive.TheVariants.{Octet}
@@ -17,9 +17,8 @@ use Rattle.giop_sig.specs.declared.catalogue.Signature.{Signature}
 use Rattle.giop_sig.specs.Table as nodes
 use Rattle.giop_sig.specs.Table.{Node, Case, TakesOctet, node_in, Operation, Exception, Identity, Table, keyed_number, exception_in, members_at, identified_in, identity_at, no_operation, no_exception, no_identity, with_type, with_operation, with_exception, with_identity}
 use Rattle.giop_sig.specs.AnyTypes.{first_types}
-use Rattle.giop_sig.specs.HeaderTypes.{ArePlain, IsPlain, KnowsAnys, IsOperation, IsException, IsIdentity, AreDistinct, TableOf}
+use Rattle.giop_sig.specs.HeaderTypes.{ArePlain, IsAddable, IsPlain, KnowsAnys, IsOperation, IsException, IsIdentity, AreDistinct, TableOf}
 use Rattle.giop_sig.specs.Trees.{AreFormed, AreWide, IsWide, IsWidePart}
-use Rattle.giop_sig.proofs.Builtins.{wide_plain}
 use Rattle.giop_sig.proofs.Kept.{depth_stays}
 use Rattle.giop_sig.specs.Entries.{operation_view, exception_view, identity_view}
 
@@ -37,7 +36,7 @@ identified_stays : (types : List Node) (n : Node) (e : Identity) → IsIdentity 
     → IsIdentity (types ++ n ∷ []) e
 identified_stays types n e is = search (arith, length-append)
 
--- what a TypeCode holds has the same nodes and depths
+-- the parts of a TypeCode keep their nodes and depths
 wide_part_stays : (types : List Node) (n : Node) (i : ℕ) → AreFormed types → IsWidePart types i
     → IsWidePart (types ++ n ∷ []) i
 wide_part_stays types n i are is =
@@ -63,18 +62,33 @@ wide_stays types n (nodes.typecode wide kind cases) are is =
     (recursion_from_All (λ (c : Case). IsWidePart types c.part.type) cases is))
 wide_stays types n _ are is = tt
 
-wide_added : (types : List Node) (n : Node) (i : ℕ) → AreFormed types → AreWide types → IsPlain n
-    → i < length (types ++ n ∷ []) → (i < length types) ⊎ (length types ≤ i)
+-- a node that a declaration may add has no parts that need much room
+addable_wide : (version : ℕ) (types : List Node) (n : Node) → IsAddable version n → IsWide types n
+addable_wide version types (nodes.announced place) addable = tt
+addable_wide version types (nodes.recursive bound element) addable = tt
+addable_wide version types (nodes.any code) addable = tt
+addable_wide version types (nodes.typecode wide kind cases) addable = absurd addable
+addable_wide version types _ addable = tt
+
+-- a node that a declaration may add isn't plain in version 3 alone
+addable_plain : (version : ℕ) (n : Node) → (version ≡ 3 → ⊥) → IsAddable version n → IsPlain n
+addable_plain version (nodes.announced place) other addable = absurd (other addable)
+addable_plain version (nodes.recursive bound element) other addable = absurd (other addable)
+addable_plain version _ other addable = addable
+
+wide_added : (types : List Node) (n : Node) (i : ℕ) → AreFormed types → AreWide types
+    → IsWide (types ++ n ∷ []) n → i < length (types ++ n ∷ []) → (i < length types) ⊎
+    (length types ≤ i)
     → IsWide (types ++ n ∷ []) (node_in (types ++ n ∷ []) i)
-wide_added types n i are wide plain lt (inl below) =
+wide_added types n i are wide last lt (inl below) =
     subst (IsWide (types ++ n ∷ []))
     (sym (get_or_append_left types (n ∷ []) (nodes.prim Octet) i below))
     (wide_stays types n (node_in types i) are (wide i below))
-wide_added types n i are wide plain lt (inr above) =
-    let last : length types ≡ i = omega (arith, length-append types (n ∷ [])) in
-    subst (λ k. IsWide (types ++ n ∷ []) (node_in (types ++ n ∷ []) k)) last
+wide_added types n i are wide last lt (inr above) =
+    let at : length types ≡ i = omega (arith, length-append types (n ∷ [])) in
+    subst (λ k. IsWide (types ++ n ∷ []) (node_in (types ++ n ∷ []) k)) at
     (subst (IsWide (types ++ n ∷ [])) (sym (get_or-append_seam types n [] (nodes.prim Octet)))
-    (wide_plain (types ++ n ∷ []) n plain))
+    last)
 
 plain_added : (types : List Node) (n : Node) (i : ℕ) → ArePlain types → IsPlain n
     → i < length (types ++ n ∷ []) → (i < length types) ⊎ (length types ≤ i)
@@ -86,20 +100,22 @@ plain_added types n i are plain lt (inr above) =
     subst (λ k. IsPlain (node_in (types ++ n ∷ []) k)) last
     (subst IsPlain (sym (get_or-append_seam types n [] (nodes.prim Octet))) plain)
 
--- a type that a file declares has nothing to do with an any
+-- a type that a declaration adds has nothing to do with anys
 anys_stay : (version : ℕ) (types : List Node) (fronts : List (List ℕ)) (n : Node) → AreFormed types
-    → KnowsAnys version types fronts → IsPlain n → KnowsAnys version (types ++ n ∷ []) fronts
-anys_stay version types fronts n are laws plain = record {
-  plain = λ other i lt. plain_added types n i (laws.plain other) plain lt
-      (cases_lt i (length types));
-  wide = λ i lt. wide_added types n i are laws.wide plain lt (cases_lt i (length types));
+    → KnowsAnys version types fronts → IsAddable version n
+    → KnowsAnys version (types ++ n ∷ []) fronts
+anys_stay version types fronts n are laws addable = record {
+  plain = λ other i lt. plain_added types n i (laws.plain other)
+      (addable_plain version n other addable) lt (cases_lt i (length types));
+  wide = λ i lt. wide_added types n i are laws.wide
+      (addable_wide version (types ++ n ∷ []) n addable) lt (cases_lt i (length types));
   short = laws.short;
   few = laws.few;
 }
 
-pub type_added : (t : Table) (n : Node) → TableOf AreFormed t → IsPlain n
+pub type_added : (t : Table) (n : Node) → TableOf AreFormed t → IsAddable t.version n
     → AreFormed (t.types ++ n ∷ []) → TableOf AreFormed (with_type t n)
-type_added t n laws plain are = record {
+type_added t n laws addable are = record {
   types = are;
   begins = (
     laws.begins.0 ++ n ∷ [],
@@ -118,10 +134,10 @@ type_added t n laws plain are = record {
       identified_stays t.types n (get_or t.identities k d) (laws.identities k d lt);
   identities_distinct = laws.identities_distinct;
   interfaces_few = laws.interfaces_few;
-  anys = anys_stay t.version t.types t.fronts n laws.types laws.anys plain;
+  anys = anys_stay t.version t.types t.fronts n laws.types laws.anys addable;
 }
 
--- ---- a new key goes last
+-- ---- a new key comes last
 
 ltb_both : (v : Bool) (a b : ℕ) → ltb a b ≡ v → ltb (1 + a) (suc b) ≡ v
 ltb_both true a b e = search (arith, lt-ltb, ltb-true)
@@ -151,7 +167,7 @@ pub list_any-map : {X Y : Type 0} (p : Y → Bool) (f : X → Y) (xs : List X)
 list_any-map p f [] = refl
 list_any-map p f (x ∷ xs) = search (arith, list_any-map p f xs)
 
-neither : (a b : Bool) → (a || b) ≡ false → (a ≡ false) × (b ≡ false)
+pub neither : (a b : Bool) → (a || b) ≡ false → (a ≡ false) × (b ≡ false)
 neither true b e = absurd cc
 neither false b e = (refl, e)
 
@@ -168,7 +184,7 @@ none_before f (Some x) e = absurd cc
 abbrev same_key : ArrayVec ℕ → ArrayVec ℕ → Bool
 same_key a b = bytes_eq a.items b.items
 
--- the entries after a new name is put
+-- the entries after a new name was put
 entries_put : {V X : Type 0} (view : ArrayVec ℕ × V → X) (name_in : X → List ℕ)
     (es new : List (ArrayVec ℕ × V)) (key : ArrayVec ℕ) (v : V) (name : List ℕ) → key.items ≡ name
     → ((e : ArrayVec ℕ × V) → name_in (view e) ≡ (e.0).items)
@@ -256,7 +272,7 @@ operation_added t o laws call new few = record {
   anys = laws.anys;
 }
 
--- the table after a new operation is put
+-- the table after a new operation was put
 pub operation_put : (here : Table) (os new : List (ArrayVec ℕ × Signature)) (t : Table)
     (key : ArrayVec ℕ) (s : Signature) (name : List ℕ) → here.operations ≡ map operation_view os
     → here ≡ t → key.items ≡ name → keyed_number t name ≡ None
@@ -302,7 +318,7 @@ exception_added t e laws raised new few = record {
   anys = laws.anys;
 }
 
--- the table after a new exception is put
+-- the table after a new exception was put
 pub exception_put : (here : Table) (es new : List (ArrayVec ℕ × TypeId)) (t : Table)
     (key : ArrayVec ℕ) (m : TypeId) (name : List ℕ) → here.exceptions ≡ map exception_view es
     → here ≡ t → key.items ≡ name → exception_in t name ≡ None
@@ -348,7 +364,7 @@ identity_added t e laws identified new = record {
   anys = laws.anys;
 }
 
--- the table after a new repository id is put
+-- the table after a new repository id was put
 pub identity_put : (here : Table) (es new : List (ArrayVec ℕ × TypeId)) (t : Table)
     (key : ArrayVec ℕ) (m : TypeId) (name : List ℕ) → here.identities ≡ map identity_view es
     → here ≡ t → key.items ≡ name → identified_in t name ≡ None

@@ -1,7 +1,7 @@
--- The types of each version are a table, shown by computed tests, and every catalogue begins with
+-- The types of each version are a table, which computed tests show, and each catalogue begins with
 -- those of its version.
 use Rattle.std.proofs.Common.{◌≡◌, ℕ, zero, suc, ◌+◌, ◌-◌, ◌^◌, ◌<◌, ◌≤◌, Bool, true, false, ◌&&◌, ltb, leb, List, [], ◌∷◌, ◌++◌, length, map, get_or, Option, Some, None, refl, sym, ap, ◌∙◌, subst, take, lit<, lit≤, arith}
-use Rattle.std.specs.Prelude.{slice_get, IfSome, cond, ◌==◌}
+use Rattle.std.specs.Prelude.{slice_get, IfSome, cond, not, ◌==◌}
 use Rattle.std.specs.Option.{option_map}
 use Rattle.std.specs.List.{AllByRecursion}
 use Rattle.std.proofs.lemmas.Bool.{eqb-true, ltb-true, ltb-false, leb-true}
@@ -16,7 +16,7 @@ use Rattle.giop_sig.specs.declared.numbers.TheConstants.{BUILTIN_LEN, CODE_SETS,
 use Rattle.giop_sig.specs.Fits.{IsFit}
 use Rattle.giop_sig.specs.Table.{Node, Part, Case, Table, node_in, takes_octet, IsFormed, IsInner, IsPart, IsSwitch, TakesOctet, IsScalarNode}
 use Rattle.giop_sig.specs.Table as nodes
-use Rattle.giop_sig.specs.Trees.{tree, depth_at, depth_in, depth_of, wide_room, AreFormed, AreTypes, AreWide, IsWide, IsWidePart}
+use Rattle.giop_sig.specs.Trees.{tree, depth_at, depth_in, depth_of, wide_room, AreFormed, AreTypes, AreWide, IsSettled, IsWide, IsWidePart}
 use Rattle.giop_sig.specs.Heard.{first_fronts}
 use Rattle.giop_sig.specs.Builtin.{builtin_types, compound_types, leaf_types, named_types, number_in, older, renumbered}
 use Rattle.giop_sig.specs.AnyTypes.{any_types, first_table, first_types, third_types}
@@ -108,7 +108,7 @@ names_by [] e = tt
 names_by (x ∷ xs) e = let k = both (leb (length x) 64) (names_test xs) e in
     (leb-true (length x) 64 k.0, names_by xs k.1)
 
--- a union is formed by this test only where it has no default
+-- this test finds a union well formed only if it has no default
 node_test : List Node → ℕ → Node → Bool
 node_test types n (nodes.enumeration names) = leb (length names) 1024 && names_test names
 node_test types n (nodes.members parts) = leb (length parts) 256 && parts_test types n parts
@@ -121,6 +121,7 @@ node_test types n (nodes.encapsulation held) = inner_test types n held
 node_test types n (nodes.tagged special tag inner other) =
     switch_test types n tag.type && parts_test types n (tag ∷ inner ∷ other ∷ [])
 node_test types n (nodes.any code) = inner_test types n code
+node_test types n (nodes.recursive bound element) = false
 node_test types n (nodes.typecode wide kind cases) =
     switch_test types n kind && (leb (length cases) 256 && narrow_test types n wide cases)
 node_test types n _ = true
@@ -159,6 +160,7 @@ node_by types n (nodes.tagged special tag inner other) e =
     let p = parts_by types n (tag ∷ inner ∷ other ∷ []) k.1 in
     (switch_by types n tag.type k.0, p.0, p.1.0, p.1.1.0)
 node_by types n (nodes.any code) e = inner_by types n code e
+node_by types n (nodes.recursive bound element) e = absurd cc
 node_by types n (nodes.typecode wide kind cases) e =
     let k = both (switch_test types n kind)
     (leb (length cases) 256 && narrow_test types n wide cases) e in
@@ -185,7 +187,7 @@ table_by types n (x ∷ xs) (suc i) k e lt at =
 
 -- ---- the types of each version
 
--- the deepest of each version is the header of a 1.2 request
+-- the deepest type of each version is the header of a 1.2 request
 builtin_depth : depth_of builtin_types ≡ 9
 unfolding depth_of depth_at builtin_types
 builtin_depth = refl
@@ -222,11 +224,42 @@ are_by false = record {
   formed = λ i lt. table_by builtin_types 0 builtin_types i i builtin_test lt (omega arith);
 }
 
--- they are a table
+-- none of the types is recursive
+unfoldable pub is_recursive : Node → Bool
+is_recursive (nodes.recursive bound element) = true
+is_recursive node = false
+
+unfoldable pub none_recursive : List Node → Bool
+none_recursive [] = true
+none_recursive (n ∷ ns) = not (is_recursive n) && none_recursive ns
+
+settled_by : (types : List Node) (node : Node) → not (is_recursive node) ≡ true
+    → IsSettled types node
+unfolding is_recursive
+settled_by types (nodes.recursive bound element) e = absurd cc
+settled_by types _ e = tt
+
+none_settled : (types ns : List Node) (i : ℕ) → none_recursive ns ≡ true → i < length ns
+    → IsSettled types (node_in ns i)
+unfolding none_recursive
+none_settled types [] i e lt = absurd (omega arith)
+none_settled types (n ∷ ns) zero e lt =
+    settled_by types n (both (not (is_recursive n)) (none_recursive ns) e).0
+none_settled types (n ∷ ns) (suc i) e lt =
+    none_settled types ns i (both (not (is_recursive n)) (none_recursive ns) e).1 (omega arith)
+
+pub first_none : (v : Bool) → none_recursive (cond v third_types builtin_types) ≡ true
+unfolding none_recursive is_recursive builtin_types third_types any_types
+first_none true = refl
+first_none false = refl
+
+-- the first types are those of a table
 pub first_are : (version : ℕ) → AreTypes (first_types version)
 first_are version = record {
   placed = are_by (version == 3);
   shallow = omega (arith, first_depth version);
+  settled = λ i lt. none_settled (first_types version) (first_types version) i
+      (first_none (version == 3)) lt;
 }
 
 pub first_shallow : (version : ℕ) → depth_of (first_types version) ≤ 24
@@ -248,13 +281,15 @@ more_by true false on = let e = on refl in absurd cc
 more_by false true on = lit≤ tt
 more_by false false on = lit≤ tt
 
--- ---- what they have to do with an any
+-- ---- which of the types have to do with anys
 
 plain_test : Node → Bool
 plain_test nodes.wide_text = false
 plain_test nodes.wide_char = false
 plain_test (nodes.marked mark) = false
 plain_test (nodes.any code) = false
+plain_test (nodes.announced place) = false
+plain_test (nodes.recursive bound element) = false
 plain_test (nodes.typecode wide kind cases) = false
 plain_test node = true
 
@@ -264,6 +299,8 @@ plain_by nodes.wide_text e = absurd cc
 plain_by nodes.wide_char e = absurd cc
 plain_by (nodes.marked mark) e = absurd cc
 plain_by (nodes.any code) e = absurd cc
+plain_by (nodes.announced place) e = absurd cc
+plain_by (nodes.recursive bound element) e = absurd cc
 plain_by (nodes.typecode wide kind cases) e = absurd cc
 plain_by _ e = tt
 
@@ -278,7 +315,7 @@ all_plain_by (x ∷ xs) e zero lt = search (arith, both, plain_by)
 all_plain_by (x ∷ xs) e (suc i) lt = let k = both (plain_test x) (all_plain_test xs) e in
     all_plain_by xs k.1 i (omega arith)
 
--- no type of versions 1 and 2 has to do with an any
+-- no type of versions 1 and 2 has to do with anys
 builtin_plain : ArePlain builtin_types
 unfolding all_plain_test plain_test builtin_types
 builtin_plain = all_plain_by builtin_types refl
@@ -403,9 +440,9 @@ first_is version = let is = builtin_is version in record {
   anys = is.anys;
 }
 
--- ---- the types from their front
+-- ---- the first types, one by one
 
--- the next one can be added
+-- the next type can be added
 pub next_formed : (all : List Node) (n : ℕ) (types : List Node) (node : Node) → AreFormed all
     → n < length all → types ≡ take n all → node ≡ node_in all n
     → IsFormed types (length types) node
@@ -422,7 +459,7 @@ pub next_few : (all : List Node) (n : ℕ) (types : List Node) → AreFormed all
 next_few all n types are lt front =
     omega (arith, ap length front, length-take-le n all (omega arith), are.few)
 
--- those after the built-in ones
+-- the types after the built-in ones
 pub third_node : (n : ℕ) → BUILTIN_LEN ≤ n
     → node_in third_types n ≡ node_in any_types (n - BUILTIN_LEN)
 unfolding third_types
@@ -434,7 +471,7 @@ third_same : map (renumbered (λ n. n)) third_types ≡ third_types
 unfolding third_types any_types
 third_same = refl
 
--- a type is that of version 3, with the numbers of its version
+-- a type of version 3, with the numbers of its version
 numbered_third : (n : ℕ) → n < length third_types
     → renumbered (λ n. n) (node_in third_types n) ≡ node_in third_types n
 numbered_third n lt =
@@ -448,7 +485,7 @@ numbered_older n lt =
     get_or-map (renumbered older) (leaf_types ++ compound_types) n (nodes.prim Octet)
     (nodes.prim Octet) lt
 
--- the same number in each version
+-- types with the same number in each version
 leaf_by : (n : ℕ) → n < CONTEXT_ID
     → node_in third_types n ≡ node_in (leaf_types ++ compound_types) n
 unfolding third_types
@@ -457,7 +494,7 @@ leaf_by n lt =
     lt
     ∙ sym (get_or_append_left leaf_types compound_types (nodes.prim Octet) n lt)
 
--- 4 more in version 3
+-- types whose number is greater by 4 in version 3
 later_by : (n : ℕ) → CONTEXT_ID ≤ n → n < length builtin_types
     → node_in third_types (n + 4) ≡ node_in (leaf_types ++ compound_types) n
 unfolding third_types builtin_types
@@ -504,7 +541,7 @@ pub in_third : (version n : ℕ) → (version == 3) ≡ true → n < length (fir
     → renumbered (number_in version) (node_in third_types n) ≡ node_in (first_types version) n
 in_third version n third lt = third_by (version == 3) n third lt
 
--- and in another
+-- the type of a number in another version
 pub in_older : (version k n : ℕ) → (version == 3) ≡ false
     → renumbered older (node_in third_types k) ≡ node_in builtin_types n
     → renumbered (number_in version) (node_in third_types k) ≡ node_in (first_types version) n
@@ -517,9 +554,9 @@ pub known_older : (version n : ℕ) → (version == 3) ≡ false → n < length 
     → n < length builtin_types
 known_older version n other lt = known_by (version == 3) n other lt
 
--- ---- in every catalogue
+-- ---- in each catalogue
 
--- how many types of a version were before anys
+-- how many types of a version are before those of anys
 abbrev pub builtin_len : ℕ → ℕ
 builtin_len version = number_in version BUILTIN_LEN
 
@@ -561,19 +598,21 @@ unfolding all_take_test builtin_types third_types any_types
 takes_by_version true i lt = all_take_by third_types i refl lt
 takes_by_version false i lt = all_take_by builtin_types i refl lt
 
--- each takes some octet
+-- each of the first types takes an octet
 pub first_takes : (version i : ℕ) → i < length (first_types version)
     → TakesOctet (node_in (first_types version) i)
 first_takes version i lt = takes_by_version (version == 3) i lt
 
 steady_test : Node → Bool
 steady_test (nodes.any code) = false
+steady_test (nodes.recursive bound element) = false
 steady_test (nodes.typecode wide kind cases) = false
 steady_test node = true
 
 steady_by : (node : Node) → steady_test node ≡ true → IsSteady node
 unfolding steady_test
 steady_by (nodes.any code) e = absurd cc
+steady_by (nodes.recursive bound element) e = absurd cc
 steady_by (nodes.typecode wide kind cases) e = absurd cc
 steady_by _ e = tt
 
@@ -623,7 +662,7 @@ less_by false n lt = older_less (ltb n CONTEXT_ID) (ltb n CODE_SETS) n refl refl
 number_less : (version n : ℕ) → n < BUILTIN_LEN → number_in version n < builtin_len version
 number_less version n lt = less_by (version == 3) n lt
 
--- the types of a version that a file's types can have for parts: those of the same number in each
+-- the first types that a file's types may have as parts: those with the same number in each version
 least_by : (v : Bool) → 41 ≤ length (cond v third_types builtin_types)
 unfolding builtin_types third_types any_types
 least_by true = lit≤ tt
@@ -632,12 +671,12 @@ least_by false = lit≤ tt
 pub first_leaf : (version k : ℕ) → k < CONTEXT_ID → k < length (first_types version)
 first_leaf version k lt = omega (arith, least_by (version == 3))
 
--- built-in ones
+-- built-in types are known
 pub first_known : (version k : ℕ) → k < BUILTIN_LEN
     → number_in version k < length (first_types version)
 first_known version k lt = omega (arith, number_less version k lt, first_front version)
 
--- and in version 3 all
+-- in version 3 all first types are known
 whole_by : (v : Bool) → v ≡ true → length (cond v third_types builtin_types) ≡ THIRD_LEN
 unfolding third_types any_types
 whole_by true third = refl
@@ -647,7 +686,7 @@ pub first_third : (version k : ℕ) → (version == 3) ≡ true → k < THIRD_LE
     → k < length (first_types version)
 first_third version k third lt = omega (arith, whole_by (version == 3) third)
 
--- what is before anys has the same tree in each catalogue of its version
+-- a type before those of anys has the same tree in each catalogue of its version
 pub builtin_tree : (t : Table) (i : ℕ) → IsTable t → i < builtin_len t.version
     → tree t i ≡ tree (first_table t.version) i
 builtin_tree t i laws lt =
@@ -714,7 +753,7 @@ header_tree : (t : Table) (o : Option ℕ) → IsTable t
 header_tree t None laws lt = refl
 header_tree t (Some n) laws lt = ap Some (builtin_tree t n laws lt)
 
--- what holds of a number holds of what has that number
+-- what is true of a number is true of what has that number
 pub some_numbered : {X Y : Type 0} (P : Y → Type 0) (f : X → Y) (r : Option X) (o : Option Y)
     → option_map f r ≡ o → IfSome o P → IfSome r (λ x. P (f x))
 some_numbered P f None o e h = tt
@@ -744,7 +783,7 @@ header_found t f r minor kind laws e =
     ∙ header_tree t (header_number t.version minor kind) laws
     (header_built_in t.version minor kind)
 
--- no catalogue is less deep than its built-in types
+-- each catalogue is at least as deep as its built-in types
 pub least_depth : (t : Table) → IsTable t → 9 ≤ depth_of t.types
 least_depth t laws = let b = laws.begins in
     subst (λ types. 9 ≤ depth_of types) (sym b.1)

@@ -30,10 +30,9 @@ use Rattle.giop_sig.proofs.PlaceLaws.{Within, Grown, within_same, within_on, ite
 use Rattle.giop_sig.proofs.ReadingLaws.{Out, good, broken, out_bind, out_more, Apart, if_apart}
 use Rattle.giop_sig.proofs.TypeLaws.{is_not, type_reads}
 use Rattle.giop_sig.proofs.ItemLaws.{made_item, item_reads, some_none, unused_reads, end_reads}
-use Rattle.giop_sig.proofs.ItemTaken.{none_of, TakenEnd, end_takes}
+use Rattle.giop_sig.proofs.ItemTaken.{none_of, TakenDeclaration, TakenEnd, end_takes}
 use Rattle.giop_sig.proofs.RepeatLaws.{step_first}
 use Rattle.giop_sig.proofs.CallTaken.{TakenReturn, return_takes, then_run, OperationTaken, new_operation_takes, TakenList, list_takes}
-use Rattle.giop_sig.proofs.DeclaredLaws.{TakenDeclaration}
 use Rattle.giop_sig.proofs.VariantLaws.{interface_reads, interface_takes, new_key_takes, listed_reads, TakenListed, listed_takes, IsAllowedList, list_free}
 use Rattle.giop_sig.specs.Interfaces.{is_key, of_text}
 
@@ -43,7 +42,7 @@ abbrev NoVoid : List Token → Type 0
 NoVoid [] = Unit {0}
 NoVoid (t ∷ ts) = is_the_word (codes "void") t ≡ false
 
-no_void : (e : TypeExpr) (names : Names) (more : List Token) → OfType kinds.Syntax names e
+no_void : (e : TypeExpr) (names : Names) (more : List Token) → OfType kinds.Syntax false names e
     → NoVoid (spell_type e more)
 unfolding OfType is_reserved
 no_void (Base prims.Octet) names more free = refl
@@ -72,7 +71,7 @@ if_no_void : (text : List ℕ) (t : Token) (ts : List Token) → is_the_word (co
 if_no_void text t ts differs h = search (arith, if_other)
 
 type_no_void : (e : TypeExpr) (names : Names) (text : List ℕ) (more : List Token)
-    → OfType kinds.Syntax names e → AreTokens text (spell_type e more)
+    → OfType kinds.Syntax false names e → AreTokens text (spell_type e more)
     → keyword_if (codes "void") text ≡ Ok None
 type_no_void (Base p) names text more free h =
     if_no_void text (word (base_word p)) more (no_void (Base p) names more free) h
@@ -169,7 +168,7 @@ unfolding direction_at
 direction_again d text more h = rw (word_again text (direction_word d) more h, direction_word_of d)
     refl
 
--- the tokens after a parameter and its mark, and whether that closes
+-- the tokens after a parameter and its mark, and whether that is the closing one
 abbrev after_param : List Param → List Token → List Token
 after_param [] more = more
 after_param (p ∷ ps) more = spell_param p (spell_more_params ps more)

@@ -131,7 +131,7 @@ pub direction_takes : (text : List ℕ) (x : Direction × List ℕ) → directio
 unfolding direction_at
 direction_takes text x e = search (arith, bind_ok, as_by, word_takes)
 
--- a member more, or none
+-- one more member, or none
 request_more : (d : Direction) (p : Part) (ps : List Part)
     → length (in_request d p ps) ≤ length ps + 1
 request_more directions.Out p ps = omega arith
@@ -156,7 +156,7 @@ pub record SoundWays (x : ParamsRead) : Type 0 where
   pub request : AreParts x.0 x.1
   pub reply : AreParts x.0 x.2
 
--- the parameters that were read after others; the first has no comma before it
+-- the parameters that were read after others; no comma comes before the first
 pub record TakenParams (w : ParameterLists) (s : Scope) (text : List ℕ) (x : ParamsRead) : Type 0
   where
     pub first : Param
@@ -305,7 +305,7 @@ pub list_takes : (returned : List Part) (s : Scope) (text : List ℕ) (x : Param
 unfolding params_at
 list_takes returned s text x e = search (arith, bind_ok, list_by)
 
--- ---- what the code asks
+-- ---- what the code requires
 
 -- the structs of an operation can be added
 pub record CallReady (s : Scope) (m : ParamsRead) : Type 0 where
@@ -327,7 +327,7 @@ call_ready s text o t m e f is =
           l.grows;
     }
 
--- what could be added can be added after another struct
+-- what could be added can still be added after another struct
 pub parts_on : (s : Scope) (n : Node) (ps : List Part) → (length ps ≤ 256) × AreParts s ps
     → (length ps ≤ 256) × AreParts (with_node s n).0 ps
 parts_on s n ps both = search (arith, parts_stay, node_grows)

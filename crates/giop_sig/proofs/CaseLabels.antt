@@ -1,4 +1,4 @@
--- The list of a union's labels: what is in it, and what is found in it.
+-- The list of a union's labels: what it has, and what is found in it.
 use Rattle.std.proofs.Common.{◌≡◌, ℕ, zero, suc, ◌+◌, ◌<◌, ◌≤◌, ◌-◌, Bool, true, false, ◌||◌, not, List, [], ◌∷◌, ◌++◌, length, get_or, map, take, Option, Some, None, refl, sym, ap, subst, ◌∙◌, ◌⊎◌, ⊎_elim, arith}
 use Rattle.std.specs.List.{list_any, position, Contains}
 use Rattle.std.specs.List.Sorted.{IsPermutation, IsNonDecreasingBy}
@@ -16,7 +16,7 @@ use Rattle.giop_sig.specs.Table.{Case, same_number, case_with}
 use Rattle.giop_sig.specs.UnionCases.{case_view, key_of, Rise, placed, AreLabels}
 use Rattle.giop_sig.proofs.NumberLaws.{number_same, number_self}
 
--- ---- the first that passes, of a list with one element more
+-- ---- the first element that passes, in a list with one more element
 
 none_before : {X : Type 0} (p : X → Bool) (xs : List X) (x : X)
     → position p (xs ++ x ∷ []) ≡ None → position p xs ≡ None
@@ -55,7 +55,7 @@ own_there : (n : Number) (i : ℕ) (ns : List Number)
 own_there n i [] e = absurd cc
 own_there n i (m ∷ ns) e = own_there_by n i m ns (same_number m n) refl (own_there n i ns) e
 
--- and each of its labels selects it
+-- each of the labels of a case selects it
 own_selects : (i : ℕ) (ns : List Number) (k : ℕ) (d : PlacedLabel) → k < length (map (placed i) ns)
     → list_any (λ label. same_number label (get_or (map (placed i) ns) k d).number) ns ≡ true
 own_selects i [] k d lt = absurd (omega arith)
@@ -106,7 +106,7 @@ labels_step es i e ls ms lt is more =
     (subst (AreLabels (map case_view (take i es) ++ case_view (get_or es i e) ∷ [])) labels
     (one_case_more (map case_view (take i es)) (case_view (get_or es i e)) ls is))
 
--- their order is free
+-- the order of the labels doesn't matter
 pub in_any_order : (cs : List Case) (ls ms : List PlacedLabel) → IsPermutation ls ms
     → AreLabels cs ls → AreLabels cs ms
 in_any_order cs ls ms same is = record {
@@ -114,13 +114,13 @@ in_any_order cs ls ms same is = record {
   whole = λ n i e. Contains-permutation ls ms (placed i n) same (is.whole n i e);
 }
 
--- ---- labels that rise
+-- ---- labels whose keys ascend
 
 pub rise_weakly : (ls : List PlacedLabel) → Rise ls →
     IsNonDecreasingBy (λ (l : PlacedLabel). key_of l.number) ls
 rise_weakly ls rise i j d le lt = search (arith, get_or, cases_lt)
 
--- the first so many rise
+-- the first n keys ascend
 abbrev pub RiseTo : List PlacedLabel → ℕ → Type 0
 RiseTo ls n = (i j : ℕ) (d : PlacedLabel) → i < j → j < n → j < length ls
     → key_of (get_or ls i d).number < key_of (get_or ls j d).number
@@ -144,7 +144,7 @@ rise_further ls n e some lt above rise i j d less within inside = ⊎_elim
 
 -- ---- what is found
 
--- two places of labels with one key are one
+-- labels with the same key are at the same place
 one_place : (ls : List PlacedLabel) (i j : ℕ) (d : PlacedLabel) → Rise ls → i < length ls →
     j < length ls
     → key_of (get_or ls i d).number ≡ key_of (get_or ls j d).number → i ≡ j

@@ -1,6 +1,6 @@
 -- Structs and exceptions, both ways: reading the spelling of one gives it or a rule that it breaks,
 -- and the text that was read spells it.
-use Rattle.std.proofs.Common.{◌≡◌, ℕ, ◌≤◌, false, List, [], ◌∷◌, length, Option, None, Ok, refl, sym, subst, arith}
+use Rattle.std.proofs.Common.{◌≡◌, ℕ, ◌≤◌, Bool, true, false, cond, List, [], ◌∷◌, length, Option, Some, None, Ok, refl, sym, subst, arith}
 use Rattle.std.specs.Prelude.{codes}
 use Rattle.std.specs.Option.{is_some}
 use Rattle.std.proofs.lemmas.Bool.{false≢true}
@@ -10,21 +10,22 @@ use Rattle.giop_tokens.specs.Tokens.{Token, word, repository, mark, left_of, Are
 use Rattle.giop_tokens.specs.Reading.{◌>>=◌}
 use Rattle.giop_tokens.specs.Readers.{mark_at}
 use Rattle.giop_tokens.proofs.ReaderLaws.{bind_ok, Takes, mark_again, mark_if_again, mark_takes, repository_again, repository_few}
+use Rattle.giop_sig.specs.declared.announced.TypeWord.TheVariants as type_words
 use Rattle.giop_sig.specs.Table.{Node, exception_in}
 use Rattle.giop_sig.specs.Table as nodes
-use Rattle.giop_sig.specs.Trees.{depth_of}
-use Rattle.giop_sig.specs.Grammar.{Item, spell_items, spell_identity, Declaration, Structure, DeclaredException, spell}
+use Rattle.giop_sig.specs.Grammar.{Item, spell_items, spell_identity, Structure, DeclaredException}
 use Rattle.giop_sig.specs.Scopes.{Scope, AddedType, with_node, with_named, with_raised, add_items, add_struct_type, declare}
 use Rattle.giop_sig.specs.Validity.{Kind, OfSome, OfItems, OfRepository, OfDeclaration}
 use Rattle.giop_sig.specs.Outcomes.{refused}
-use Rattle.giop_sig.specs.ItemReading.{declared_at, members_at, filled_at, IdentityRead, identity_at, Declared, end_of, type_end_at, structure_at, new_repository_at, exception_at, MembersRead}
+use Rattle.giop_sig.specs.ItemReading.{announces_at, announcement_at, declared_at, structure_after, members_at, filled_at, IdentityRead, identity_at, Declared, end_of, type_end_at, structure_at, new_repository_at, exception_at, MembersRead}
 use Rattle.giop_sig.proofs.PlaceLaws.{within_same, within_on, Grown, node_more, struct_more, named_more}
-use Rattle.giop_sig.proofs.ReadingLaws.{Out, good, broken, out_bind, if_apart, Took}
+use Rattle.giop_sig.proofs.ReadingLaws.{Out, good, broken, out_bind, if_apart}
 use Rattle.giop_sig.proofs.ItemLaws.{declared_reads, members_reads, some_keeps, filled_end, filled_on, type_apart, some_none, unused_reads, end_reads}
+use Rattle.giop_sig.proofs.AnnouncedLaws.{not_announced, identity_apart, announces_third, announcement_takes}
 use Rattle.giop_sig.proofs.IdentityLaws.{identity_reads, IdentityTaken, identity_takes}
-use Rattle.giop_sig.proofs.ItemTaken.{none_of, DeclaredTaken, declared_takes, filled_takes, members_takes, TakenMembers, TakenEnd, end_takes, RepositoryTaken, new_repository_takes}
+use Rattle.giop_sig.proofs.ItemTaken.{none_of, DeclaredTaken, declared_takes, filled_takes, members_takes, TakenMembers, TakenEnd, end_takes, RepositoryTaken, new_repository_takes, TakenDeclaration}
 
--- reading a text that begins with members
+-- what reading gives for a text that begins with members
 filled_reads : (types : List Node) (is : List Item) (text : List ℕ) (more : List Token)
     → AreTokens text (spell_items is more)
     → Out {X = List ℕ} (λ rest. rest) (λ k. OfSome k is) types
@@ -68,19 +69,21 @@ pub structure_reads : (s : Scope) (w : List ℕ) (id : Option (List ℕ)) (is : 
     → Out {X = Declared} (λ rest. (declare s (Structure w id is), rest))
     (λ k. OfDeclaration k s (Structure w id is)) (declare s (Structure w id is)).table.types
     more (structure_at s text)
-unfolding structure_at declare OfDeclaration
+unfolding structure_at structure_after declare OfDeclaration
 structure_reads s w id is text more free t =
     let at = left_of text in
     let members = spell_items is (mark marks.Semicolon ∷ more) in
     let named = named_more w id (add_struct_type (add_items s is)) in
     let grown = within_on (struct_more s is) named in
-    out_bind (declared_at s s.table.declared text)
-    (λ n. identity_at s n.1 >>= λ i. mark_at marks.OpenBrace i.1 >>= λ o. filled_at o
-    >>= λ f. members_at s f >>= λ m. type_end_at at n.0 i.0 m.0 (nodes.members m.1) m.2)
-    (declared_reads s.table.types s s.table.declared text w
+    out_bind (declared_at s (Some type_words.Struct) s.table.declared text)
+    (λ n. announces_at s n.1 >>= λ a. cond a (announcement_at s type_words.Struct text n.0 n.1)
+    (structure_after s text n.0 n.1))
+    (declared_reads s.table.types s (Some type_words.Struct) s.table.declared text w
     (spell_identity id (mark marks.OpenBrace ∷ members)) free.0 t)
     (λ a ta ka.
-    out_bind (identity_at s a) (λ i. mark_at marks.OpenBrace i.1 >>= λ o. filled_at o
+    rw (not_announced s a (spell_identity id (mark marks.OpenBrace ∷ members))
+    (identity_apart id (mark marks.OpenBrace ∷ members) refl) ta)
+    (out_bind (identity_at s a) (λ i. mark_at marks.OpenBrace i.1 >>= λ o. filled_at o
     >>= λ f. members_at s f >>= λ m. type_end_at at w i.0 m.0 (nodes.members m.1) m.2)
     (identity_reads s.table.types s id a (mark marks.OpenBrace) members refl free.1 ta)
     (λ i ti ki. rw (mark_again marks.OpenBrace i members ti)
@@ -91,20 +94,14 @@ structure_reads s w id is text more free t =
     b more free.3 tb (λ keeps k. (ka k, ki k, kb k, keeps k))
     (λ k h. h.3) named)
     (λ k h. h.2) grown))
-    (λ k h. h.1) grown)
+    (λ k h. h.1) grown))
     (λ k h. h.0) grown
 
 -- ---- what was read
 
--- the text that was read spells the declaration
-pub record TakenDeclaration (s : Scope) (text : List ℕ) (x : Declared) : Type 0 where
-  pub declaration : Declaration
-  pub took : Took (spell declaration) (OfDeclaration kinds.Syntax s declaration) text x.1
-  pub shallow : depth_of (x.0).table.types ≤ 24
-
 structure_made : (s last : Scope) (whole text o f : List ℕ) (n : List ℕ × List ℕ)
     (i : IdentityRead) (m : MembersRead) (x : Declared) → Takes whole (word (codes "struct")) text
-    → DeclaredTaken s s.table.declared text n → IdentityTaken s n.1 i
+    → DeclaredTaken s (Some type_words.Struct) s.table.declared text n → IdentityTaken s n.1 i
     → mark_at marks.OpenBrace i.1 ≡ Ok o → o ≡ f
     → TakenMembers 257 [] [] s f m → TakenEnd last m.2 x → TakenDeclaration s whole x
 unfolding OfDeclaration
@@ -125,21 +122,41 @@ structure_made s last whole text o f n i m x before a d b same k e = record {
   shallow = e.shallow;
 }
 
+structure_by : (s : Scope) (whole text : List ℕ) (n : List ℕ × List ℕ) (x : Declared)
+    → Takes whole (word (codes "struct")) text
+    → declared_at s (Some type_words.Struct) s.table.declared text ≡ Ok n
+    → structure_after s text n.0 n.1 ≡ Ok x → TakenDeclaration s whole x
+unfolding structure_after
+structure_by s whole text n x before d e =
+    let i = bind_ok _ _ x e in
+    let o = bind_ok _ _ x i.2 in
+    let f = bind_ok _ _ x o.2 in
+    let m = bind_ok _ _ x f.2 in
+    let last = with_named n.0 (i.0).0 (with_node (m.0).0 (nodes.members (m.0).1)) in
+    structure_made s last whole text o.0 f.0 n i.0 m.0 x before
+    (declared_takes s (Some type_words.Struct) s.table.declared text n d)
+    (identity_takes s n.1 i.0 i.1) o.1
+    (filled_takes o.0 f.0 f.1).0 (members_takes 257 [] [] s f.0 m.0 m.1)
+    (end_takes (left_of text) last (m.0).2 x m.2)
+
+structure_or : (s : Scope) (whole text : List ℕ) (n : List ℕ × List ℕ) (x : Declared) (v : Bool)
+    → Takes whole (word (codes "struct")) text
+    → declared_at s (Some type_words.Struct) s.table.declared text ≡ Ok n
+    → announces_at s n.1 ≡ Ok v
+    → cond v (announcement_at s type_words.Struct text n.0 n.1) (structure_after s text n.0 n.1)
+    ≡ Ok x → TakenDeclaration s whole x
+structure_or s whole text n x true before d a e =
+    announcement_takes s type_words.Struct whole text n x before d (announces_third s n.1 a) e
+structure_or s whole text n x false before d a e = structure_by s whole text n x before d e
+
 pub structure_takes : (s : Scope) (whole text : List ℕ) (x : Declared)
     → Takes whole (word (codes "struct")) text → structure_at s text ≡ Ok x
     → TakenDeclaration s whole x
 unfolding structure_at
 structure_takes s whole text x before e =
-    let n = bind_ok _ _ x e in
-    let i = bind_ok _ _ x n.2 in
-    let o = bind_ok _ _ x i.2 in
-    let f = bind_ok _ _ x o.2 in
-    let m = bind_ok _ _ x f.2 in
-    let last = with_named (n.0).0 (i.0).0 (with_node (m.0).0 (nodes.members (m.0).1)) in
-    structure_made s last whole text o.0 f.0 n.0 i.0 m.0 x before
-    (declared_takes s s.table.declared text n.0 n.1) (identity_takes s (n.0).1 i.0 i.1) o.1
-    (filled_takes o.0 f.0 f.1).0 (members_takes 257 [] [] s f.0 m.0 m.1)
-    (end_takes (left_of text) last (m.0).2 x m.2)
+    let n = bind_ok {A = List ℕ × List ℕ} _ _ x e in
+    let a = bind_ok {A = Bool} _ _ x n.2 in
+    structure_or s whole text n.0 x a.0 before n.1 a.1 a.2
 
 -- ---- exceptions
 
@@ -171,10 +188,10 @@ pub raise_reads : (s : Scope) (w i : List ℕ) (is : List Item) (text : List ℕ
 unfolding exception_at declare OfDeclaration
 raise_reads s w i is text more free t =
     let at = left_of text in
-    out_bind (declared_at s (length s.table.exceptions) text)
+    out_bind (declared_at s None (length s.table.exceptions) text)
     (λ n. new_repository_at s n.1 >>= λ i. mark_at marks.OpenBrace i.1 >>= λ o. members_at s o
     >>= λ m. end_of at (with_raised n.0 i.0 (with_node m.0 (nodes.members m.1))) m.2)
-    (declared_reads s.table.types s (length s.table.exceptions) text w
+    (declared_reads s.table.types s None (length s.table.exceptions) text w
     (repository i ∷ mark marks.OpenBrace ∷ spell_items is (mark marks.Semicolon ∷ more)) free.0 t)
     (λ a ta ka.
     out_bind (new_repository_at s a) (λ i. mark_at marks.OpenBrace i.1 >>= λ o. members_at s o
@@ -190,7 +207,7 @@ raise_reads s w i is text more free t =
 
 raise_made : (s last : Scope) (whole text o : List ℕ) (n i : List ℕ × List ℕ) (m : MembersRead)
     (x : Declared) → Takes whole (word (codes "exception")) text
-    → DeclaredTaken s (length s.table.exceptions) text n → RepositoryTaken s n.1 i
+    → DeclaredTaken s None (length s.table.exceptions) text n → RepositoryTaken s n.1 i
     → mark_at marks.OpenBrace i.1 ≡ Ok o
     → TakenMembers 257 [] [] s o m → TakenEnd last m.2 x → TakenDeclaration s whole x
 unfolding OfDeclaration
@@ -221,6 +238,6 @@ raise_takes s whole text x before e =
     let m = bind_ok _ _ x o.2 in
     let last = with_raised (n.0).0 (i.0).0 (with_node (m.0).0 (nodes.members (m.0).1)) in
     raise_made s last whole text o.0 n.0 i.0 m.0 x before
-    (declared_takes s (length s.table.exceptions) text n.0 n.1)
+    (declared_takes s None (length s.table.exceptions) text n.0 n.1)
     (new_repository_takes s (n.0).1 i.0 i.1) o.1 (members_takes 257 [] [] s o.0 m.0 m.1)
     (end_takes (left_of text) last (m.0).2 x m.2)

@@ -6,12 +6,12 @@ use Rattle.giop_cdr.specs.declared.prim.Primitive.TheVariants.{Octet}
 use Rattle.giop_sig.specs.declared.types.Shape.{Shape}
 use Rattle.giop_sig.specs.declared.types.Shape.TheVariants as shapes
 use Rattle.giop_sig.specs.HeaderTypes.{ArePlain, IsPlain}
-use Rattle.giop_sig.specs.Types.{Ty, Hearing, depth, most, HasInner, IsUnion}
+use Rattle.giop_sig.specs.Types.{Ty, depth, most, HasInner}
 use Rattle.giop_sig.specs.Table.{Node, Table, node_in, node_at, part_at, type_of, shape_of, IsFormed}
 use Rattle.giop_sig.specs.Table as nodes
-use Rattle.giop_sig.specs.Trees.{grow, in_room, any_hearing, tree_at, tree, octet_type, depth_by, depth_at, depth_in, depth_of, part_depth, node_depth, AreFormed}
+use Rattle.giop_sig.specs.Trees.{Room, grow, in_room, room_of, tree_at, tree, octet_type, depth_by, depth_at, depth_in, depth_of, part_depth, node_depth, AreFormed}
 use Rattle.giop_sig.proofs.Nodes.{part_grown}
-use Rattle.giop_sig.proofs.Formed.{SameNodes, part_formed, switch_formed}
+use Rattle.giop_sig.proofs.Formed.{SameNodes, part_formed}
 
 -- ---- the greatest of some numbers
 
@@ -63,7 +63,14 @@ by_more shapes.Encapsulation f g less = omega (arith, less 0 tt)
 by_more shapes.Led f g less = omega (arith, less 0 refl)
 by_more _ f g less = omega arith
 
-by_within : (s : Shape) (f : ℕ → ℕ) (b : ℕ) → (IsUnion s → 0 < b)
+-- a shape of a depth of at least two
+abbrev IsTwoDeep : Shape → Type 0
+IsTwoDeep (shapes.Union count) = Unit {0}
+IsTwoDeep shapes.Tagged = Unit {0}
+IsTwoDeep (shapes.Recursive bound) = Unit {0}
+IsTwoDeep s = ⊥
+
+by_within : (s : Shape) (f : ℕ → ℕ) (b : ℕ) → (IsTwoDeep s → 0 < b)
     → ((k : ℕ) → HasInner s k → f k ≤ b) → depth_by s f ≤ suc b
 by_within (shapes.Members count) f b some each = omega (arith, most_within count f b each)
 by_within (shapes.Union count) f b some each = omega (arith, some tt, most_within count f b each)
@@ -72,6 +79,7 @@ by_within (shapes.Sequence bound) f b some each = omega (arith, each 0 tt)
 by_within (shapes.Array count) f b some each = omega (arith, each 0 tt)
 by_within shapes.Encapsulation f b some each = omega (arith, each 0 tt)
 by_within shapes.Led f b some each = omega (arith, each 0 refl)
+by_within (shapes.Recursive bound) f b some each = omega (arith, some tt)
 by_within _ f b some each = omega arith
 
 by_some : (s : Shape) (f : ℕ → ℕ) → 0 < depth_by s f
@@ -84,7 +92,7 @@ by_some shapes.Encapsulation f = omega arith
 by_some shapes.Led f = omega arith
 by_some _ f = omega arith
 
--- a part is less deep than its whole
+-- a part is less deep than its type
 part_less : (f : ℕ → ℕ) (node : Node) (k : ℕ) → HasInner (shape_of node) k
     → f (type_of (part_at node k)) < depth_by (shape_of node) (λ i. f (type_of (part_at node i)))
 part_less f (nodes.members parts) k has =
@@ -109,6 +117,7 @@ part_less f (nodes.sequence bound element) k has = omega arith
 part_less f (nodes.array count element) k has = omega arith
 part_less f (nodes.encapsulation held) k has = omega arith
 part_less f (nodes.any code) k has = rw has (omega arith)
+part_less f (nodes.announced place) k has = absurd (omega arith)
 part_less f (nodes.typecode wide kind cases) k has =
     omega (
       arith,
@@ -119,7 +128,7 @@ part_less f _ k has = absurd has
 
 -- ---- the depth of a tree
 
-pub depth_grown : (h : Hearing) (tree : ℕ → Ty) (node : Node) → IsPlain node
+pub depth_grown : (h : Room) (tree : ℕ → Ty) (node : Node) → IsPlain node
     → depth (grow h tree node) ≡ depth_by (shape_of node)
     (λ i. depth (tree (type_of (part_at node i))))
 unfolding depth
@@ -133,21 +142,26 @@ depth_grown h tree (nodes.tagged special tag inner other) plain =
     search (arith, max, most_same, part_grown)
 depth_grown h tree (nodes.marked mark) plain = absurd plain
 depth_grown h tree (nodes.any code) plain = absurd plain
+depth_grown h tree (nodes.announced place) plain = absurd plain
+depth_grown h tree (nodes.recursive bound element) plain = absurd plain
 depth_grown h tree (nodes.typecode wide kind cases) plain = absurd plain
 depth_grown h tree _ plain = refl
 
--- neither an any nor a TypeCode, whose trees are others in other tables and rooms
+-- a node that isn't an any, a TypeCode or a recursive sequence, whose trees differ with the table
+-- or the room
 abbrev pub IsSteady : Node → Type 0
 IsSteady (nodes.any code) = ⊥
+IsSteady (nodes.recursive bound element) = ⊥
 IsSteady (nodes.typecode wide kind cases) = ⊥
 IsSteady node = Unit {0}
 
 pub plain_steady : (node : Node) → IsPlain node → IsSteady node
 plain_steady (nodes.any code) plain = absurd plain
+plain_steady (nodes.recursive bound element) plain = absurd plain
 plain_steady (nodes.typecode wide kind cases) plain = absurd plain
 plain_steady _ plain = tt
 
--- such a node is the same in each room
+-- such a node is the same in any room
 pub steady_in : (room : ℕ) (node : Node) → IsSteady node → in_room room node ≡ node
 steady_in room (nodes.typecode wide kind cases) steady = absurd steady
 steady_in room _ steady = refl
@@ -164,27 +178,27 @@ plain_by types i are (inr le) =
 pub plain_node : (types : List Node) (i : ℕ) → ArePlain types → IsPlain (node_in types i)
 plain_node types i are = plain_by types i are (cases_lt i (length types))
 
--- a tree without anys is as deep as its type, reckoned as far down as its room goes
+-- a tree without anys is as deep as its type, counted down to the depth of its room
 pub tree_depth : (t : Table) (room i : ℕ) → ArePlain t.types
     → depth (tree_at t room i) ≡ depth_at t.types (suc room) i
 unfolding tree_at depth_at depth
 tree_depth t zero i are =
     let node = node_at t i in
     let plain = plain_node t.types i are in
-    ap (λ n. depth (grow (any_hearing t 0) (λ k. octet_type) n)) (plain_in 0 node plain)
-    ∙ depth_grown (any_hearing t 0) (λ k. octet_type) node plain
+    ap (λ n. depth (grow (room_of t 0) (λ k. octet_type) n)) (plain_in 0 node plain)
+    ∙ depth_grown (room_of t 0) (λ k. octet_type) node plain
     ∙ by_same (shape_of node) _ _ (λ k has. refl)
 tree_depth t (suc room) i are =
     let node = node_at t i in
     let plain = plain_node t.types i are in
-    ap (λ n. depth (grow (any_hearing t room) (tree_at t room) n)) (plain_in room node plain)
-    ∙ depth_grown (any_hearing t room) (tree_at t room) node plain
+    ap (λ n. depth (grow (room_of t room) (tree_at t room) n)) (plain_in room node plain)
+    ∙ depth_grown (room_of t room) (tree_at t room) node plain
     ∙ by_same (shape_of node) _ _
     (λ k has. tree_depth t room (type_of (part_at node k)) are)
 
--- ---- how far down it is reckoned
+-- ---- how far down depths are counted
 
--- further down it is no less
+-- counted further down, a depth is no less
 deeper : (types : List Node) (a b i : ℕ) → a ≤ b → depth_at types a i ≤ depth_at types b i
 unfolding depth_at
 deeper types zero zero i le = omega arith
@@ -202,18 +216,18 @@ pub depth_tree : (t : Table) (i : ℕ) → ArePlain t.types → depth (tree t i)
 depth_tree t i are =
     omega (arith, tree_depth t 24 i are, deeper t.types 25 (i + 25) i (omega arith))
 
--- no type is deeper than the deepest
+-- no type is deeper than the deepest one
 pub depth_within : (types : List Node) (i : ℕ) → i < length types
     → depth_in types i ≤ depth_of types
 unfolding depth_of
 depth_within types i lt = most_above (length types) (depth_in types) i lt
 
--- ---- types that are formed, so far
+-- ---- types that are well formed
 
 abbrev pub FormedBelow : List Node → ℕ → Type 0
 FormedBelow types n = (i : ℕ) → i < n → IsFormed types i (node_in types i)
 
--- a depth is reckoned of the types up to it alone, and to its end
+-- a depth depends on the types up to its own alone, and it is counted to the end
 pub depth_moved : (types others : List Node) (n a b i : ℕ) → FormedBelow types n
     → SameNodes types others n → i < n → i < a → i < b → depth_at types a i ≡ depth_at others b i
 unfolding depth_at
@@ -227,7 +241,7 @@ depth_moved types others n (suc a) (suc b) i are same lt la lb =
     ∙ ap (λ node. depth_by (shape_of node) (λ k. depth_at others b (type_of (part_at node k))))
     (same i lt)
 
--- the depth of a type is its node's
+-- the depth of a type is that of its node
 pub depth_parts : (types : List Node) (i : ℕ) → AreFormed types → i < length types
     → depth_in types i ≡ node_depth types (node_in types i)
 unfolding depth_at
@@ -239,12 +253,24 @@ depth_parts types i are lt =
     (type_of (part_at (node_in types i) k)) are.formed (λ j h. refl) (omega arith) (omega arith)
     (omega arith))
 
--- a part is less deep than its whole
+-- a part is less deep than its type
 pub part_shallower : (types : List Node) (i k : ℕ) → AreFormed types → i < length types
     → HasInner (shape_of (node_in types i)) k
     → part_depth types (node_in types i) k < depth_in types i
 part_shallower types i k are lt has =
     omega (arith, depth_parts types i are lt, part_less (depth_in types) (node_in types i) k has)
+
+-- a type of a depth of at least two isn't the first one
+two_deep : (types : List Node) (n : ℕ) (node : Node) → IsFormed types n node
+    → IsTwoDeep (shape_of node) → 0 < n
+two_deep types n (nodes.union switch cases otherwise) formed is =
+    let below = formed.0.below in omega arith
+two_deep types n (nodes.tagged special tag inner other) formed is =
+    let below = formed.0.below in omega arith
+two_deep types n (nodes.typecode wide kind cases) formed is =
+    let below = formed.0.below in omega arith
+two_deep types n (nodes.recursive bound element) formed is = formed
+two_deep types n _ formed is = absurd is
 
 small_below : (types : List Node) (a i : ℕ) → AreFormed types → i < a → i < length types
     → depth_at types a i ≤ suc i
@@ -252,8 +278,7 @@ unfolding depth_at
 small_below types zero i are la lt = absurd (omega arith)
 small_below types (suc a) i are la lt =
     by_within (shape_of (node_in types i)) _ i
-    (λ is. let below = (switch_formed types i (node_in types i) (are.formed i lt) is).below in
-    omega arith)
+    (two_deep types i (node_in types i) (are.formed i lt))
     (λ k has. let below = (part_formed types i (node_in types i) k (are.formed i lt) has).below in
     omega (
       arith,
@@ -261,7 +286,7 @@ small_below types (suc a) i are la lt =
           (omega arith),
     ))
 
--- no type is deeper than its number allows: each part has a smaller number than its whole
+-- the depth of a type is at most its number plus 1, since each part has a smaller number
 pub type_small : (types : List Node) (i : ℕ) → AreFormed types → i < length types
     → depth_in types i ≤ suc i
 type_small types i are lt = small_below types (i + 25) i are (omega arith) lt
@@ -273,7 +298,7 @@ some_depth types i =
     rw e (by_some (shape_of (node_in types i))
     (λ k. depth_at types (i + 24) (type_of (part_at (node_in types i) k))))
 
--- the depth at a node's shape
+-- the depth for a node's shape
 pub depth_at_shape : (types : List Node) (node : Node) (s : Shape) → s ≡ shape_of node
     → node_depth types node ≡ depth_by s (part_depth types node)
 depth_at_shape types node s e = ap (λ x. depth_by x (part_depth types node)) (sym e)
@@ -305,7 +330,7 @@ most_longer m zero f = let e : m + 0 ≡ m = omega arith in rw e (omega arith)
 most_longer m (suc n) f =
     let e : m + suc n ≡ suc (m + n) = omega arith in rw e (omega (arith, most_longer m n f))
 
--- no table gets less deep
+-- a table doesn't get less deep
 pub deepest_more : (types more : List Node) → depth_of types ≤ depth_of (types ++ more)
 unfolding depth_of
 deepest_more types more =

@@ -27,7 +27,7 @@ use Rattle.giop_sig.proofs.IdentityLaws.{identity_reads, identity_takes}
 use Rattle.giop_sig.proofs.ItemTaken.{new_name_takes, declared_takes, filled_takes, end_takes}
 use Rattle.giop_sig.proofs.ItemLaws.{new_name_reads, declared_reads, some_keeps, filled_end, filled_on, end_reads}
 
--- what is read, in another form
+-- what reading gives, in another form
 pub out_as : {X : Type 0} {made made2 : List ℕ → X} {rule rule2 : Kind → Type 0}
     {types types2 : List Node} {more : List Token} (r : Result X Refusal)
     → Out made rule types more r
@@ -124,7 +124,7 @@ all_names_reads third (n ∷ names) text types more free h =
     (names_reads third 1025 names [] n text types more refl free h) (λ rest. refl)
     (λ k keeps. (some_keeps n names k, keeps)) (λ k whole. whole.1) within_same)
 
--- what reading gives of a text that begins with an enum, after its word
+-- what reading gives for a text that begins with an enum, after its first word
 pub enumeration_reads : (n : List ℕ) (id : Option (List ℕ)) (names : List (List ℕ)) (s : Scope)
     (text : List ℕ) (more : List Token) → OfDeclaration kinds.Syntax s (Enumeration n id names)
     → AreTokens text (word n ∷ spell_identity id (mark marks.OpenBrace
@@ -138,11 +138,11 @@ enumeration_reads n id names s text more free h =
     let node = nodes.enumeration names in
     let tail = spell_names names (mark marks.Semicolon ∷ more) in
     let grown = within_on (node_more s node) (named_more n id (with_node s node)) in
-    out_bind (declared_at s s.table.declared text)
+    out_bind (declared_at s None s.table.declared text)
     (λ d. identity_at s d.1 >>= λ i. mark_at marks.OpenBrace i.1
     >>= λ o. names_at (is_third s.names) o
     >>= λ ns. type_end_at at d.0 i.0 s (nodes.enumeration ns.0) ns.1)
-    (declared_reads s.table.types s s.table.declared text n
+    (declared_reads s.table.types s None s.table.declared text n
     (spell_identity id (mark marks.OpenBrace ∷ tail)) free.0 h)
     (λ a ta ka.
     out_bind (identity_at s a) (λ i. mark_at marks.OpenBrace i.1
@@ -164,7 +164,7 @@ enumeration_reads n id names s text more free h =
 
 -- ---- a text that was read
 
--- names that can be an enum's
+-- the names that an enum may have
 pub record AreEnumerators (names : List (List ℕ)) : Type 0 where
   pub few : length names ≤ 1024
   pub short : All (λ name. length name ≤ 64) names
@@ -317,7 +317,7 @@ enumeration_takes s text x e =
     let ns = bind_ok _ _ x o.2 in
     let last = with_named (d.0).0 (i.0).0 (with_node s (nodes.enumeration (ns.0).0)) in
     let r = end_takes (left_of text) last (ns.0).1 x ns.2 in
-    let a = declared_takes s s.table.declared text d.0 d.1 in
+    let a = declared_takes s None s.table.declared text d.0 d.1 in
     let c = (identity_takes s (d.0).1 i.0 i.1).took in
     let b = (all_names_taken o.0 ns.0 ns.1).took in
     record {

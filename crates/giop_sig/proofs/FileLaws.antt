@@ -1,28 +1,32 @@
 -- Signature files, both ways: reading the spelling of one gives it or a rule that it breaks, and
 -- the text that was read spells it.
-use Rattle.std.proofs.Common.{◌≡◌, ℕ, zero, suc, ◌<◌, ◌≤◌, Bool, true, false, ◌&&◌, cond, List, [], ◌∷◌, ◌++◌, length, Option, Some, None, Result, Ok, Err, refl, ap, subst, ◌∙◌, arith}
+use Rattle.std.proofs.Common.{◌≡◌, ◌⊎◌, inl, inr, ℕ, zero, suc, ◌<◌, ◌≤◌, Bool, true, false, ◌&&◌, cond, ltb, List, [], ◌∷◌, ◌++◌, length, Option, Some, None, Result, Ok, Err, refl, sym, ap, subst, ◌∙◌, arith}
 use Rattle.std.specs.Prelude.{MatchResult, codes}
 use Rattle.std.specs.Str.{bytes_eq}
 use Rattle.std.proofs.lemmas.Slice.Eq.{bytes_eq-Decides}
 use Rattle.giop_tokens.specs.declared.fault.Refusal.{Refusal}
 use Rattle.giop_tokens.specs.declared.fault.SigFaultKind.TheVariants as kinds
 use Rattle.giop_tokens.specs.declared.marks.Mark.TheVariants as marks
-use Rattle.giop_tokens.specs.Tokens.{Token, word, number, repository, mark, next, AreTokens}
+use Rattle.giop_tokens.specs.Tokens.{Token, word, number, repository, mark, left_of, next, AreTokens}
 use Rattle.giop_tokens.specs.Reading.{◌>>=◌}
-use Rattle.giop_tokens.specs.Readers.{misplaced, mark_at, is_end, end_at}
+use Rattle.giop_tokens.specs.Readers.{misplaced, word_at, mark_at, is_end, end_at}
 use Rattle.giop_tokens.proofs.ReaderLaws.{bind_ok, ok_is, Takes, word_again, number_again, mark_again, keyword_again, end_again, end_other, word_takes, number_takes, mark_takes, keyword_takes}
-use Rattle.giop_sig.specs.Grammar.{TypeExpr, Item, UnionCase, spell_type, spell_names, spell_items, spell_cases, spell_params, spell_return, spell_interfaces, spell_identity, Declaration, Enumeration, Structure, DeclaredUnion, DeclaredException, Call, KeyOf, spell, spell_all, SignatureFile, is_version, spell_file}
-use Rattle.giop_sig.specs.Scopes.{is_third, Scope, first_scope, declare, scope_after}
+use Rattle.giop_sig.specs.Grammar.{TypeExpr, Item, UnionCase, spell_type, spell_names, spell_items, spell_cases, spell_params, spell_return, spell_interfaces, spell_identity, Declaration, Enumeration, Structure, DeclaredUnion, Announcement, DeclaredException, Call, KeyOf, spell, spell_all, type_word, SignatureFile, is_version, spell_file}
+use Rattle.giop_sig.specs.declared.announced.TypeWord.TheVariants as type_words
+use Rattle.giop_sig.specs.Scopes.{is_third, Scope, first_scope, declare, last_scope, scope_after, settled, targets}
 use Rattle.giop_sig.specs.Trees.{depth_of}
-use Rattle.giop_sig.specs.Validity.{Kind, OfDeclaration, HasItsWords, Each, SpellsUpTo}
-use Rattle.giop_sig.specs.ItemReading.{Declared, structure_at, exception_at}
+use Rattle.giop_sig.specs.Validity.{Kind, AllAreDeclared, OfDeclaration, HasItsWords, Each, SpellsUpTo, first_undeclared}
+use Rattle.giop_sig.specs.ItemReading.{Declared, structure_after, structure_at, exception_at}
 use Rattle.giop_sig.specs.CallReading.{operation_at, key_at}
 use Rattle.giop_sig.specs.EnumReading.{enumeration_at}
-use Rattle.giop_sig.specs.UnionReading.{union_at}
+use Rattle.giop_sig.specs.UnionReading.{union_after, union_at}
 use Rattle.giop_sig.specs.Repeats.{in_steps}
-use Rattle.giop_sig.specs.FileReading.{declaration_at, declaration_or_end, declarations_step, misplaced_after, version_at, head_at, file_at}
+use Rattle.giop_sig.specs.FileReading.{announcements, declaration_at, declaration_or_end, DeclarationsRead, declarations_step, misplaced_after, places_after, settled_at, settled_unless, version_at, head_at, file_at}
 use Rattle.giop_sig.proofs.ReadingLaws.{Breaks, Out}
-use Rattle.giop_sig.proofs.DeclaredLaws.{TakenDeclaration, structure_reads, structure_takes, raise_reads, raise_takes}
+use Rattle.giop_sig.proofs.AnnouncedLaws.{announced_reads}
+use Rattle.giop_sig.proofs.ItemTaken.{TakenDeclaration}
+use Rattle.giop_sig.proofs.SettleLaws.{deepest_settled}
+use Rattle.giop_sig.proofs.DeclaredLaws.{structure_reads, structure_takes, raise_reads, raise_takes}
 use Rattle.giop_sig.proofs.CallLaws.{operation_reads, operation_takes, key_reads, key_takes}
 use Rattle.giop_sig.proofs.EnumLaws.{enumeration_reads, TakenEnumeration, enumeration_takes}
 use Rattle.giop_sig.proofs.TokensFew.{tokens_few, next_none}
@@ -40,7 +44,7 @@ DeclarationOut s d more r =
     Out {X = Declared} (λ rest. (declare s d, rest)) (λ k. OfDeclaration k s d)
     (declare s d).table.types more r
 
--- what is read of a union
+-- what reading gives for a union
 abbrev pub UnionReads : Type 0
 UnionReads =
     (s : Scope) (n : List ℕ) (id : Option (List ℕ)) (e : TypeExpr) (cs : List UnionCase)
@@ -56,6 +60,23 @@ abbrev pub UnionTakes : Type 0
 UnionTakes =
     (s : Scope) (whole text : List ℕ) (x : Declared) → Takes whole (word (codes "union")) text
     → union_at s text ≡ Ok x → TakenDeclaration s whole x
+
+-- an announcement, after its first word
+struct_announced : (s : Scope) (n text : List ℕ) (more : List Token)
+    → OfDeclaration kinds.Syntax s (Announcement type_words.Struct n)
+    → AreTokens text (word n ∷ mark marks.Semicolon ∷ more)
+    → DeclarationOut s (Announcement type_words.Struct n) more (structure_at s text)
+unfolding structure_at
+struct_announced s n text more free h =
+    announced_reads s type_words.Struct n text more (structure_after s text) free h
+
+union_announced : (s : Scope) (n text : List ℕ) (more : List Token)
+    → OfDeclaration kinds.Syntax s (Announcement type_words.Union n)
+    → AreTokens text (word n ∷ mark marks.Semicolon ∷ more)
+    → DeclarationOut s (Announcement type_words.Union n) more (union_at s text)
+unfolding union_at
+union_announced s n text more free h =
+    announced_reads s type_words.Union n text more (union_after s text) free h
 
 key_third : (s : Scope) (key id : List ℕ) → OfDeclaration kinds.Syntax s (KeyOf key id)
     → is_third s.names ≡ true
@@ -79,6 +100,12 @@ declaration_reads union (DeclaredUnion n id e cs) s text more free h =
     ∷ mark marks.OpenParenthesis ∷ spell_type e (mark marks.CloseParenthesis
     ∷ mark marks.OpenBrace ∷ spell_cases cs (mark marks.Semicolon ∷ more)))) h)
     (union s n id e cs h.0 more free h.2)
+declaration_reads union (Announcement type_words.Struct n) s text more free h =
+    rw (word_again text (codes "struct") (word n ∷ mark marks.Semicolon ∷ more) h)
+    (struct_announced s n h.0 more free h.2)
+declaration_reads union (Announcement type_words.Union n) s text more free h =
+    rw (word_again text (codes "union") (word n ∷ mark marks.Semicolon ∷ more) h)
+    (union_announced s n h.0 more free h.2)
 declaration_reads union (DeclaredException n r is) s text more free h =
     rw (word_again text (codes "exception") (spell_raise n r is more) h)
     (raise_reads s n r is h.0 more free h.2)
@@ -173,33 +200,45 @@ broken_later k s d ds b = record {
   breaks = b.breaks;
 }
 
--- what is read of declarations
+-- what reading gives for declarations
 abbrev pub FileOut : Scope → List Declaration → Result Scope Refusal → Type 0
 FileOut s ds r =
     MatchResult r (λ t. (t ≡ scope_after s ds)
     × ((k : Kind) → Each (λ s d. OfDeclaration k s d) s ds)) (λ e. BrokenIn e.kind s ds)
 
-abbrev scope_of : Declared → Result Scope Refusal
+abbrev scope_of : DeclarationsRead → Result Scope Refusal
 scope_of d = Ok d.0
 
-abbrev then_declarations : ℕ → Bool × Declared → Result Declared Refusal
+abbrev then_declarations : ℕ → Bool × DeclarationsRead → Result DeclarationsRead Refusal
 then_declarations n x = cond x.0 (Ok x.1) (in_steps declarations_step misplaced_after n x.1)
 
-file_more : (s : Scope) (d : Declaration) (ds : List Declaration) (r : Result Declared Refusal)
+file_more : (s : Scope) (d : Declaration) (ds : List Declaration)
+    (r : Result DeclarationsRead Refusal)
     → ((k : Kind) → OfDeclaration k s d) → FileOut (declare s d) ds (r >>= scope_of)
     → FileOut s (d ∷ ds) (r >>= scope_of)
 unfolding Each
 file_more s d ds (Ok t) keeps o = (o.0, λ k. (keeps k, o.1 k))
 file_more s d ds (Err e) keeps o = broken_later e.kind s d ds o
 
+-- a declaration, whose place is kept if it announces its name, and then the others
 file_on : (n : ℕ) (s : Scope) (d : Declaration) (ds : List Declaration)
-    (r : Result Declared Refusal) → DeclarationOut s d (spell_all ds) r
-    → ((rest : List ℕ) → AreTokens rest (spell_all ds)
+    (place : Declared → Result (List ℕ) Refusal)
+    → ((x : Declared) → (places : List ℕ) × (place x ≡ Ok places))
+    → (r : Result Declared Refusal) → DeclarationOut s d (spell_all ds) r
+    → ((places rest : List ℕ) → AreTokens rest (spell_all ds)
     → FileOut (declare s d) ds
-    (in_steps declarations_step misplaced_after n (declare s d, rest) >>= scope_of))
-    → FileOut s (d ∷ ds) (((r >>= λ x. Ok (false, x)) >>= then_declarations n) >>= scope_of)
-file_on n s d ds (Ok x) o on = search (arith, file_more)
-file_on n s d ds (Err e) o on = record {
+    (in_steps declarations_step misplaced_after n (declare s d, places, rest) >>= scope_of))
+    → FileOut s (d ∷ ds)
+    (((r >>= λ x. place x >>= λ places. Ok (false, (x.0, places, x.1)))
+    >>= then_declarations n) >>= scope_of)
+file_on n s d ds place placed (Ok x) o on =
+    let g = o.out in
+    let p = placed x in
+    rw (p.1) (subst (λ (y : Declared). FileOut s (d ∷ ds)
+    (in_steps declarations_step misplaced_after n (y.0, p.0, y.1) >>= scope_of)) (sym g.is)
+    (file_more s d ds (in_steps declarations_step misplaced_after n (declare s d, p.0, g.rest))
+    g.keeps (on p.0 g.rest g.tokens)))
+file_on n s d ds place placed (Err e) o on = record {
   before = [];
   broken = d;
   after = ds;
@@ -208,27 +247,71 @@ file_on n s d ds (Err e) o on = record {
       o.out;
 }
 
+word_first : (text w : List ℕ) (ts : List Token) → AreTokens text (word w ∷ ts)
+    → (x : List ℕ × List ℕ) × (word_at text ≡ Ok x)
+word_first text w ts h = ((w, h.0), word_again text w ts h)
+
+-- a declaration begins with a word
+first_word : (d : Declaration) (text : List ℕ) (more : List Token) → AreTokens text (spell d more)
+    → (x : List ℕ × List ℕ) × (word_at text ≡ Ok x)
+first_word (Enumeration n id names) text more h =
+    word_first text (codes "enum") (word n ∷ spell_identity id (mark marks.OpenBrace
+    ∷ spell_names names (mark marks.Semicolon ∷ more))) h
+first_word (Structure n id is) text more h =
+    word_first text (codes "struct") (word n ∷ spell_identity id (mark marks.OpenBrace
+    ∷ spell_items is (mark marks.Semicolon ∷ more))) h
+first_word (DeclaredUnion n id e cs) text more h =
+    word_first text (codes "union") (word n ∷ spell_identity id (word (codes "switch")
+    ∷ mark marks.OpenParenthesis ∷ spell_type e (mark marks.CloseParenthesis
+    ∷ mark marks.OpenBrace ∷ spell_cases cs (mark marks.Semicolon ∷ more)))) h
+first_word (Announcement kind n) text more h =
+    word_first text (type_word kind) (word n ∷ mark marks.Semicolon ∷ more) h
+first_word (DeclaredException n r is) text more h =
+    word_first text (codes "exception") (spell_raise n r is more) h
+first_word (Call o n ps ids) text more h =
+    word_first text (codes "operation")
+    (spell_return o (word n ∷ mark marks.OpenParenthesis ∷ spell_params ps
+    (spell_interfaces ids (mark marks.Semicolon ∷ more)))) h
+first_word (KeyOf key id) text more h =
+    word_first text (codes "key") (repository key ∷ word (codes "of") ∷ repository id
+    ∷ mark marks.Semicolon ∷ more) h
+
+-- the place of a declaration's name is found
+place_reads : (before after : ℕ) (places text : List ℕ) (x : List ℕ × List ℕ)
+    → word_at text ≡ Ok x → (more : List ℕ) × (places_after before after places text ≡ Ok more)
+unfolding places_after
+place_reads before after places text x e =
+    (cond (ltb before after) (places ++ left_of x.1 ∷ []) places, rw e refl)
+
 not_over : (d : Declaration) (text : List ℕ) (more : List Token)
     → AreTokens text (spell d more) → end_at text ≡ Ok false
 not_over (Enumeration n id names) text more h = search (arith, end_other)
 not_over (Structure n id is) text more h = search (arith, end_other)
 not_over (DeclaredUnion n id e cs) text more h = search (arith, end_other)
+not_over (Announcement kind n) text more h = search (arith, end_other)
 not_over (DeclaredException n r is) text more h = search (arith, end_other)
 not_over (Call o n ps ids) text more h = search (arith, end_other)
 not_over (KeyOf key id) text more h = search (arith, end_other)
 
-declarations_read : UnionReads → (ds : List Declaration) (n : ℕ) (s : Scope) (text : List ℕ)
+declarations_read : UnionReads → (ds : List Declaration) (n : ℕ) (s : Scope)
+    (places text : List ℕ)
     → length ds < n → Each HasItsWords s ds → AreTokens text (spell_all ds)
-    → FileOut s ds (in_steps declarations_step misplaced_after n (s, text) >>= scope_of)
+    → FileOut s ds (in_steps declarations_step misplaced_after n (s, places, text) >>= scope_of)
 unfolding Each in_steps declarations_step
-declarations_read union [] zero s text lt free h = absurd (omega arith)
-declarations_read union (d ∷ ds) zero s text lt free h = absurd (omega arith)
-declarations_read union [] (suc n) s text lt free h = search (arith, end_again)
-declarations_read union (d ∷ ds) (suc n) s text lt free h =
+declarations_read union [] zero s places text lt free h = absurd (omega arith)
+declarations_read union (d ∷ ds) zero s places text lt free h = absurd (omega arith)
+declarations_read union [] (suc n) s places text lt free h =
+    rw (end_again text h) (refl, λ k. tt)
+declarations_read union (d ∷ ds) (suc n) s places text lt free h =
+    let w = first_word d text (spell_all ds) h in
     rw (not_over d text (spell_all ds) h)
-    (file_on n s d ds (declaration_at s text)
+    (file_on n s d ds
+    (λ (x : Declared). places_after (announcements s) (announcements x.0) places text)
+    (λ x. place_reads (announcements s) (announcements x.0) places text w.0 w.1)
+    (declaration_at s text)
     (declaration_reads union d s text (spell_all ds) free.0 h)
-    (λ rest m. declarations_read union ds n (declare s d) rest (omega arith) free.1 m))
+    (λ more rest m.
+    declarations_read union ds n (declare s d) more rest (omega arith) free.1 m))
 
 -- ---- the whole file
 
@@ -238,10 +321,46 @@ version_again : (latest : ℕ) (text : List ℕ) (n : ℕ) (more : List Token)
 unfolding version_at
 version_again latest text n more h is = rw (number_again text n more h, is) refl
 
--- what reading gives of a file
+-- the scope of a file in which each announced name is declared and no rule is broken
+pub record WholeFile (file : SignatureFile) (t : Scope) : Type 0 where
+  pub is : t ≡ settled (last_scope file)
+  pub declared : AllAreDeclared file
+  pub keeps : (k : Kind)
+      → Each (λ s d. OfDeclaration k s d) (first_scope file.version) file.declarations
+
+-- a refusal of a declaration, or of a name that is announced but not declared
+abbrev pub RefusedFile : SignatureFile → Refusal → Type 0
+RefusedFile file e =
+    BrokenIn e.kind (first_scope file.version) file.declarations
+    ⊎ ((e.kind ≡ kinds.UnknownType) × (AllAreDeclared file → ⊥))
+
+-- what reading gives for a file
+abbrev pub WholeOut : SignatureFile → Result Scope Refusal → Type 0
+WholeOut file r = MatchResult r (WholeFile file) (RefusedFile file)
+
+some_not_none : {X : Type 0} (x : X) → Some x ≡ None → ⊥
+some_not_none x e = absurd cc
+
+settled_out : (file : SignatureFile) (places : List ℕ) (o : Option ℕ)
+    → first_undeclared (last_scope file).names ≡ o
+    → ((k : Kind) → Each (λ s d. OfDeclaration k s d) (first_scope file.version) file.declarations)
+    → WholeOut file (settled_unless (last_scope file) places o)
+settled_out file places None e keeps = record { is = refl; declared = e; keeps = keeps }
+settled_out file places (Some i) e keeps =
+    inr (refl, λ all. some_not_none i (sym e ∙ all))
+
+whole_by : (file : SignatureFile) (r : Result DeclarationsRead Refusal)
+    → FileOut (first_scope file.version) file.declarations (r >>= scope_of)
+    → WholeOut file (r >>= λ d. settled_at d.0 d.1)
+unfolding settled_at
+whole_by file (Ok d) o =
+    subst (λ (s : Scope). WholeOut file (settled_unless s d.1 (first_undeclared s.names)))
+    (sym o.0)
+    (settled_out file d.1 (first_undeclared (last_scope file).names) refl o.1)
+whole_by file (Err e) o = inl o
+
 pub file_reads : {latest : ℕ} → UnionReads → (text : List ℕ) (file : SignatureFile)
-    → SpellsUpTo latest text file
-    → FileOut (first_scope file.version) file.declarations (file_at latest text)
+    → SpellsUpTo latest text file → WholeOut file (file_at latest text)
 unfolding file_at head_at
 file_reads {latest = latest} union text file spells =
     let h = spells.tokens in
@@ -253,8 +372,11 @@ file_reads {latest = latest} union text file spells =
       version_again latest h.0 file.version tail h.2 spells.version,
       mark_again marks.Semicolon (h.2).0 (spell_all ds) (h.2).2,
     )
-    (declarations_read union ds (length text) (first_scope file.version) ((h.2).2).0
-    (omega (arith, few, spelled_few ds)) spells.words ((h.2).2).2)
+    (whole_by file
+    (in_steps declarations_step misplaced_after (length text)
+    (first_scope file.version, [], ((h.2).2).0))
+    (declarations_read union ds (length text) (first_scope file.version) [] ((h.2).2).0
+    (omega (arith, few, spelled_few ds)) spells.words ((h.2).2).2))
 
 -- ---- what was read
 
@@ -272,26 +394,36 @@ end_from : (text : List ℕ) → end_at text ≡ Ok true → AreTokens text []
 unfolding end_at
 end_from text e = search (arith, bind_ok, end_none, ok_is)
 
--- the scope after a declaration that was read is that of the declaration which the text spells
+-- the scope after a declaration that was read is that of the declaration that the text spells
 declared_is : UnionReads
     → (s : Scope) (d : Declaration) (text : List ℕ) (more : List Token) (x : Declared)
     → HasItsWords s d → AreTokens text (spell d more) → declaration_at s text ≡ Ok x
     → x.0 ≡ declare s d
 declared_is union s d text more x words h e = search (arith, declaration_reads)
 
-over_by : (n : ℕ) (s : Scope) (text : List ℕ) (v : Bool) (x : Bool × Declared) (t : Declared)
-    → end_at text ≡ Ok v → declaration_or_end (s, text) v ≡ Ok x → then_declarations n x ≡ Ok t
-    → UnionReads → UnionTakes
-    → ((s : Scope) (text : List ℕ)
-    → in_steps declarations_step misplaced_after n (s, text) ≡ Ok t → TakenAll s text)
+-- what was read, with the place of the declaration's name if it announced that
+abbrev one_on : Scope → List ℕ → List ℕ → Declared → Result (Bool × DeclarationsRead) Refusal
+one_on s places text next =
+    places_after (announcements s) (announcements next.0) places text
+    >>= λ more. Ok (false, (next.0, more, next.1))
+
+over_by : (n : ℕ) (s : Scope) (places text : List ℕ) (v : Bool) (x : Bool × DeclarationsRead)
+    (t : DeclarationsRead)
+    → end_at text ≡ Ok v → declaration_or_end (s, places, text) v ≡ Ok x
+    → then_declarations n x ≡ Ok t → UnionReads → UnionTakes
+    → ((s : Scope) (places text : List ℕ)
+    → in_steps declarations_step misplaced_after n (s, places, text) ≡ Ok t → TakenAll s text)
     → TakenAll s text
 unfolding Each
-over_by n s text true x t over e run reads takes on =
+over_by n s places text true x t over e run reads takes on =
     record { declarations = []; words = tt; tokens = end_from text over }
-over_by n s text false x t over e run reads takes on =
-    let d = bind_ok (declaration_at s text) (λ d. Ok (false, d)) x e in
+over_by n s places text false x t over e run reads takes on =
+    let d = bind_ok (declaration_at s text) (one_on s places text) x e in
+    let p = bind_ok (places_after (announcements s) (announcements (d.0).0) places text)
+    (λ more. Ok (false, ((d.0).0, more, (d.0).1))) x d.2 in
     let k = declaration_takes takes s text d.0 d.1 in
-    let rest = on (d.0).0 (d.0).1 (ap (then_declarations n) (ok_is (false, d.0) x d.2) ∙ run) in
+    let rest = on (d.0).0 p.0 (d.0).1
+    (ap (then_declarations n) (ok_is (false, ((d.0).0, p.0, (d.0).1)) x p.2) ∙ run) in
     let more = spell_all rest.declarations in
     let tokens : AreTokens text (spell k.declaration more) = k.took.front more rest.tokens in
     record {
@@ -304,52 +436,76 @@ over_by n s text false x t over e run reads takes on =
       tokens = tokens;
     }
 
-declarations_take : UnionReads → UnionTakes → (n : ℕ) (s : Scope) (text : List ℕ) (t : Declared)
-    → in_steps declarations_step misplaced_after n (s, text) ≡ Ok t → TakenAll s text
+declarations_take : UnionReads → UnionTakes → (n : ℕ) (s : Scope) (places text : List ℕ)
+    (t : DeclarationsRead)
+    → in_steps declarations_step misplaced_after n (s, places, text) ≡ Ok t → TakenAll s text
 unfolding in_steps declarations_step
-declarations_take reads takes zero s text t e = absurd cc
-declarations_take reads takes (suc n) s text t e =
-    let x = bind_ok (declarations_step (s, text)) (then_declarations n) t e in
-    let o = bind_ok (end_at text) (declaration_or_end (s, text)) x.0 x.1 in
-    over_by n s text o.0 x.0 t o.1 o.2 x.2 reads takes
-    (λ s text run. declarations_take reads takes n s text t run)
+declarations_take reads takes zero s places text t e = absurd cc
+declarations_take reads takes (suc n) s places text t e =
+    let x = bind_ok (declarations_step (s, places, text)) (then_declarations n) t e in
+    let o = bind_ok (end_at text) (declaration_or_end (s, places, text)) x.0 x.1 in
+    over_by n s places text o.0 x.0 t o.1 o.2 x.2 reads takes
+    (λ s places text run. declarations_take reads takes n s places text t run)
 
--- what was read of declarations is not too deep
+-- what was read of declarations isn't too deep
 
-shallow_by : UnionTakes → (n : ℕ) (s : Scope) (text : List ℕ) (v : Bool) (x : Bool × Declared)
-    (t : Declared) → declaration_or_end (s, text) v ≡ Ok x → then_declarations n x ≡ Ok t
+shallow_by : UnionTakes → (n : ℕ) (s : Scope) (places text : List ℕ) (v : Bool)
+    (x : Bool × DeclarationsRead) (t : DeclarationsRead)
+    → declaration_or_end (s, places, text) v ≡ Ok x → then_declarations n x ≡ Ok t
     → depth_of s.table.types ≤ 24
-    → ((s : Scope) (text : List ℕ) → in_steps declarations_step misplaced_after n (s, text) ≡ Ok t
+    → ((s : Scope) (places text : List ℕ)
+    → in_steps declarations_step misplaced_after n (s, places, text) ≡ Ok t
     → depth_of s.table.types ≤ 24 → depth_of (t.0).table.types ≤ 24)
     → depth_of (t.0).table.types ≤ 24
-shallow_by takes n s text true x t e run le on = search (arith, ok_is)
-shallow_by takes n s text false x t e run le on =
-    let d = bind_ok (declaration_at s text) (λ d. Ok (false, d)) x e in
-    on (d.0).0 (d.0).1 (ap (then_declarations n) (ok_is (false, d.0) x d.2) ∙ run)
+shallow_by takes n s places text true x t e run le on =
+    let first : (true, (s, places, text)) ≡ x = ok_is (true, (s, places, text)) x e in
+    let last : (s, places, text) ≡ t = ok_is (s, places, text) t
+    (ap (then_declarations n) first ∙ run) in
+    subst (λ (d : DeclarationsRead). depth_of (d.0).table.types ≤ 24) last le
+shallow_by takes n s places text false x t e run le on =
+    let d = bind_ok (declaration_at s text) (one_on s places text) x e in
+    let p = bind_ok (places_after (announcements s) (announcements (d.0).0) places text)
+    (λ more. Ok (false, ((d.0).0, more, (d.0).1))) x d.2 in
+    on (d.0).0 p.0 (d.0).1
+    (ap (then_declarations n) (ok_is (false, ((d.0).0, p.0, (d.0).1)) x p.2) ∙ run)
     (declaration_takes takes s text d.0 d.1).shallow
 
-declarations_shallow : UnionTakes → (n : ℕ) (s : Scope) (text : List ℕ) (t : Declared)
-    → in_steps declarations_step misplaced_after n (s, text) ≡ Ok t
+declarations_shallow : UnionTakes → (n : ℕ) (s : Scope) (places text : List ℕ)
+    (t : DeclarationsRead)
+    → in_steps declarations_step misplaced_after n (s, places, text) ≡ Ok t
     → depth_of s.table.types ≤ 24 → depth_of (t.0).table.types ≤ 24
 unfolding in_steps declarations_step
-declarations_shallow takes zero s text t e le = absurd cc
-declarations_shallow takes (suc n) s text t e le =
-    let x = bind_ok (declarations_step (s, text)) (then_declarations n) t e in
-    let o = bind_ok (end_at text) (declaration_or_end (s, text)) x.0 x.1 in
-    shallow_by takes n s text o.0 x.0 t o.2 x.2 le
-    (λ s text run le. declarations_shallow takes n s text t run le)
+declarations_shallow takes zero s places text t e le = absurd cc
+declarations_shallow takes (suc n) s places text t e le =
+    let x = bind_ok (declarations_step (s, places, text)) (then_declarations n) t e in
+    let o = bind_ok (end_at text) (declaration_or_end (s, places, text)) x.0 x.1 in
+    shallow_by takes n s places text o.0 x.0 t o.2 x.2 le
+    (λ s places text run le. declarations_shallow takes n s places text t run le)
+
+-- the scope at the end is that of the declarations, settled
+settled_by : (s : Scope) (places : List ℕ) (o : Option ℕ) (t : Scope)
+    → settled_unless s places o ≡ Ok t → settled s ≡ t
+settled_by s places None t e = ok_is (settled s) t e
+settled_by s places (Some i) t e = absurd cc
+
+settled_takes : (s : Scope) (places : List ℕ) (t : Scope) → settled_at s places ≡ Ok t
+    → settled s ≡ t
+unfolding settled_at
+settled_takes s places t e = settled_by s places (first_undeclared s.names) t e
 
 pub file_shallow : (latest : ℕ) → UnionTakes → (text : List ℕ) (t : Scope)
     → file_at latest text ≡ Ok t → depth_of t.table.types ≤ 24
 unfolding file_at
 file_shallow latest takes text t e =
-    let h = bind_ok (head_at latest text)
-    (λ h. in_steps declarations_step misplaced_after (length text) (first_scope h.0, h.1)
-    >>= scope_of) t e in
-    let d = bind_ok {A = Declared} _ scope_of t h.2 in
-    subst (λ (s : Scope). depth_of s.table.types ≤ 24) (ok_is (d.0).0 t d.2)
-    (declarations_shallow takes (length text) (first_scope (h.0).0) (h.0).1 d.0 d.1
-    (first_shallow (h.0).0))
+    let read : ℕ × List ℕ → Result DeclarationsRead Refusal =
+    λ h. in_steps declarations_step misplaced_after (length text) (first_scope h.0, [], h.1) in
+    let h = bind_ok (head_at latest text) (λ h. read h >>= λ d. settled_at d.0 d.1) t e in
+    let d = bind_ok (read h.0) (λ d. settled_at d.0 d.1) t h.2 in
+    let less = declarations_shallow takes (length text) (first_scope (h.0).0) [] (h.0).1 d.0 d.1
+    (first_shallow (h.0).0) in
+    let same = deepest_settled (targets ((d.0).0).names) ((d.0).0).table.types in
+    subst (λ (s : Scope). depth_of s.table.types ≤ 24)
+    (settled_takes (d.0).0 (d.0).1 t d.2) (omega (arith, less, same))
 
 -- the version that a file begins with
 record TakenHead (latest : ℕ) (text : List ℕ) (x : ℕ × List ℕ) : Type 0 where
@@ -390,10 +546,11 @@ pub file_takes : (latest : ℕ) → UnionReads → UnionTakes → (text : List �
     → file_at latest text ≡ Ok t → (file : SignatureFile) × SpellsUpTo latest text file
 unfolding file_at
 file_takes latest reads takes text t short e =
-    let h = bind_ok _ _ t e in
-    let d = bind_ok _ _ t h.2 in
+    let h = bind_ok {A = ℕ × List ℕ} _ _ t e in
+    let d = bind_ok {A = DeclarationsRead} _ _ t h.2 in
     let head = head_takes latest text h.0 h.1 in
-    let all = declarations_take reads takes (length text) (first_scope (h.0).0) (h.0).1 d.0 d.1 in (
+    let all = declarations_take reads takes (length text) (first_scope (h.0).0) [] (h.0).1 d.0 d.1
+    in (
       record { version = (h.0).0; declarations = all.declarations },
       record {
         short = short;

@@ -1,11 +1,11 @@
--- What reading gives of a signature file, as the contract states it.
-use Rattle.std.proofs.Common.{◌≡◌, ℕ, ◌+◌, ◌^◌, ◌<◌, ◌≤◌, ◌⊎◌, inl, inr, true, eqb, leb, List, [], ◌∷◌, length, Ok, Err, ap, subst, arith}
+-- What reading gives for a signature file, as the contract has it.
+use Rattle.std.proofs.Common.{◌≡◌, ℕ, ◌+◌, ◌^◌, ◌<◌, ◌≤◌, ◌⊎◌, inl, inr, true, eqb, leb, List, [], ◌∷◌, length, Ok, Err, sym, ap, subst, arith}
 use Rattle.std.proofs.lemmas.Bool.{eqb-true, leb-true}
 use Rattle.giop_tokens.specs.declared.fault.Refusal.{Refusal}
 use Rattle.giop_tokens.specs.declared.fault.SigFaultKind.TheVariants as kinds
 use Rattle.giop_sig.specs.Grammar.{Declaration, spell_all, SignatureFile, is_version, spell_file}
-use Rattle.giop_sig.specs.Scopes.{Scope, first_scope, declare, scope_after, table}
-use Rattle.giop_sig.specs.Validity.{Kind, IsShallow, Each, Rule, IsValid, SpellsUpTo, IsBroken, Refuses}
+use Rattle.giop_sig.specs.Scopes.{Scope, first_scope, declare, last_scope, scope_after, table, targets}
+use Rattle.giop_sig.specs.Validity.{Kind, AllAreDeclared, IsShallow, Each, Rule, IsValid, SpellsUpTo, IsBroken, Refuses}
 use Rattle.giop_sig.specs.FileReading.{file_at}
 use Rattle.giop_sig.proofs.PlaceLaws.{deepest, size, scope_more}
 use Rattle.giop_sig.proofs.Solid.{both}
@@ -13,7 +13,8 @@ use Rattle.giop_sig.proofs.TokensFew.{tokens_few}
 use Rattle.giop_sig.proofs.SizeLaws.{types_few, types_fewer}
 use Rattle.giop_sig.specs.AnyTypes.{first_types}
 use Rattle.giop_sig.proofs.Builtins.{first_few, more_by}
-use Rattle.giop_sig.proofs.FileLaws.{UnionReads, UnionTakes, BrokenIn, FileOut, file_reads, file_takes}
+use Rattle.giop_sig.proofs.FileLaws.{UnionReads, UnionTakes, BrokenIn, WholeFile, WholeOut, file_reads, file_takes}
+use Rattle.giop_sig.proofs.SettleLaws.{deepest_settled, size_settled}
 
 each_shallow : (ds : List Declaration) (s : Scope)
     → deepest (scope_after s ds) ≤ 24 → Each IsShallow s ds
@@ -31,16 +32,18 @@ pub file_valid : {latest : ℕ} → UnionReads → (text : List ℕ) (t : Scope)
 file_valid union text t file spells e shallow =
     let s = first_scope file.version in
     let ds = file.declarations in
-    let o : FileOut s ds (Ok t) = subst (FileOut s ds) e (file_reads union text file spells) in (
+    let o : WholeFile file t = subst (WholeOut file) e (file_reads union text file spells) in
+    let same = deepest_settled (targets (last_scope file).names) (last_scope file).table.types in (
       record {
-        known = o.1 kinds.UnknownType;
-        distinct = o.1 kinds.Duplicate;
-        some = o.1 kinds.Empty;
-        labels = o.1 kinds.Label;
-        shallow = each_shallow ds s (subst (λ (x : Scope). deepest x ≤ 24) o.0 shallow);
-        within = o.1 kinds.Limit;
+        declared = o.declared;
+        known = o.keeps kinds.UnknownType;
+        distinct = o.keeps kinds.Duplicate;
+        some = o.keeps kinds.Empty;
+        labels = o.keeps kinds.Label;
+        shallow = each_shallow ds s (omega (arith, ap deepest o.is, same, shallow));
+        within = o.keeps kinds.Limit;
       },
-      ap (λ (x : Scope). x.table) o.0,
+      ap (λ (x : Scope). x.table) o.is,
     )
 
 third_latest : (latest version : ℕ) → latest ≤ 3 → is_version latest version ≡ true
@@ -58,7 +61,7 @@ first_up_to : (latest version : ℕ) → latest ≤ 3 → is_version latest vers
 first_up_to latest version most is =
     more_by (eqb version 3) (eqb latest 3) (third_latest latest version most is)
 
--- it adds no more types than the text has octets
+-- a file adds no more types than its text has octets
 pub file_few : (latest : ℕ) → UnionReads → UnionTakes → (text : List ℕ) (t : Scope) → latest ≤ 3
     → length text ≤ 1048576
     → file_at latest text ≡ Ok t → size t ≤ length (first_types latest) + length text
@@ -66,10 +69,11 @@ file_few latest reads takes text t most short e =
     let f = file_takes latest reads takes text t short e in
     let s = first_scope (f.0).version in
     let ds = (f.0).declarations in
-    let o : FileOut s ds (Ok t) = subst (FileOut s ds) e (file_reads reads text f.0 f.1) in
+    let o : WholeFile f.0 t = subst (WholeOut f.0) e (file_reads reads text f.0 f.1) in
     omega (
       arith,
-      ap size o.0,
+      ap size o.is,
+      size_settled (targets (last_scope f.0).names) (last_scope f.0).table.types,
       tokens_few (spell_file f.0) text (f.1).tokens,
       types_few s ds,
       first_up_to latest (f.0).version most (f.1).version,
@@ -80,7 +84,7 @@ is_broken : (k : Kind) (file : SignatureFile)
     → (Rule k (scope_after (first_scope file.version) b.before) b.broken → ⊥) → IsBroken k file
 is_broken k file b breaks = search (arith)
 
--- the declarations of a text never make the types too many
+-- the declarations of a text never make too many types
 pub not_too_many : {latest : ℕ} (text : List ℕ) (file : SignatureFile)
     → SpellsUpTo latest text file
     → (b : BrokenIn kinds.Limit (first_scope file.version) file.declarations)
@@ -110,18 +114,27 @@ refuses : {latest : ℕ} (k : Kind) (text : List ℕ) (file : SignatureFile)
     → BrokenIn k (first_scope file.version) file.declarations → Refuses k file
 refuses kinds.OutOfMemory text file spells b = tt
 refuses kinds.Depth text file spells b = search (arith, is_broken)
-refuses kinds.UnknownType text file spells b = search (arith, is_broken)
+refuses kinds.UnknownType text file spells b = inl (is_broken kinds.UnknownType file b b.breaks)
 refuses kinds.Duplicate text file spells b = search (arith, is_broken)
 refuses kinds.Limit text file spells b = search (arith, limit_broken, not_too_many)
 refuses kinds.Label text file spells b = search (arith, is_broken)
 refuses kinds.Empty text file spells b = search (arith, is_broken)
 refuses _ text file spells b = b.breaks
 
--- a text that spells a file is refused for a rule that one of its declarations breaks
+undeclared_refuses : (k : Kind) (file : SignatureFile) → k ≡ kinds.UnknownType
+    → (AllAreDeclared file → ⊥) → Refuses k file
+undeclared_refuses k file e never = subst (λ j. Refuses j file) (sym e) (inr never)
+
+refuses_by : {latest : ℕ} (k : Kind) (text : List ℕ) (file : SignatureFile)
+    → SpellsUpTo latest text file
+    → BrokenIn k (first_scope file.version) file.declarations
+    ⊎ ((k ≡ kinds.UnknownType) × (AllAreDeclared file → ⊥)) → Refuses k file
+refuses_by k text file spells (inl b) = refuses k text file spells b
+refuses_by k text file spells (inr u) = undeclared_refuses k file u.0 u.1
+
+-- a text that spells a file is refused for a rule that one of its declarations breaks, or for a
+-- name that is only announced
 pub file_refuses : {latest : ℕ} → UnionReads → (text : List ℕ) (e : Refusal) (file : SignatureFile)
     → SpellsUpTo latest text file → file_at latest text ≡ Err e → Refuses e.kind file
 file_refuses union text e file spells h =
-    let s = first_scope file.version in
-    let ds = file.declarations in
-    let o : FileOut s ds (Err e) = subst (FileOut s ds) h (file_reads union text file spells) in
-    refuses e.kind text file spells o
+    refuses_by e.kind text file spells (subst (WholeOut file) h (file_reads union text file spells))

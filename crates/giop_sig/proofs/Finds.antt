@@ -1,4 +1,4 @@
--- Looking up by name: the index in a list of keys is that in the table's list; for operations,
+-- Looking up by name: the index in a list of keys is that in the table's list. For operations,
 -- exceptions and repository ids of types.
 use Rattle.std.proofs.Common.{◌≡◌, ℕ, zero, suc, ◌<◌, ◌≤◌, Bool, cond, not, List, [], ◌∷◌, length, map, get_or, Option, Some, None, refl, sym, ap, ◌∙◌, arith}
 use Rattle.std.specs.Prelude.{slice_get}
@@ -25,7 +25,7 @@ pub position-map : {X Y : Type 0} (p : Y → Bool) (f : X → Y) (xs : List X)
     → position p (map f xs) ≡ position (λ x. p (f x)) xs
 position-map p f xs = search (arith, position_or_len-map, length-map)
 
--- a name of a key is found where the key is
+-- a name is found at the index of its key
 place_of : {K V X : Type 0} (items : K → List ℕ) (view : K × V → X) (name_in : X → List ℕ)
     (es : List (K × V)) (key name : List ℕ) → key ≡ name
     → ((e : K × V) → name_in (view e) ≡ items e.0)
@@ -42,7 +42,7 @@ none_from : (o : Option ℕ) → ((i : ℕ) → o ≡ Some i → ⊥) → o ≡ 
 none_from None h = refl
 none_from (Some i) h = absurd (h i refl)
 
--- a name longer than all is not found
+-- a name that is longer than all others isn't found
 pub not_there : {X : Type 0} (name_in : X → List ℕ) (xs : List X) (d : X) (name : List ℕ)
     → (most : ℕ) → ((i : ℕ) → i < length xs → length (name_in (get_or xs i d)) ≤ most)
     → most < length name
@@ -62,7 +62,7 @@ no_operation_long t interface name laws long =
     (operation_key interface name) 130
     (λ i lt. (laws.operations i no_operation lt).short) (omega arith)))
 
--- what is found among the keys is the table's
+-- what is found among the keys is in the table
 pub operation_found : (es : List (ArrayVec ℕ × Signature)) (t : Table) (key name : List ℕ)
     (r : Option ℕ) → map operation_view es ≡ t.operations → key ≡ name
     → r ≡ position (λ (k : ArrayVec ℕ). bytes_eq key k.items)
@@ -84,7 +84,7 @@ inside_by [] i x e = absurd cc
 inside_by (y ∷ xs) zero x e = omega arith
 inside_by (y ∷ xs) (suc i) x e = omega (arith, inside_by xs i x e)
 
--- the operation that was read is known
+-- the types of an operation that was read are known
 pub signature_known : (es : List (ArrayVec ℕ × Signature)) (view t : Table) (i : ℕ)
     (e : ArrayVec ℕ × Signature) → IsTable view → view ≡ t → view.operations ≡ map operation_view es
     → slice_get es i ≡ Some e

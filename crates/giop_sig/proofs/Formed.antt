@@ -1,4 +1,4 @@
--- A well-formed node: its parts and names, and that it stays well formed in a table that grows.
+-- A well-formed node: its parts and names, and that it stays well formed while the table grows.
 use Rattle.std.proofs.Common.{◌≡◌, ℕ, zero, suc, ◌<◌, ◌≤◌, Bool, true, false, cond, List, [], ◌∷◌, ◌++◌, length, get_or, Option, Some, None, sym, subst, arith, lit<}
 use Rattle.std.specs.Prelude.{slice_get, IfSome, codes, ◌==◌}
 use Rattle.std.specs.Option.{option_map}
@@ -9,12 +9,12 @@ use Rattle.giop_sig.specs.declared.entries.Entry.{Entry}
 use Rattle.giop_sig.specs.declared.entries.Entry.TheVariants as entries
 use Rattle.giop_sig.specs.Kinds.{is_kind, kind_word, kind_words, marked_word}
 use Rattle.giop_sig.specs.Types.{HasInner, HasMember, IsUnion}
-use Rattle.giop_sig.specs.Table.{Node, Part, Case, node_in, part_at, type_of, name_of, name_at, switch_at, shape_of, case_part, IsFormed, IsPart, IsInner, IsSwitch}
+use Rattle.giop_sig.specs.Table.{Node, Part, Case, node_in, part_at, type_of, name_of, name_at, switch_at, shape_of, case_part, IsFormed, IsPart, IsInner, IsScalarNode, IsSwitch, TakesOctet}
 use Rattle.giop_sig.specs.Table as nodes
 use Rattle.giop_sig.specs.Views.{node_view, IsSized}
 use Rattle.giop_sig.proofs.Nodes.{part_there}
 
--- what holds of each part holds of the one that is read
+-- what is true of each part is true of the one that is read
 abbrev OnPart : (Part → Type 0) → Option Part → Type 0
 OnPart P None = Unit {0}
 OnPart P (Some p) = P p
@@ -29,7 +29,7 @@ on_some : (P : Part → Type 0) (o : Option Part) (p : Part) → o ≡ Some p �
 on_some P None p e h = absurd cc
 on_some P (Some q) p e h = search (arith)
 
--- the part that is read in a place
+-- the part that is read at a place
 part_in : (types : List Node) (n : ℕ) (ps : List Part) (i : ℕ)
     → AllByRecursion (IsPart types n) ps → i < length ps
     → IsPart types n (record { name = name_of (slice_get ps i); type = type_of (slice_get ps i) })
@@ -44,7 +44,7 @@ narrow_read P wide [] i all = tt
 narrow_read P wide (c ∷ cs) zero all = all.0
 narrow_read P wide (c ∷ cs) (suc i) all = narrow_read P wide cs i all.1
 
--- what follows a kind of a TypeCode, if there is little room
+-- what comes after a kind of a TypeCode, if there is little room
 narrow_formed : (types : List Node) (n : ℕ) (wide : Option ℕ) {kind : ℕ} (cases : List Case) (i : ℕ)
     → IsFormed types n (nodes.typecode wide kind cases) → i < length cases
     → IsPart types n (record {
@@ -59,7 +59,7 @@ narrow_formed types n wide {kind} cases i formed has =
     formed.2)) in
     subst (λ o. IsPart types n (record { name = name_of o; type = type_of o })) (sym there.1) is
 
--- the part at a place is one that the whole can have
+-- the part at a place is one that the type may have
 pub part_formed : (types : List Node) (n : ℕ) (node : Node) (i : ℕ) → IsFormed types n node
     → HasInner (shape_of node) i → IsInner types n (type_of (part_at node i))
 part_formed types n (nodes.members parts) i formed has =
@@ -75,6 +75,7 @@ part_formed types n (nodes.array count element) i formed has = formed.1
 part_formed types n (nodes.encapsulation held) i formed has = formed
 part_formed types n (nodes.tagged special tag inner other) i formed has = search (arith, part_in)
 part_formed types n (nodes.any code) i formed has = rw has formed
+part_formed types n (nodes.announced place) i formed has = absurd (omega arith)
 part_formed types n (nodes.typecode wide kind cases) i formed has =
     (narrow_formed types n wide cases i formed has).inner
 part_formed types n _ i formed has = absurd has
@@ -94,6 +95,7 @@ name_short types n (nodes.tagged special tag inner other) i formed has =
     (part_in types n (tag ∷ inner ∷ other ∷ []) i (formed.1, (formed.2, (formed.3, tt))) has).short
 name_short types n (nodes.typecode wide kind cases) i formed has =
     (narrow_formed types n wide cases i formed has).short
+name_short types n (nodes.announced place) i formed has = absurd (omega arith)
 name_short types n _ i formed has = absurd has
 
 pub switch_formed : (types : List Node) (n : ℕ) (node : Node) → IsFormed types n node
@@ -124,7 +126,7 @@ marked_short : (v : Bool) (n : ℕ)
 marked_short true n = lit< tt
 marked_short false n = names_short kind_words n words_short
 
--- and the words of kinds
+-- the words of kinds are short
 word_short : (mark n : ℕ) → IfSome (marked_word mark n) (λ word. length word ≤ 64)
 word_short mark n =
     kind_short (is_kind mark) (kind_word n) (marked_short (n == 4294967295) n)
@@ -139,7 +141,7 @@ enum_name_short types i (nodes.enumeration names) n formed = search (
 enum_name_short types i (nodes.marked mark) n formed = word_short mark n
 enum_name_short types i _ n formed = tt
 
--- an entry that is formed can be counted
+-- an entry that is well formed can be counted
 pub sized : (types : List Node) (n : ℕ) (e : Entry) → IsFormed types n (node_view e) → IsSized e
 sized types n (entries.Enumeration names) formed = search (arith, length-map)
 sized types n (entries.Members parts) formed = search (arith, length-map)
@@ -149,50 +151,68 @@ sized types n _ formed = tt
 
 -- ---- two tables that agree below a number
 
+-- nodes of the first that take an octet, or are types of one number, are so in the second
+pub record AlikeBelow (types others : List Node) (n : ℕ) : Type 0 where
+  pub takes : (i : ℕ) → i < n → TakesOctet (node_in types i) → TakesOctet (node_in others i)
+  pub scalar : (i : ℕ) → i < n → IsScalarNode (node_in types i) → IsScalarNode (node_in others i)
+
+pub inner_moved : (types others : List Node) (n i : ℕ) → AlikeBelow types others n
+    → IsInner types n i → IsInner others n i
+inner_moved types others n i alike is =
+    record { below = is.below; takes = alike.takes i is.below is.takes }
+
+part_moved : (types others : List Node) (n : ℕ) (p : Part) → AlikeBelow types others n
+    → IsPart types n p → IsPart others n p
+part_moved types others n p alike is =
+    record { inner = inner_moved types others n p.type alike is.inner; short = is.short }
+
+switch_moved : (types others : List Node) (n i : ℕ) → AlikeBelow types others n
+    → IsSwitch types n i → IsSwitch others n i
+switch_moved types others n i alike is =
+    record { below = is.below; scalar = alike.scalar i is.below is.scalar }
+
+-- whether a node may have a number depends on the nodes of smaller numbers alone
+pub formed_alike : (types others : List Node) (n : ℕ) (node : Node) → AlikeBelow types others n
+    → IsFormed types n node → IsFormed others n node
+formed_alike types others n (nodes.enumeration names) alike formed = formed
+formed_alike types others n (nodes.members parts) alike formed = search (arith, part_moved, get_or)
+formed_alike types others n (nodes.union switch cases otherwise) alike formed = search (
+  arith,
+  switch_moved,
+  part_moved,
+  get_or,
+)
+formed_alike types others n (nodes.sequence bound element) alike formed =
+    search (arith, inner_moved)
+formed_alike types others n (nodes.array count element) alike formed = search (arith, inner_moved)
+formed_alike types others n (nodes.encapsulation held) alike formed = search (arith, inner_moved)
+formed_alike types others n (nodes.any code) alike formed = search (arith, inner_moved)
+formed_alike types others n (nodes.typecode wide kind cases) alike formed = search (
+  arith,
+  switch_moved,
+  part_moved,
+  get_or,
+)
+formed_alike types others n (nodes.tagged special tag inner other) alike formed = search (
+  arith,
+  switch_moved,
+  part_moved,
+)
+formed_alike types others n (nodes.recursive bound element) alike formed = formed
+formed_alike types others n _ alike formed = tt
+
 abbrev pub SameNodes : List Node → List Node → ℕ → Type 0
 SameNodes types others n = (i : ℕ) → i < n → node_in types i ≡ node_in others i
 
-inner_moved : (types others : List Node) (n i : ℕ) → SameNodes types others n
-    → IsInner types n i → IsInner others n i
-inner_moved types others n i same is = search (arith)
-
-part_moved : (types others : List Node) (n : ℕ) (p : Part) → SameNodes types others n
-    → IsPart types n p → IsPart others n p
-part_moved types others n p same is = search (arith, inner_moved)
-
-switch_moved : (types others : List Node) (n i : ℕ) → SameNodes types others n
-    → IsSwitch types n i → IsSwitch others n i
-switch_moved types others n i same is = search (arith)
-
--- whether a node can have a number depends on the nodes of smaller numbers alone
 pub formed_moved : (types others : List Node) (n : ℕ) (node : Node) → SameNodes types others n
     → IsFormed types n node → IsFormed others n node
-formed_moved types others n (nodes.enumeration names) same formed = formed
-formed_moved types others n (nodes.members parts) same formed = search (arith, part_moved, get_or)
-formed_moved types others n (nodes.union switch cases otherwise) same formed = search (
-  arith,
-  switch_moved,
-  part_moved,
-  get_or,
-)
-formed_moved types others n (nodes.sequence bound element) same formed = search (arith, inner_moved)
-formed_moved types others n (nodes.array count element) same formed = search (arith, inner_moved)
-formed_moved types others n (nodes.encapsulation held) same formed = search (arith, inner_moved)
-formed_moved types others n (nodes.any code) same formed = search (arith, inner_moved)
-formed_moved types others n (nodes.typecode wide kind cases) same formed = search (
-  arith,
-  switch_moved,
-  part_moved,
-  get_or,
-)
-formed_moved types others n (nodes.tagged special tag inner other) same formed = search (
-  arith,
-  switch_moved,
-  part_moved,
-)
-formed_moved types others n _ same formed = tt
+formed_moved types others n node same formed =
+    formed_alike types others n node (record {
+      takes = λ i lt takes. subst TakesOctet (same i lt) takes;
+      scalar = λ i lt scalar. subst IsScalarNode (same i lt) scalar;
+    }) formed
 
--- and stays so when types are added after them
+-- a node may still have its number after types were added
 pub formed_stays : (types more : List Node) (n : ℕ) (node : Node) → n ≤ length types
     → IsFormed types n node → IsFormed (types ++ more) n node
 formed_stays types more n node le formed = search (arith, formed_moved, get_or_append_left)

@@ -1,4 +1,4 @@
--- The fronts of repository ids: one that is added, and one that is found.
+-- The fronts of repository ids: adding one, and finding one.
 use Rattle.std.proofs.Common.{◌≡◌, ℕ, Bool, true, false, cond, List, [], ◌∷◌, ◌++◌, map, Some, None, refl, sym, ap, ◌∙◌}
 use Rattle.std.specs.List.{list_any, position}
 use Rattle.std.specs.Str.{bytes_eq}
@@ -20,7 +20,7 @@ put_by : (ks : List (ArrayVec ℕ)) (k : ArrayVec ℕ) (v : Bool)
 put_by ks k true = refl
 put_by ks k false = map-append (λ k. k.items) ks (k ∷ [])
 
--- the fronts after one is put
+-- the fronts after one was put
 pub front_put : (ks new : List (ArrayVec ℕ)) (k : ArrayVec ℕ) (front : List ℕ) → k.items ≡ front
     → new ≡ insert_key same_front ks k → items_of new ≡ with_front (items_of ks) front
 front_put ks new k front same is =
@@ -29,7 +29,7 @@ front_put ks new k front same is =
     (sym (list_any-map (bytes_eq k.items) (λ (x : ArrayVec ℕ). x.items) ks))
     ∙ ap (with_front (items_of ks)) same
 
--- ---- fronts stay such as are known
+-- ---- fronts stay within their limits
 
 -- ---- the place of a front
 

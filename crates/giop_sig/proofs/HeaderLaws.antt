@@ -10,7 +10,7 @@ use Rattle.giop_sig.specs.AnyTypes.{first_table, third_types}
 use Rattle.giop_sig.specs.HeaderTypes.{cell_in, header_number, header_rows, header_type, IdStandsFirst, BeginsWithId, IsTable}
 use Rattle.giop_sig.proofs.Builtins.{header_found}
 
--- the header types of the table of a version, or of another
+-- the header types of the table of version 3 or of the other versions
 abbrev headers : Bool → ℕ → ℕ → ℕ → Option Ty
 headers v version minor kind =
     option_map (tree (record (first_table version) { types = cond v third_types builtin_types }))

@@ -1,4 +1,4 @@
--- What a TypeCode of an any tells, in signals and in what they stand for.
+-- What the TypeCode of an any tells, as signals and as what they stand for.
 use Rattle.std.proofs.lemmas.Slice.Eq.{bytes_eq-Decides}
 use Rattle.std.proofs.Common.{◌≡◌, ℕ, zero, suc, ◌+◌, ◌-◌, ◌<◌, ◌≤◌, Bool, true, false, cond, nat_lt, not, ◌&&◌, take, drop, nat_le, List, [], ◌∷◌, ◌++◌, length, map, get_or, Option, Some, None, refl, sym, ap, ◌∙◌, ◌⊎◌, inl, inr, subst, arith}
 use Rattle.std.specs.Prelude.{position, slice_index_or}
@@ -22,10 +22,10 @@ use Rattle.giop_sig.proofs.Tables.{shape_at}
 use Rattle.giop_sig.specs.Hearings.{deaf, hearing_in, sign_is, signal_after, signal_by_node, signal_of, told_of}
 use Rattle.giop_sig.specs.Table.{Node, Identity, Table, identified_in, identity_at, no_identity, node_at, seen, shape_of, takes_octet}
 use Rattle.giop_sig.specs.Table as nodes
-use Rattle.giop_sig.specs.Trees.{any_hearing, depth_in, wide_in, follows, grow, in_room, octet_type, tree_at}
+use Rattle.giop_sig.specs.Trees.{Room, any_hearing, room_of, depth_in, wide_in, follows, grow, in_room, octet_type, tree_at}
 use Rattle.giop_sig.specs.Types.{Sign, MarkedNumber, Counted, Spelt, Told, Untold, Awaits, Offers, Is, Empty, Unknown, Then, Stops, Hearing, Ty, sequel, shape_in}
 
--- what was told comes back from its signal
+-- what was told is what its signal stands for
 told_again : (told : Told) → told_of (signal_of told) ≡ told
 told_again Untold = refl
 told_again (Awaits n) = refl
@@ -34,7 +34,7 @@ told_again (Is i) = refl
 told_again Empty = refl
 told_again Unknown = refl
 
--- the signal of what a list tells
+-- the signal of what an element of a list tells
 pub listed_signal : (xs : List Told) (k : ℕ) (d : Signal) → k < length xs
     → get_or (map signal_of xs) k d ≡ signal_of (get_or xs k Unknown)
 listed_signal [] k d lt = absurd (omega arith)
@@ -43,11 +43,11 @@ listed_signal (x ∷ xs) (suc k) d lt = listed_signal xs k d (omega arith)
 
 -- ---- a type of the table
 
--- how a node of a tree hears
-hearing_grown : (h : Hearing) (f : ℕ → Ty) (room : ℕ) (code : ℕ) (node : Node)
-    → node ≡ nodes.any code → hearing_in (grow h f (in_room room node)) ≡ h
+-- how the tree of a node hears
+hearing_grown : (h : Room) (f : ℕ → Ty) (room : ℕ) (code : ℕ) (node : Node)
+    → node ≡ nodes.any code → hearing_in (grow h f (in_room room node)) ≡ h.hearing
 hearing_grown h f room code node e =
-    subst (λ n. hearing_in (grow h f (in_room room n)) ≡ h) (sym e) refl
+    subst (λ n. hearing_in (grow h f (in_room room n)) ≡ h.hearing) (sym e) refl
 
 pub any_hears : (t : Table) (n i code : ℕ) (told : Told) (sign : Sign)
     → node_at t i ≡ nodes.any code
@@ -55,12 +55,12 @@ pub any_hears : (t : Table) (n i code : ℕ) (told : Told) (sign : Sign)
 unfolding tree_at
 any_hears t zero i code told sign e =
     ap (λ (h : Hearing). h.hears told sign)
-    (hearing_grown (any_hearing t 0) (λ k. octet_type) 0 code (node_at t i) e)
+    (hearing_grown (room_of t 0) (λ k. octet_type) 0 code (node_at t i) e)
 any_hears t (suc n) i code told sign e =
     ap (λ (h : Hearing). h.hears told sign)
-    (hearing_grown (any_hearing t n) (tree_at t n) n code (node_at t i) e)
+    (hearing_grown (room_of t n) (tree_at t n) n code (node_at t i) e)
 
-deaf_grown : (h : Hearing) (f : ℕ → Ty) (room : ℕ) (node : Node)
+deaf_grown : (h : Room) (f : ℕ → Ty) (room : ℕ) (node : Node)
     → (shape_of node ≡ shapes.Led → ⊥) → hearing_in (grow h f (in_room room node)) ≡ deaf
 deaf_grown h f room (nodes.any code) other = absurd (other refl)
 deaf_grown h f room (nodes.prim p) other = refl
@@ -70,10 +70,10 @@ pub deaf_at : (t : Table) (n i : ℕ) → (shape_of (node_at t i) ≡ shapes.Led
     → hearing_in (tree_at t n i) ≡ deaf
 unfolding tree_at
 deaf_at t zero i other =
-    deaf_grown (any_hearing t 0) (λ k. octet_type) 0 (node_at t i) other
-deaf_at t (suc n) i other = deaf_grown (any_hearing t n) (tree_at t n) n (node_at t i) other
+    deaf_grown (room_of t 0) (λ k. octet_type) 0 (node_at t i) other
+deaf_at t (suc n) i other = deaf_grown (room_of t n) (tree_at t n) n (node_at t i) other
 
--- only an any is led
+-- only an any begins with a part that tells what comes after it
 pub led_any : (node : Node) → shape_of node ≡ shapes.Led → (code : ℕ) × (node ≡ nodes.any code)
 led_any (nodes.any code) e = (code, refl)
 led_any (nodes.prim p) e = absurd cc
@@ -89,6 +89,8 @@ led_any (nodes.array count element) e = absurd cc
 led_any (nodes.encapsulation held) e = absurd cc
 led_any (nodes.tagged special tag inner other) e = absurd cc
 led_any (nodes.marked mark) e = absurd cc
+led_any (nodes.announced place) e = absurd cc
+led_any (nodes.recursive bound element) e = absurd cc
 led_any (nodes.typecode wide kind cases) e = absurd cc
 
 -- ---- the same in each version
@@ -121,7 +123,7 @@ counted_seen : (n : Bool) (t : Table) (told : Told) (k : ℕ)
 counted_seen n t (Offers i) k = refl
 counted_seen n t _ k = refl
 
--- what is heard
+-- what has been told after a sign
 hears_seen : (n : Bool) (t : Table) (told : Told) (sign : Sign)
     → hears (seen n t) told sign ≡ hears t told sign
 hears_seen n t told (MarkedNumber zero k) = refl
@@ -130,7 +132,7 @@ hears_seen n t told (MarkedNumber (suc (suc mark)) k) = refl
 hears_seen n t told (Counted k) = counted_seen n t told k
 hears_seen n t told (Spelt octets more) = spelt_seen n t told octets more
 
--- what was heard by a table is heard by it as it is seen
+-- what a table tells is the same for the table as messages see it
 pub seen_hears : (n : Bool) (t u : Table) (told : Told) (sign : Sign) (result : Signal)
     → seen n t ≡ u → result ≡ signal_of (hears t told sign)
     → result ≡ signal_of (hears u told sign)
@@ -138,7 +140,7 @@ seen_hears n t u told sign result view is =
     is ∙ ap signal_of (sym (hears_seen n t told sign))
     ∙ ap (λ v. signal_of (hears v told sign)) view
 
--- ---- what an any hears, and what follows
+-- ---- what has been told in an any, and what comes next
 
 pub heard_any : (t : Table) (i n : ℕ) (told result : Signal) (sign : Heard)
     → shape_of (node_at t i) ≡ shapes.Led
@@ -177,9 +179,9 @@ pub follow_any : (t : Table) (i room : ℕ) → shape_of (node_at t i) ≡ shape
 unfolding tree_at
 follow_any t i room led =
     let any = led_any (node_at t i) led in
-    hearing_grown (any_hearing t room) (tree_at t room) room any.0 (node_at t i) any.1
+    hearing_grown (room_of t room) (tree_at t room) room any.0 (node_at t i) any.1
 
--- what follows in an any is a type of the table that follows there
+-- what comes next in an any is a type of the table that can follow there
 selected_follows : (b : ℕ → Bool) (told : Told) (i : ℕ) → selects b told ≡ Then i → b i ≡ true
 selected_follows b (Is j) i e = by_place (b j) refl e
   where
@@ -211,7 +213,7 @@ follows_known t room i e = by_place (nat_lt i (length t.types)) refl e
     by_place true is e = ltb-true i (length t.types) is
     by_place false is e = absurd cc
 
--- in a tree
+-- the same in a tree
 module _ (t : Table) (room id : ℕ) (led : shape_in (tree_at t (suc room) id) ≡ shapes.Led) where
   led_hearing : hearing_in (tree_at t (suc room) id) ≡ any_hearing t room
   led_hearing = follow_any t id room (sym (shape_at t (suc room) id) ∙ led)
@@ -235,7 +237,7 @@ not_below a b never = by_place (cases_lt a b)
     by_place (inl lt) = absurd (false≢true (never lt))
     by_place (inr le) = le
 
--- no type comes after the last
+-- no type comes after the last one
 pub past_next : (t : Table) (i : ℕ) → length t.types ≤ i + 1
     → signals.Unknown ≡ signal_of (next_sequence t i)
 past_next t i le =
@@ -243,7 +245,7 @@ past_next t i le =
     get_or_past t.types (i + 1) (nodes.prim Octet) le in
     rw e refl
 
--- an id in an octet of a kind and the octets after it
+-- a repository id, taken apart into the octet of its kind and the octets after it
 pub identity_parts : (t : Table) (octets : List ℕ) → 1 ≤ length octets
     → identity_told t octets
     ≡ found_as t (get_or octets 0 0) (identified_in t (take (length octets - 1) (drop 1 octets)))
@@ -253,7 +255,7 @@ identity_parts t (kind ∷ id) some =
     ap (λ xs. found_as t kind (identified_in t xs))
     (sym (ap (λ n. take n id) e ∙ take-length id))
 
--- no id and no front is so long
+-- no repository id and no front is this long
 
 short_by : (octets : List ℕ) (es : List Identity) (k : ℕ) (types : List Node)
     → All (IsIdentity types) es
@@ -315,6 +317,7 @@ led_or (shapes.Union n) = inr (λ e. absurd cc)
 led_or (shapes.Sequence bound) = inr (λ e. absurd cc)
 led_or (shapes.Array n) = inr (λ e. absurd cc)
 led_or shapes.Encapsulation = inr (λ e. absurd cc)
+led_or (shapes.Recursive bound) = inr (λ e. absurd cc)
 led_or shapes.Tagged = inr (λ e. absurd cc)
 led_or (shapes.Marked mark) = inr (λ e. absurd cc)
 
@@ -329,7 +332,7 @@ after_by t i n told sign (inl led) =
 after_by t i n told sign (inr other) =
     ap told_of (sym (after_none t i told sign other)) ∙ heard_none t i n told sign other
 
--- what a signal stands for after a sign is what its type hears
+-- after a sign, the signal stands for what has been told in its type
 pub told_after_sign : (t : Table) (n i : ℕ) (told : Signal) (sign : Heard)
     → told_of (signal_after t i told sign)
     ≡ (hearing_in (tree_at t n i)).hears (told_of told) (sign_is sign)

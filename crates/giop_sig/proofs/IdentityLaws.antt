@@ -45,7 +45,7 @@ none_reads : (types : List Node) (s : Scope) (text : List ℕ) (t : Token) (more
 none_reads types s text t more true other h = rw (h.1, other) (good text h (λ k. tt))
 none_reads types s text t more false other h = good text h (λ k. tt)
 
--- a type's id, where it has one, in front of a token that is none
+-- the repository id of a type, if it has one, before a token that is none
 pub identity_reads : (types : List Node) (s : Scope) (id : Option (List ℕ)) (text : List ℕ)
     (t : Token) (more : List Token) → as_repository t ≡ None → OfIdentity kinds.Syntax s id
     → AreTokens text (spell_identity id (t ∷ more))
@@ -62,7 +62,7 @@ identity_reads types s (Some id) text t more other free h =
 
 -- ---- a text that was read
 
--- an id that was read is not too long, since a longer one is no token
+-- a repository id that was read isn't too long, since a longer one is no token
 pub repository_short : (text id rest : List ℕ) → next text ≡ Ok (Some (repository id), rest)
     → length id ≤ 128
 unfolding next_as
@@ -111,7 +111,7 @@ pub identity_takes : (s : Scope) (text : List ℕ) (x : IdentityRead) → identi
 unfolding identity_at
 identity_takes s text x e = taken_by s text x (is_third s.names) refl e
 
--- an id that was new is still new
+-- a repository id that was new is still new
 pub identity_still_new : (s t : Scope) (id : Option (List ℕ)) → Grows s t
     → IsNewIdentity s.table id → IsNewIdentity t.table id
 identity_still_new s t None g new = tt

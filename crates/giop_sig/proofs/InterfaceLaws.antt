@@ -1,5 +1,5 @@
--- A table of interfaces stays one when an interface or a KEY is added, its look-ups are those of its
--- lists, and whose an object key is.
+-- A table of interfaces is still one after an interface or a KEY was added. What is looked up in it
+-- is what its lists have. And the interface of an object key.
 use Rattle.std.proofs.Common.{◌≡◌, ◌⊎◌, inl, inr, ℕ, zero, suc, ◌+◌, ◌*◌, ◌/◌, ◌%◌, ◌<◌, ◌≤◌, Bool, true, false, cond, ◌||◌, ltb, eqb, nat_eq, List, [], ◌∷◌, ◌++◌, length, map, take, drop, get_or, Option, Some, None, refl, sym, ap, ◌∙◌, arith}
 use Rattle.std.specs.Prelude.{slice_set, IfSome}
 use Rattle.std.specs.List.{All, AllByRecursion, list_any, position, position_or_len}
@@ -20,7 +20,8 @@ use Rattle.giop_sig.specs.Interfaces.{Interfaces, digit, hex, whole_text, front_
 use Rattle.giop_sig.specs.InterfaceViews.{key_view, interfaces_view, IsKeyOf, AreKept}
 use Rattle.giop_sig.proofs.Added.{some_position, list_any-map, entry_last}
 use Rattle.giop_sig.proofs.Finds.{position-map, not_there}
-use Rattle.giop_sig.proofs.ScopeLaws.{key_is, none_found, none_before}
+use Rattle.giop_sig.specs.ScopeViews.{key_is}
+use Rattle.giop_sig.proofs.ScopeLaws.{none_found, none_before}
 
 -- ---- hexadecimal digits
 
@@ -58,7 +59,7 @@ name_place i ks key id names same =
     ∙ ap (λ (w : List ℕ). position (bytes_eq w) (items_of ks)) same
     ∙ ap (position (bytes_eq id)) names
 
--- what is found by a repository id
+-- what is found for a repository id
 pub name_found : (i : Interfaces) (ks : List (ArrayVec ℕ)) (key : ArrayVec ℕ) (id : List ℕ)
     (o : Option ℕ) → map (λ (n : ArrayVec ℕ). n.items) ks ≡ i.names → key.items ≡ id
     → o ≡ position (key_is key) ks
@@ -110,7 +111,7 @@ below_by : (v : Bool) (ns : List (List ℕ)) (id : List ℕ) (n : ℕ) → ltb n
 below_by true ns id n e le = ltb-true n (length ns) e
 below_by false ns id n e le = omega (arith, length-append ns (id ∷ []))
 
--- an interface that is added has a number
+-- the number of an interface that was added is one of the table's
 pub number_below : (i : Interfaces) (id : List ℕ)
     → number_of i id < length (with_interface i id).names
 number_below i id =
@@ -126,7 +127,7 @@ few_by i id all (inl known) =
     omega arith
 few_by i id all (inr few) = omega (arith, place_within (bytes_eq id) i.names)
 
--- the number of an interface for which there is room, as the code finds it
+-- the number of an interface, if there is room for it, as the code finds it
 pub number_few : (i there : Interfaces) (id : List ℕ) (n : ℕ) → there ≡ i
     → n ≡ number_of there id → length i.names ≤ 1024
     → (list_any (bytes_eq id) i.names ≡ true) ⊎ (length i.names < 1024) → n < 1024
@@ -142,7 +143,7 @@ names_by false ks ns key id names same =
     ∙ ap (λ (xs : List (List ℕ)). xs ++ key.items ∷ []) names
     ∙ ap (λ (w : List ℕ). ns ++ w ∷ []) same
 
--- the fields after an interface is put
+-- the fields after an interface was put
 pub name_put : (i : Interfaces) (ks new : List (ArrayVec ℕ)) (es : List (ArrayVec ℕ × InterfaceId))
     (key : ArrayVec ℕ) (id : List ℕ) → interfaces_view ks es ≡ i → key.items ≡ id
     → new ≡ insert_key key_is ks key → interfaces_view new es ≡ with_interface i id
@@ -197,7 +198,7 @@ view_found : (key : ArrayVec ℕ) (es : List (ArrayVec ℕ × InterfaceId))
 view_found key [] = refl
 view_found key (e ∷ es) = search (arith, cond, cond_map, view_found key es)
 
--- what is found by a key
+-- what is found for a key
 pub text_found : (i : Interfaces) (es : List (ArrayVec ℕ × InterfaceId)) (key : ArrayVec ℕ)
     (text : List ℕ) (o : Option InterfaceId) → map key_view es ≡ i.keys → key.items ≡ text
     → o ≡ lookup (key_is key) es → option_map (λ (x : InterfaceId). x.0) o ≡ of_text i text
@@ -222,12 +223,12 @@ long_keys n (k ∷ ks) text all long =
     long_by (bytes_eq text k.0) n k text (lookup (bytes_eq text) ks) refl all.0 long
     (long_keys n ks text all.1 long)
 
--- a text longer than all KEYs is none
+-- a text that is longer than all KEYs isn't one
 pub long_none : (i : Interfaces) (text : List ℕ) → AllByRecursion (IsKeyOf (length i.names)) i.keys
     → 128 < length text → of_text i text ≡ None
 long_none i text all long = long_keys (length i.names) i.keys text all long
 
--- the fields after a new KEY is put
+-- the fields after a new KEY was put
 pub key_put : (i : Interfaces) (ks : List (ArrayVec ℕ)) (es new : List (ArrayVec ℕ × InterfaceId))
     (key : ArrayVec ℕ) (v : InterfaceId) (text : List ℕ) → interfaces_view ks es ≡ i
     → key.items ≡ text → of_text i text ≡ None → new ≡ insert_entry key_is es key v
@@ -262,7 +263,7 @@ none_last text (x ∷ ks) k e differs =
     none_last_by (bytes_eq text x.0) x.1 (lookup (bytes_eq text) ks)
     (lookup (bytes_eq text) (ks ++ k ∷ [])) e (λ none. none_last text ks k none differs)
 
--- the mark of a size after a KEY is put
+-- the mark of a size after a KEY was put
 abbrev pub mark_after : List Bool → List ℕ → Bool
 mark_after marked text =
     get_or marked (length text / 2) false || nat_eq (length text % 2) 1
@@ -271,7 +272,7 @@ neither : (a b : Bool) → (a || b) ≡ false → (a ≡ false) × (b ≡ false)
 neither true b e = absurd cc
 neither false b e = (refl, e)
 
--- a size that isn't marked wasn't before
+-- a size that isn't marked afterwards wasn't marked before
 unmarked_by : (marked : List Bool) (k n : ℕ) (old odd v : Bool) → eqb n k ≡ v → k < length marked
     → get_or marked k false ≡ old → get_or (slice_set marked k (old || odd)) n false ≡ false
     → get_or marked n false ≡ false
@@ -283,7 +284,7 @@ unmarked_by marked k n old odd true same lt is e =
 unmarked_by marked k n old odd false same lt is e =
     sym (get_or-set_other marked k n (old || odd) false (eqb-false n k same)) ∙ e
 
--- the text of a front of a size that isn't marked is another
+-- a front whose size isn't marked has another text
 other_by : (v : Bool) (marked : List Bool) (text octets : List ℕ)
     → bytes_eq (front_text octets) text ≡ v → length text / 2 < length marked
     → get_or (slice_set marked (length text / 2) (mark_after marked text)) (length octets) false
@@ -320,7 +321,7 @@ key_kept marked i text n is short lt =
           (other_by (bytes_eq (front_text octets) text) marked text octets refl within e);
     }
 
--- ---- whose an object key is
+-- ---- the interface of an object key
 
 pub longest_zero : (i : Interfaces) (key : List ℕ)
     → longest_front i key 0 ≡ of_text i (front_text [])
@@ -406,7 +407,7 @@ whose_by i key false e = let short = ltb-false 128 (length key) e in record {
       (length key) (omega arith));
 }
 
--- of the definition
+-- the interface that is found is that of the definition
 pub whose : (i : Interfaces) (key : List ℕ) → IsInterfaceOf i key (of_key i key)
 whose i key = whose_by i key (ltb 128 (length key)) refl
 
@@ -449,7 +450,7 @@ pub longest_among : (i : Interfaces) (key : List ℕ) (m : ℕ) (r : Option Inte
 longest_among i key m None all e = tt
 longest_among i key m (Some x) all e = longest_known i key x.0 all m (sym e)
 
--- the interface of an object key is one of them
+-- the interface of an object key is one of the table's
 module _ (i : Interfaces) (key : List ℕ) (all : AllByRecursion (IsKeyOf (length i.names)) i.keys)
   where
     of_known : (b : Bool) (j : ℕ) → cond b None
@@ -467,7 +468,7 @@ module _ (i : Interfaces) (key : List ℕ) (all : AllByRecursion (IsKeyOf (lengt
     pub key_known : IfSome (of_key i key) (λ j. j < length i.names)
     key_known = known_in (of_key i key) refl
 
--- where there is no KEY, no key has an interface
+-- if there is no KEY, no key has an interface
 text_without : (keys : List (List ℕ × ℕ)) (text : List ℕ) → length keys ≡ 0 →
     lookup (bytes_eq text) keys ≡ None
 text_without [] text none = refl

@@ -1,8 +1,6 @@
 -- Reading the spelling of members gives them, or a rule that they break.
 use Rattle.std.proofs.Common.{◌≡◌, inl, ℕ, zero, suc, ◌+◌, ◌<◌, ◌≤◌, Bool, true, false, cond, ltb, leb, List, [], ◌∷◌, ◌++◌, length, Option, Some, None, Result, Ok, Err, append_assoc, refl, sym, subst, ◌∙◌, arith}
-use Rattle.std.specs.Map.{lookup}
 use Rattle.std.specs.Option.{is_some}
-use Rattle.std.specs.Str.{bytes_eq}
 use Rattle.std.proofs.lemmas.List.{length-append, append-nil}
 use Rattle.std.proofs.lemmas.Bool.{ltb-true, ltb-false, leb-true, leb-false, false≢true}
 use Rattle.giop_tokens.specs.declared.fault.Refusal.{Refusal}
@@ -13,11 +11,12 @@ use Rattle.giop_tokens.specs.Reading.{◌>>=◌}
 use Rattle.giop_tokens.specs.Readers.{mark_at, mark_if}
 use Rattle.giop_tokens.specs.Names.{too_long, identifier_at}
 use Rattle.giop_tokens.proofs.ReaderLaws.{mark_again, mark_if_again, identifier_again, identifier_long}
+use Rattle.giop_sig.specs.declared.announced.TypeWord.{TypeWord}
 use Rattle.giop_sig.specs.Table.{Node, Part}
 use Rattle.giop_sig.specs.Trees.{depth_of}
 use Rattle.giop_sig.specs.Grammar.{TypeExpr, Base, Item, spell_lengths, spell_type, spell_item, spell_items}
 use Rattle.giop_sig.specs.Scopes.{Names, is_third, Scope, item_part, place, add_arrays, add_item, add_items}
-use Rattle.giop_sig.specs.Validity.{Kind, IsFree, is_among, OfNewName, OfSome, OfItem, OfItems, OfDeclared}
+use Rattle.giop_sig.specs.Validity.{Kind, IsFree, is_among, is_taken, OfNewName, OfSome, OfItem, OfItems, OfDeclared}
 use Rattle.giop_sig.specs.Outcomes.{refused}
 use Rattle.giop_sig.specs.TypeReading.{type_at}
 use Rattle.giop_sig.specs.ItemReading.{new_name_at, declared_at, ItemRead, lengths_at, most_lengths, read_item, item_at, Members, member_at, member_step, MembersRead, members_run, filled_at, Declared, too_deep, end_of}
@@ -25,7 +24,7 @@ use Rattle.giop_sig.proofs.PlaceLaws.{within_same, arrays_more, item_names, item
 use Rattle.giop_sig.proofs.ReadingLaws.{Out, good, broken, out_bind, out_more, Apart, if_apart}
 use Rattle.giop_sig.proofs.LengthLaws.{lengths_reads}
 use Rattle.giop_sig.proofs.TypeLaws.{type_reads}
-use Rattle.giop_sig.proofs.ItemTaken.{none_of, unused, then_run}
+use Rattle.giop_sig.proofs.ItemTaken.{unused, then_run}
 use Rattle.giop_sig.proofs.RepeatLaws.{step_first}
 use Rattle.giop_sig.specs.Repeats.{in_steps}
 
@@ -46,7 +45,7 @@ filled_on text h = rw h refl
 
 -- ---- names
 
--- what is asked of a name that is new
+-- what is asked of a new name
 pub name_keeps : (third : Bool) (most : ℕ) (seen : List (List ℕ)) (w : List ℕ) → IsFree third w
     → length w ≤ 64 → length seen < most → is_among seen w ≡ false
     → (k : Kind) → OfNewName k third most seen w
@@ -55,7 +54,7 @@ name_keeps third most seen w free short few new kinds.Duplicate = new
 name_keeps third most seen w free short few new kinds.Limit = (short, few)
 name_keeps third most seen w free short few new _ = tt
 
--- a word, where it is new and there is room for one more; or a rule is broken
+-- a word that is new and for which there is room, or a rule that is broken
 pub unused_reads : {rule : Kind → Type 0} {types : List Node} {more : List Token}
     (known full : Bool)
     (text w rest : List ℕ) → AreTokens rest more → (known ≡ true → rule kinds.Duplicate → ⊥)
@@ -66,7 +65,7 @@ unused_reads true full text w rest m double many keeps = search (arith, broken)
 unused_reads false true text w rest m double many keeps = search (arith, broken)
 unused_reads false false text w rest m double many keeps = good rest m (keeps refl refl)
 
--- what follows an identifier that isn't too long
+-- what comes after an identifier that isn't too long
 identifier_by : {X : Type 0} {made : List ℕ → X} {rule : Kind → Type 0} {types : List Node}
     {more : List Token}
     (third : Bool) (f : List ℕ × List ℕ → Result X Refusal) (text w : List ℕ) (v : Bool)
@@ -98,32 +97,33 @@ new_name_reads third types most seen text w more free h =
     (λ k r. let z = leb-true most (length seen) k in let f = r.1 in omega arith)
     (λ k f. name_keeps third most seen w free short (leb-false most (length seen) f) k))
 
-declared_keeps : (s : Scope) (count : ℕ) (w : List ℕ) → IsFree (is_third s.names) w
-    → length w ≤ 64 → count < 4096
-    → lookup (bytes_eq w) s.names.known ≡ None → (k : Kind) → OfDeclared k s count w
-declared_keeps s count w free short few new kinds.Syntax = free
-declared_keeps s count w free short few new kinds.Duplicate = new
-declared_keeps s count w free short few new kinds.Limit = (short, few)
-declared_keeps s count w free short few new _ = tt
+declared_keeps : (s : Scope) (kind : Option TypeWord) (count : ℕ) (w : List ℕ)
+    → IsFree (is_third s.names) w → length w ≤ 64 → count < 4096
+    → is_taken s.names kind w ≡ false → (k : Kind) → OfDeclared k s kind count w
+declared_keeps s kind count w free short few new kinds.Syntax = free
+declared_keeps s kind count w free short few new kinds.Duplicate = new
+declared_keeps s kind count w free short few new kinds.Limit = (short, few)
+declared_keeps s kind count w free short few new _ = tt
 
 pub some_none : {X : Type 0} (o : Option X) → is_some o ≡ true → o ≡ None → ⊥
 some_none None e h = absurd cc
 some_none (Some x) e h = absurd cc
 
-pub declared_reads : (types : List Node) (s : Scope) (count : ℕ) (text w : List ℕ)
+pub declared_reads : (types : List Node) (s : Scope) (kind : Option TypeWord) (count : ℕ)
+    (text w : List ℕ)
     (more : List Token) → IsFree (is_third s.names) w → AreTokens text (word w ∷ more)
-    → Out {X = List ℕ × List ℕ} (λ rest. (w, rest)) (λ k. OfDeclared k s count w) types more
-    (declared_at s count text)
+    → Out {X = List ℕ × List ℕ} (λ rest. (w, rest)) (λ k. OfDeclared k s kind count w) types more
+    (declared_at s kind count text)
 unfolding declared_at
-declared_reads types s count text w more free h =
-    let known = lookup (bytes_eq w) s.names.known in
+declared_reads types s kind count text w more free h =
     identifier_by (is_third s.names)
-    (λ n. unused (is_some (lookup (bytes_eq n.0) s.names.known)) (leb 4096 count) text
-    n) text w (ltb 64 (length w)) refl free h
+    (λ n. unused (is_taken s.names kind n.0) (leb 4096 count) text n) text w (ltb 64 (length w))
+    refl free h
     (λ long r. let f = r.0 in omega arith)
-    (λ short rest m. unused_reads (is_some known) (leb 4096 count) text w rest m (some_none known)
+    (λ short rest m. unused_reads (is_taken s.names kind w) (leb 4096 count) text w rest m
+    (λ k r. false≢true (sym r ∙ k))
     (λ k r. let z = leb-true 4096 count k in let f = r.1 in omega arith)
-    (λ k f. declared_keeps s count w free short (leb-false 4096 count f) (none_of known k)))
+    (λ k f. declared_keeps s kind count w free short (leb-false 4096 count f) k))
 
 -- ---- items
 

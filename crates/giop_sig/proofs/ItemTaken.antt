@@ -1,6 +1,7 @@
--- Members that were read: the text that was read spells them, and they can be a struct's.
+-- Members that were read: the text that was read spells them, and a struct may have them.
 use Rattle.std.proofs.Common.{◌≡◌, ℕ, zero, suc, ◌+◌, ◌<◌, ◌≤◌, Bool, true, false, cond, leb, List, [], ◌∷◌, ◌++◌, length, get_or, Option, Some, None, Result, Ok, Err, refl, sym, ap, subst, ◌∙◌, arith}
 use Rattle.std.specs.List.{All}
+use Rattle.std.specs.Prelude.{not}
 use Rattle.std.specs.Map.{lookup}
 use Rattle.std.specs.Option.{is_some}
 use Rattle.std.specs.Str.{bytes_eq}
@@ -14,17 +15,19 @@ use Rattle.giop_tokens.specs.Tokens.{word, repository, mark}
 use Rattle.giop_tokens.specs.Reading.{◌>>=◌}
 use Rattle.giop_tokens.specs.Readers.{mark_at, mark_if}
 use Rattle.giop_tokens.proofs.ReaderLaws.{bind_ok, ok_is, Takes, word_takes, mark_takes, mark_if_takes, repository_takes, identifier_word, repository_few}
+use Rattle.giop_sig.specs.declared.announced.TypeWord.{TypeWord}
 use Rattle.giop_sig.specs.Table.{Node, Part, IsPart, TakesOctet, exception_in}
 use Rattle.giop_sig.specs.Table as nodes
-use Rattle.giop_sig.specs.Grammar.{Item, spell_lengths, spell_item, spell_items}
+use Rattle.giop_sig.specs.Grammar.{Declaration, Item, spell, spell_lengths, spell_item, spell_items}
 use Rattle.giop_sig.specs.Trees.{depth_of}
-use Rattle.giop_sig.specs.Scopes.{is_third, Scope, with_node, add_arrays}
-use Rattle.giop_sig.specs.Validity.{IsFree, is_among, OfLengths, OfItem, OfItems}
+use Rattle.giop_sig.specs.Scopes.{announced_as, is_third, Scope, with_node, add_arrays}
+use Rattle.giop_sig.specs.Validity.{IsFree, can_declare, is_among, is_taken, OfLengths, OfDeclaration, OfItem, OfItems}
 use Rattle.giop_sig.specs.ScopeViews.{IsScope}
 use Rattle.giop_sig.specs.Outcomes.{refused}
 use Rattle.giop_sig.specs.TypeReading.{TypeRead}
 use Rattle.giop_sig.specs.ItemReading.{new_name_at, declared_at, ItemRead, LengthsRead, read_item, item_at, Members, member_at, member_after, member_step, too_many_members, MembersRead, members_read, members_run, members_at, unless_closed, filled_at, Declared, too_deep, end_of, new_repository_at}
 use Rattle.giop_sig.specs.Repeats.{in_steps}
+use Rattle.giop_sig.proofs.Added.{neither}
 use Rattle.giop_sig.proofs.ReadingLaws.{Took}
 use Rattle.giop_sig.proofs.RepeatLaws.{step_first}
 use Rattle.giop_sig.proofs.TypeTaken.{Grows, grows_none, grows_on, grows_known, Sound, node_grows, TakenType, type_takes}
@@ -68,7 +71,7 @@ new_name_takes third most seen text x e =
           word_takes text a.0 w.0;
     })
 
-pub record DeclaredTaken (s : Scope) (count : ℕ) (text : List ℕ)
+pub record DeclaredTaken (s : Scope) (kind : Option TypeWord) (count : ℕ) (text : List ℕ)
     (x : List ℕ × List ℕ) : Type 0 where
   pub free : IsFree (is_third s.names) x.0
   pub short : length x.0 ≤ 64
@@ -80,19 +83,22 @@ pub none_of : {X : Type 0} (o : Option X) → is_some o ≡ false → o ≡ None
 none_of None e = refl
 none_of (Some x) e = absurd cc
 
-pub declared_takes : (s : Scope) (count : ℕ) (text : List ℕ) (x : List ℕ × List ℕ)
-    → declared_at s count text ≡ Ok x → DeclaredTaken s count text x
+pub declared_takes : (s : Scope) (kind : Option TypeWord) (count : ℕ) (text : List ℕ)
+    (x : List ℕ × List ℕ) → declared_at s kind count text ≡ Ok x
+    → DeclaredTaken s kind count text x
 unfolding declared_at
-declared_takes s count text x e =
+declared_takes s kind count text x e =
     let a = bind_ok _ _ x e in
     let w = identifier_word (is_third s.names) text a.0 a.1 in
     let known = lookup (bytes_eq (a.0).0) s.names.known in
-    let u = unused_is (is_some known) (leb 4096 count) text a.0 x a.2 in
-    subst (DeclaredTaken s count text) u.0
+    let u = unused_is (is_taken s.names kind (a.0).0) (leb 4096 count) text a.0 x a.2 in
+    let free = neither (is_some known) (not (can_declare kind (announced_as s.names (a.0).0))) u.1
+    in
+    subst (DeclaredTaken s kind count text) u.0
     (record {
       free = w.1;
       short = w.2;
-      new = none_of known u.1;
+      new = none_of known free.0;
       few = leb-false 4096 count u.2;
       front = word_takes text a.0 w.0;
     })
@@ -257,12 +263,12 @@ pub filled_takes : (text x : List ℕ) → filled_at text ≡ Ok x
 unfolding filled_at
 filled_takes text x e = search (arith, bind_ok, filled_by)
 
--- ---- what the code asks
+-- ---- what the code requires
 
 pub no_parts : (s : Scope) → AreParts s []
 no_parts s = search (arith)
 
--- members that were read can be a struct's
+-- a struct may have the members that were read
 pub struct_formed : (s : Scope) (text : List ℕ) (m : MembersRead)
     → members_at s text ≡ Ok m → IsScope s → (length m.1 ≤ 256) × AreParts m.0 m.1
 struct_formed s text m e is =
@@ -314,7 +320,7 @@ new_repository_takes s text x e = search (
   repository_takes,
 )
 
--- an id that was new is still new
+-- a repository id that was new is still new
 pub still_different : (s t : Scope) (r : List ℕ) → Grows s t → exception_in s.table r ≡ None
     → exception_in t.table r ≡ None
 still_different s t r g e = search (arith)
@@ -342,3 +348,9 @@ unfolding end_of
 end_takes at s text x e =
     let r = bind_ok {A = List ℕ} _ _ x e in
     end_by at s text r.0 x (leb (depth_of s.table.types) 24) refl r.1 r.2
+
+-- the text that was read spells the declaration
+pub record TakenDeclaration (s : Scope) (text : List ℕ) (x : Declared) : Type 0 where
+  pub declaration : Declaration
+  pub took : Took (spell declaration) (OfDeclaration kinds.Syntax s declaration) text x.1
+  pub shallow : depth_of (x.0).table.types ≤ 24

@@ -1,5 +1,4 @@
--- The entries of a catalogue's types with what is kept of them: one entry that is looked up, and one
--- that is added.
+-- The entries of a catalogue's types with what is kept of them: looking one up, and adding one.
 use Rattle.std.proofs.Common.{◌≡◌, ℕ, zero, suc, ◌+◌, ◌^◌, ◌<◌, ◌≤◌, max, Bool, false, List, [], ◌∷◌, ◌++◌, length, get_or, map, sym, ap, ◌∙◌, subst, ◌⊎◌, inl, inr, lit<, lit≤, arith}
 use Rattle.std.proofs.lemmas.List.{length-append, get_or_append_left, length-map, map-append}
 use Rattle.std.proofs.Math.Seq.{get_or-append_seam}
@@ -33,7 +32,7 @@ inside : (ps : List EntryWithDepth) (types : List Node) (i : ℕ) → nodes_view
     → i < length types → i < length ps
 inside ps types i view lt = search (arith, length-map)
 
--- the entry that was read is formed
+-- the entry that was read is well formed
 pub formed_read : (ps : List EntryWithDepth) (deepest : ℕ) (types : List Node) (i : ℕ)
     (p : EntryWithDepth)
     → IsKept ps deepest → nodes_view ps ≡ types → i < length types → p ≡ get_or ps i p
@@ -47,7 +46,7 @@ pub sized_read : (ps : List EntryWithDepth) (deepest : ℕ) (types : List Node) 
 sized_read ps deepest types i p is view lt h =
     sized types i p.entry (formed_read ps deepest types i p is view lt h)
 
--- the depth that was read is the type's
+-- the depth that was read is that of the type
 pub depth_read : (ps : List EntryWithDepth) (deepest : ℕ) (types : List Node) (i : ℕ)
     (p : EntryWithDepth)
     → IsKept ps deepest → nodes_view ps ≡ types → i < length types → p ≡ get_or ps i p
@@ -57,7 +56,7 @@ depth_read ps deepest types i p is view lt h =
     sym (kept_of (λ q. q.depth) 0 ps i p there h) ∙ is.each i there
     ∙ ap (λ ts. depth_in ts i) view
 
--- whether it has wide text
+-- the type has wide text if that was read
 pub wide_read : (ps : List EntryWithDepth) (deepest : ℕ) (types : List Node) (i : ℕ)
     (p : EntryWithDepth)
     → IsKept ps deepest → nodes_view ps ≡ types → i < length types → p ≡ get_or ps i p
@@ -99,7 +98,7 @@ formed_added types node i are last lt (inr above) =
     (rw (get_or-append_seam types node [] (nodes.prim Octet))
     (formed_stays types (node ∷ []) (length types) node (omega arith) last))
 
--- a table with one type more
+-- a table with one more type
 pub types_added : (types : List Node) (node : Node) → AreFormed types → length types + 1 < 2 ^ 32
     → IsFormed types (length types) node → AreFormed (types ++ node ∷ [])
 types_added types node are few last = search (arith, length-append, formed_added, cases_lt)
@@ -112,7 +111,7 @@ depth_stays types node i are lt =
     (λ k h. sym (get_or_append_left types (node ∷ []) (nodes.prim Octet) k h)) lt (omega arith)
     (omega arith)
 
--- the one that is added is as deep as its node
+-- the type that is added is as deep as its node
 depth_added : (types : List Node) (node : Node) → AreFormed types
     → IsFormed types (length types) node → AreFormed (types ++ node ∷ [])
     → node_depth types node ≡ depth_in (types ++ node ∷ []) (length types)
@@ -141,7 +140,7 @@ deepest_added types node are formed more =
       ap (λ n. most n all) e,
     )
 
--- what is kept of each entry is so with one more
+-- what is kept of each entry is still right after one more
 each_added : {X : Type 0} (f : EntryWithDepth → X) (d : X) (of : List Node → ℕ → X)
     (ps : List EntryWithDepth) (p : EntryWithDepth) (i : ℕ)
     → ((k : ℕ) → k < length ps → get_or (map f ps) k d ≡ of (nodes_view ps) k)
@@ -201,7 +200,7 @@ record CanStand (types : List Node) (node : Node) (d : ℕ) (w : Bool) : Type 0 
   deep : d ≡ node_depth types node
   wide : w ≡ node_wide types node
 
--- the entries after a push
+-- the entries after one was added
 pub kept_pushed : (ps new : List EntryWithDepth) (deepest d : ℕ) (p : EntryWithDepth)
     (types : List Node)
     → IsKept ps deepest → nodes_view ps ≡ types

@@ -1,4 +1,4 @@
--- The numbers that labels name: two labels are the same where their numbers are.
+-- The numbers that labels name: two labels are the same if their numbers are.
 use Rattle.std.proofs.Common.{◌≡◌, ℕ, zero, suc, ◌<◌, Bool, true, false, cond, leb, pos, negsuc, List, [], ◌∷◌, map, get_or, Option, Some, None, eqb-true, refl, sym, ap, subst, ◌∙◌, arith}
 use Rattle.std.specs.List.{list_any, AllByRecursion, position}
 use Rattle.std.specs.Str.{bytes_eq}
@@ -52,12 +52,12 @@ value_self (Enumerator w) = (bytes_eq-Decides w w).1 refl
 
 -- ---- one value for each number
 
--- a number below zero isn't 0
+-- a negative number isn't 0
 abbrev pub IsAbove : Value → Type 0
 IsAbove (Below n) = 0 < n
 IsAbove v = Unit {0}
 
--- the value of a primitive type that a number is
+-- the value of a primitive type that is a number
 abbrev value_from : Number → Value
 value_from (numbers.Unsigned n) = Plain n
 value_from (numbers.Signed (pos n)) = Plain n
@@ -157,16 +157,18 @@ values_again (nodes.encapsulation held) v w n above also e f = absurd cc
 values_again (nodes.tagged special tag inner other) v w n above also e f = absurd cc
 values_again (nodes.marked mark) v w n above also e f = absurd cc
 values_again (nodes.any code) v w n above also e f = absurd cc
+values_again (nodes.announced place) v w n above also e f = absurd cc
+values_again (nodes.recursive bound element) v w n above also e f = absurd cc
 values_again (nodes.typecode wide kind cases) v w n above also e f = absurd cc
 
--- ---- labels and what is kept of them
+-- ---- labels, and what is kept of them
 
--- the number that a label names, none for the default
+-- the number that a label names; None for the default
 abbrev pub mark_of : Node → Label → Mark
 mark_of node Default = None
 mark_of node (Of v) = label_number node v
 
--- a label that names a number, if any value
+-- a label names a number, if it has a value
 abbrev pub IsKept : Node → Label → Type 0
 IsKept node Default = Unit {0}
 IsKept node (Of v) = (n : Number) × (label_number node v ≡ Some n) × IsAbove v
@@ -192,7 +194,7 @@ same_marks node Default (Of w) k l = rw l.1 refl
 same_marks node (Of v) Default k l = rw k.1 refl
 same_marks node (Of v) (Of w) k l = rw (k.1, l.1) (of_marks node v w k.0 l.0 k.2 l.2 k.1 l.1)
 
--- a label is among others where its number is
+-- a label is among others if its number is among theirs
 pub any_marks : (node : Node) (x : Label) (seen : List Label) → IsKept node x
     → AllByRecursion (IsKept node) seen
     → list_any (λ s. same_mark s (mark_of node x)) (map (mark_of node) seen)

@@ -152,7 +152,7 @@ not_default : (text : List ℕ) (ts : List Token) → AreTokens text (word (code
     → keyword_if (codes "default") text ≡ Ok None
 not_default text ts h = search (arith, if_other)
 
--- a value below zero that a text spells isn't 0
+-- a negative value that a text spells isn't 0
 value_above : (v : Value) (text : List ℕ) (more : List Token)
     → AreTokens text (spell_value v more) → IsAbove v
 value_above (Below n) text more h = negative_some text h.0 n h.1
@@ -235,7 +235,7 @@ no_base prims.Double text ts h = search (arith, no_label)
 
 -- a type doesn't begin with a label
 pub type_no_label : (e : TypeExpr) (names : Names) (text : List ℕ) (more : List Token)
-    → OfType kinds.Syntax names e → AreTokens text (spell_type e more)
+    → OfType kinds.Syntax false names e → AreTokens text (spell_type e more)
     → begins_label text ≡ Ok false
 unfolding OfType
 type_no_label (Base p) names text more free h = no_base p text more h
@@ -249,7 +249,7 @@ type_no_label (Named w) names text more free h = not_label (is_third names) text
 type_no_label (SequenceOf e o) names text more free h = search (arith, no_label)
 type_no_label (EncapsulationOf e) names text more free h = search (arith, no_label)
 
--- a label does
+-- a label begins one
 label_begins : (l : Label) (text : List ℕ) (more : List Token) → AreTokens text (spell_label l more)
     → begins_label text ≡ Ok true
 unfolding begins_label
@@ -265,7 +265,7 @@ label_begins (Of v) text more h =
 
 -- ---- the labels of a case
 
--- what is kept of labels after those of the union and of the case
+-- what is kept of labels, after those of the union and the case
 abbrev pub labelled : Node → List Label → List Number → Bool → List Label → List ℕ → LabelsRead
 labelled node seen own default ls rest =
     (marks_of node (seen ++ ls), own ++ label_numbers node ls, default || has_default ls, rest)
@@ -282,7 +282,7 @@ or_assoc : (a b c : Bool) → ((a || b) || c) ≡ (a || (b || c))
 or_assoc true b c = refl
 or_assoc false b c = refl
 
--- one label more
+-- one more label
 with_one : (node : Node) (seen : List Label) (own : List Number) (default : Bool)
     (text rest : List ℕ) (l : Label) → IsKept node l
     → with_label (marks_of node seen, own, default, text) (mark_of node l, rest)

@@ -1,4 +1,4 @@
--- After the labels of a case: each of them names a number, and is kept by it.
+-- The labels of a case that was read: each names a number, and this number is kept.
 use Rattle.std.proofs.Common.{ℕ, ◌≤◌, Bool, List, [], ◌∷◌, ◌++◌, length, append_assoc, arith}
 use Rattle.std.specs.List.{AllByRecursion}
 use Rattle.std.proofs.lemmas.List.{length-append, append-nil}

@@ -52,7 +52,7 @@ lengths_fit names false [] text more e free h = omega arith
 lengths_fit names false (n ∷ []) text more e free h = omega arith
 lengths_fit names false (m ∷ n ∷ ns) text more e free h = absurd (false≢true (sym e ∙ free.0))
 
--- the rule that names are not reserved asks nothing of sizes
+-- the rule about reserved words asks nothing of sizes
 sizes_free : (ns : List ℕ) → OfSizes kinds.Syntax ns
 sizes_free [] = tt
 sizes_free (n ∷ ns) = (tt, sizes_free ns)
@@ -213,7 +213,7 @@ arrays_sound (n ∷ ns) p is =
     let q = add_arrays ns p in
     sound_node q.0 (nodes.array n q.1) (arrays_sound ns p is).scope tt
 
--- the innermost is added first
+-- the innermost array is added first
 pub arrays_last : (ns : List ℕ) (n : ℕ) (p : AddedType)
     → add_arrays (ns ++ n ∷ []) p ≡ add_arrays ns (add_array n p)
 arrays_last [] n p = refl

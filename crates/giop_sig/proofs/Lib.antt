@@ -28,6 +28,8 @@ mod ReadingLaws
 mod PlaceLaws
 mod SizeTaken
 mod TypeTaken
+mod SettleLaws
+mod SettledEntries
 mod SizeReads
 mod TypeLaws
 mod TypeSteps
@@ -35,6 +37,7 @@ mod LengthLaws
 mod ItemTaken
 mod ItemLaws
 mod IdentityLaws
+mod AnnouncedLaws
 mod CallTaken
 mod VariantLaws
 mod DeclaredLaws

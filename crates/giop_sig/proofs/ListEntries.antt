@@ -31,7 +31,7 @@ entry_cut line e h parts =
 pub no_entry : {third : Bool} (line : List ℕ) → NonePass is_space line → IsEntryLine third line → ⊥
 no_entry line none h = search (arith, none_cut)
 
--- what stands before and after the first space of an entry's line
+-- what is before and after the first space in the line of an entry
 pub entry_parts : {third : Bool} (line : List ℕ) (k : ℕ) → CutAt is_space line k
     → (h : IsEntryLine third line) → (take k line ≡ decimal h.0.id)
     × (drop (k + 1) line ≡ words h.0.asked.name h.0.asked.interface)
@@ -42,7 +42,7 @@ pub no_number : {third : Bool} (line : List ℕ) (k : ℕ) → CutAt is_space li
     → ((n : ℕ) → n < 2 ^ 32 → take k line ≡ decimal n → ⊥) → IsEntryLine third line → ⊥
 no_number line k c none h = none h.0.id h.1.id (entry_parts line k c h).0
 
--- no words are this text
+-- a text is no words
 abbrev pub NoWords : Bool → List ℕ → Type 0
 NoWords third text = (name : List ℕ) (id : Option (List ℕ)) → text ≡ words name id
     → IsAsked third (record { name = name; interface = id }) → ⊥
@@ -69,7 +69,7 @@ pub words_cut : (text name id : List ℕ) → IsName name → text ≡ words nam
 words_cut text name id h parts =
     cut_made is_space text name 32 id parts (name_no_space name h) refl
 
--- a text without a space is words if it is a name
+-- a text without a space is words only if it is a name
 pub no_one_word : (third : Bool) (text : List ℕ) → NonePass is_space text → (IsName text → ⊥)
     → NoWords third text
 no_one_word third text none never name None is h = never (subst IsName (sym is) h.name)

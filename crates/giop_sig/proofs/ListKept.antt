@@ -1,4 +1,4 @@
--- What is asked for with a request id, entry by entry.
+-- What is asked for with a request id, one entry after another.
 use Rattle.std.proofs.Common.{arith, ◌≡◌, ℕ, Bool, true, false, cond, ◌&&◌, eqb, nat_eq, List, [], ◌∷◌, ◌++◌, Option, Some, None, refl, sym, ap, ◌∙◌}
 use Rattle.std.specs.Map.{lookup}
 use Rattle.std.specs.Option.{option_map}
@@ -9,7 +9,7 @@ use Rattle.giop_sig.specs.declared.requests.Words.{Words}
 use Rattle.giop_sig.specs.RequestList.{Asked, Entry, asked_of, same_asked, the_one, joined}
 use Rattle.giop_sig.specs.RequestViews.{words_view}
 
--- what is kept with an id, by what its entries ask for
+-- what is kept for an id, from what its entries ask for
 abbrev pub kept_by : List Asked → Option (Option Asked)
 kept_by [] = None
 kept_by (a ∷ others) = Some (the_one (a ∷ others))

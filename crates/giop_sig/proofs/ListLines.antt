@@ -1,4 +1,4 @@
--- A list, cut at the first element that passes a test; the first line of a text.
+-- A list that is cut at the first element that passes a test, and the first line of a text.
 use Rattle.std.proofs.Common.{◌≡◌, ℕ, suc, ◌+◌, ◌-◌, ◌<◌, Bool, true, false, cond, eqb, ltb, List, [], ◌∷◌, ◌++◌, ◌⊎◌, inl, inr, length, take, drop, Option, Some, None, append_assoc, refl, sym, ap, ◌∙◌, arith}
 use Rattle.std.specs.Prelude.{MatchOption}
 use Rattle.std.specs.List.{position_or_len, onto_first, AllByRecursion}
@@ -13,7 +13,7 @@ module _ {X : Type 0} (p : X → Bool) where
   abbrev pub NonePass : List X → Type 0
   NonePass xs = AllByRecursion (λ x. p x ≡ false) xs
 
-  -- xs is front, then y, the first that passes, then back
+  -- xs is `front`, then y, the first that passes, and then `back`
   pub record Cut (xs front : List X) (y : X) (back : List X) : Type 0 where
     pub parts : xs ≡ front ++ y ∷ back
     pub none : NonePass front
@@ -75,7 +75,7 @@ module _ {X : Type 0} (p : X → Bool) where
   none_cut [] y back none = none.0
   none_cut (x ∷ front) y back none = none_cut front y back none.1
 
-  -- what position says
+  -- what a position says
   pub record CutAt (xs : List X) (k : ℕ) : Type 0 where
     pub first : X
     pub parts : xs ≡ take k xs ++ first ∷ drop (k + 1) xs
@@ -104,7 +104,7 @@ module _ {X : Type 0} (p : X → Bool) where
             inside_of xs front y back c;
       }
 
-  -- a list is cut in one way
+  -- a list is cut in one way only
   pub cut_is : (xs front : List X) (y : X) (back : List X) (k : ℕ) → Cut xs front y back →
       CutAt xs k → (take k xs ≡ front) × (drop (k + 1) xs ≡ back)
   cut_is xs front y back k c d =

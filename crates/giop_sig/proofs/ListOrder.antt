@@ -1,5 +1,5 @@
--- What is stored of a request list is a function of its entries: ids in the order of their first
--- entries.
+-- What is stored of a request list depends on its entries alone: the ids are in the order of their
+-- first entries.
 use Rattle.std.proofs.Common.{arith, ◌≡◌, ℕ, Bool, true, false, cond, not, ◌||◌, eqb, nat_eq, List, [], ◌∷◌, ◌++◌, length, map, filter, Option, Some, None, refl, append_assoc, sym, ap, ◌∙◌, subst}
 use Rattle.std.specs.Prelude.{option_and_then}
 use Rattle.std.specs.Cmp.{nat_eq_equiv}
@@ -19,13 +19,13 @@ use Rattle.giop_sig.specs.RequestViews.{words_view, asked_view}
 use Rattle.giop_sig.proofs.Added.{entry_last, list_any-map}
 use Rattle.giop_sig.proofs.ListKept.{kept_by, seen}
 
--- ---- the ids, with one more entry
+-- ---- the ids with one more entry
 
--- another id than this one
+-- whether an id is another than this one
 abbrev is_other : ℕ → ℕ → Bool
 is_other k id = not (eqb id k)
 
--- an id that comes first, or after these
+-- the ids with this one, if it is new
 abbrev with_id : List ℕ → ℕ → List ℕ
 with_id ids x = cond (list_any (nat_eq x) ids) ids (ids ++ x ∷ [])
 
@@ -52,7 +52,7 @@ pub ids_more : (es : List Entry) (e : Entry) → ids_of (es ++ e ∷ []) ≡ wit
 ids_more [] e = refl
 ids_more (f ∷ es) e = search (arith, filter, with_other, ids_more es e)
 
--- ---- the map, with one more entry
+-- ---- the map with one more entry
 
 keys_insert : {X : Type 0} (es : List (ℕ × X)) (k : ℕ) (v : X)
     → keys_of (insert_entry nat_eq es k v) ≡ with_id (keys_of es) k
@@ -72,7 +72,7 @@ not_there : {X : Type 0} (k : ℕ) (es : List (ℕ × X)) →
 not_there k [] apart = refl
 not_there k (e ∷ es) apart = rw (apart.0) (not_there k es apart.1)
 
--- a map whose values are a function of the keys is the list of its keys with them
+-- a map whose values depend on the keys alone is the list of its keys with their values
 by_keys : {X : Type 0} (value : ℕ → X) (es : List (ℕ × X)) → IsDistinct nat_eq (keys_of es)
     → ((q : ℕ) (w : X) → lookup (nat_eq q) es ≡ Some w → w ≡ value q)
     → es ≡ map (λ k. (k, value k)) (keys_of es)
@@ -100,7 +100,7 @@ kept_one : (w : Option Asked) (asked : List Asked) → kept_by asked ≡ Some w 
 kept_one w [] e = absurd cc
 kept_one w (a ∷ others) e = cc
 
--- what is kept with the ids is a function of the entries
+-- what is kept for the ids depends on the entries alone
 pub asked_is : (es : List Entry) (kept : List (ℕ × Option Words)) → IsDistinct nat_eq (keys_of kept)
     → keys_of kept ≡ ids_of es
     → ((q : ℕ) → seen (lookup (nat_eq q) kept) ≡ kept_by (asked_of es q))
@@ -190,7 +190,7 @@ operation_by find es q false e =
     sym (ap (λ asked. option_and_then (λ (a : Asked). find a.name a.interface) (the_one asked))
     (none_asked es q e))
 
--- what is stored of a list, by what was kept and looked up
+-- what is stored of a list, from what was kept and looked up
 pub found_is : (find : Find) (es : List Entry) (kept : List (ℕ × Option Words))
     (table : List (ℕ × Option OpId)) → map asked_view kept ≡ asked_by es
     → table ≡ map (found_of find) (map asked_view kept) → table ≡ kept_of find es
@@ -215,14 +215,14 @@ is_of find es kept table distinct asked found =
           ∙ ids_count es kept distinct asked;
     }
 
--- ---- looking the operations up, id by id
+-- ---- looking up the operations, id by id
 
 apart_from : (x k : ℕ) (xs ys : List ℕ) → AllByRecursion (λ y. nat_eq x y ≡ false) (xs ++ k ∷ ys)
     → eqb x k ≡ false
 apart_from x k [] ys all = all.0
 apart_from x k (y ∷ xs) ys all = apart_from x k xs ys all.1
 
--- no id stands before itself
+-- no id comes before itself
 not_before : (k : ℕ) (xs ys : List ℕ) → IsDistinct nat_eq (xs ++ k ∷ ys)
     → list_any (nat_eq k) xs ≡ false
 unfolding IsDistinct
@@ -242,7 +242,7 @@ operation_back : (o : Option OpId) (n : Option ℕ) → option_map (λ (x : OpId
 operation_back None n e = ap (option_map as_operation) e
 operation_back (Some k) n e = ap (option_map as_operation) e
 
--- the map so far with what is left, after one id more is looked up
+-- the map so far and what is left, after one more id was looked up
 pub put_next : (find : Find) (kept : List (ℕ × Option Words))
     (table new : List (ℕ × Option OpId)) (e : ℕ × Option Words) (left : List (ℕ × Option Words))
     (o : Option OpId) → IsDistinct nat_eq (keys_of kept)

@@ -1,4 +1,4 @@
--- A token that is a number below zero isn't 0.
+-- A token that is a negative number isn't 0.
 use Rattle.std.proofs.Common.{◌≡◌, ℕ, ◌<◌, Bool, true, false, cond, eqb, leb, List, [], ◌∷◌, drop, Option, Some, None, Ok, slice_index, option_map, refl, arith}
 use Rattle.std.proofs.lemmas.Bool.{eqb-false}
 use Rattle.giop_tokens.specs.declared.marks.Mark.{Mark}

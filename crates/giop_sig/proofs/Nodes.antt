@@ -1,4 +1,4 @@
--- A node and its tree agree on a type's form, names, parts and selection.
+-- A node and its tree have the same form, names, parts and selection.
 use Rattle.std.proofs.Common.{◌≡◌, ℕ, zero, suc, ◌<◌, Bool, true, false, cond, nat_lt, List, [], ◌∷◌, length, Option, Some, None, refl, ap, arith, lt-ltb, le-ltb}
 use Rattle.std.proofs.lemmas.Bool.{ltb-true, ltb-false}
 use Rattle.std.specs.Prelude.{slice_get}
@@ -6,12 +6,12 @@ use Rattle.std.specs.Option.{option_map}
 use Rattle.giop_cdr.specs.declared.number.Number.{Number}
 use Rattle.giop_sig.specs.declared.types.Shape.{Shape}
 use Rattle.giop_sig.specs.declared.types.Shape.TheVariants as shapes
-use Rattle.giop_sig.specs.Types.{Cases, Enum, Ty, Single, Struct, Union, Sequence, Array, Hearing, IsUnion, shape_in, HasShape, HasMember, HasPlace, HasInner, part_of, name_in, enum_name_in, switch_of, select_in, interpreted_in, Tag, Encapsulation, Led, Octets, Raw}
+use Rattle.giop_sig.specs.Types.{Cases, Enum, Ty, Single, Struct, Union, Sequence, Array, IsUnion, shape_in, HasShape, HasMember, HasPlace, HasInner, part_of, name_in, enum_name_in, switch_of, select_in, interpreted_in, Tag, Encapsulation, Recursive, Led, Octets, Raw}
 use Rattle.giop_sig.specs.Table.{Node, Part, Case, TakesOctet, shape_of, part_at, switch_at, type_of, name_of, name_at, selected, case_part}
 use Rattle.giop_sig.specs.Table as nodes
-use Rattle.giop_sig.specs.Trees.{grow, in_room, name_or, wide_room}
+use Rattle.giop_sig.specs.Trees.{Room, grow, in_room, name_or, wide_room}
 
-pub shape_grown : (h : Hearing) (tree : ℕ → Ty) (node : Node)
+pub shape_grown : (h : Room) (tree : ℕ → Ty) (node : Node)
     → shape_in (grow h tree node) ≡ shape_of node
 shape_grown h tree (nodes.prim p) = refl
 shape_grown h tree _ = refl
@@ -24,6 +24,7 @@ has_shape (Union Tag scalar select names cases) = search (arith)
 has_shape (Encapsulation T) = (T, refl)
 has_shape (Sequence bound T) = (T, refl)
 has_shape (Array count T) = (T, refl)
+has_shape (Recursive bound fits T) = (fits, T, refl)
 has_shape (Led h F parts) = (h, F, parts, refl)
 has_shape (Octets (Raw bound)) = refl
 has_shape _ = refl
@@ -39,13 +40,15 @@ case_below [] i lt = absurd (omega arith)
 case_below (c ∷ cs) zero lt = (c.part, refl)
 case_below (c ∷ cs) (suc i) lt = case_below cs i (omega arith)
 
--- a part of a smaller number stands in a place
+-- a part with a smaller number is at a place of the shape
 pub shape_place : (s : Shape) (i : ℕ) → HasInner s i → HasPlace s i
 shape_place shapes.Led i has = tt
+shape_place (shapes.Recursive bound) i has = tt
 shape_place _ i has = has
 
 pub inner_place : (node : Node) (i : ℕ) → HasInner (shape_of node) i → HasPlace (shape_of node) i
 inner_place (nodes.any code) i has = tt
+inner_place (nodes.recursive bound element) i has = tt
 inner_place _ i has = has
 
 -- there is a part at each place of the shape
@@ -58,11 +61,13 @@ part_there (nodes.array count element) i has = (nodes.element_part element, refl
 part_there (nodes.encapsulation held) i has = (nodes.element_part held, refl)
 part_there (nodes.tagged special tag inner other) i has = search (arith, read_below)
 part_there (nodes.any code) i has = (nodes.any_part code i, refl)
+part_there (nodes.announced place) i has = absurd (omega arith)
+part_there (nodes.recursive bound element) i has = (nodes.element_part element, refl)
 part_there (nodes.typecode wide kind cases) i has = let p = case_below cases i has in
     (nodes.narrow_part wide p.0, ap (option_map (nodes.narrow_part wide)) p.1)
 part_there _ i has = absurd has
 
-pub part_grown : (h : Hearing) (tree : ℕ → Ty) (node : Node) (i : ℕ) → HasPlace (shape_of node) i
+pub part_grown : (h : Room) (tree : ℕ → Ty) (node : Node) (i : ℕ) → HasPlace (shape_of node) i
     → tree (type_of (part_at node i)) ≡ part_of (grow h tree node) i
 part_grown h tree (nodes.members parts) i has = let p = read_below parts i has in rw (p.1) refl
 part_grown h tree (nodes.union switch cases otherwise) i has = let p = case_below cases i has in
@@ -71,18 +76,21 @@ part_grown h tree (nodes.sequence bound element) i has = refl
 part_grown h tree (nodes.array count element) i has = refl
 part_grown h tree (nodes.encapsulation held) i has = refl
 part_grown h tree (nodes.tagged special tag inner other) i has = search (arith, read_below)
+part_grown h tree (nodes.announced place) i has = absurd (omega arith)
+part_grown h tree (nodes.recursive bound element) i has = refl
 part_grown h tree (nodes.any code) zero has = refl
 part_grown h tree (nodes.any code) (suc i) has = refl
 part_grown h tree (nodes.typecode wide kind cases) i has = let p = case_below cases i has in
     rw (p.1) refl
 part_grown h tree _ i has = absurd has
 
-pub name_grown : (h : Hearing) (tree : ℕ → Ty) (node : Node) (i : ℕ) → HasMember (shape_of node) i
+pub name_grown : (h : Room) (tree : ℕ → Ty) (node : Node) (i : ℕ) → HasMember (shape_of node) i
     → name_of (part_at node i) ≡ name_in (grow h tree node) i
 name_grown h tree (nodes.members parts) i has = refl
 name_grown h tree (nodes.union switch cases otherwise) i has = refl
 name_grown h tree (nodes.tagged special tag inner other) i has = refl
 name_grown h tree (nodes.typecode wide kind cases) i has = refl
+name_grown h tree (nodes.announced place) i has = absurd (omega arith)
 name_grown h tree _ i has = absurd has
 
 ltb_suc_by : (v : Bool) (a b : ℕ) → nat_lt a b ≡ v → nat_lt (suc a) (suc b) ≡ v
@@ -95,13 +103,13 @@ names_read [] n = search (arith, le-ltb)
 names_read (x ∷ xs) zero = search (arith, lt-ltb)
 names_read (x ∷ xs) (suc n) = search (arith, cond, ltb_suc_by, nat_lt, names_read xs n)
 
-pub enum_name_grown : (h : Hearing) (tree : ℕ → Ty) (node : Node) (n : ℕ)
+pub enum_name_grown : (h : Room) (tree : ℕ → Ty) (node : Node) (n : ℕ)
     → name_at node n ≡ enum_name_in (grow h tree node) n
 enum_name_grown h tree (nodes.enumeration names) n = names_read names n
 enum_name_grown h tree _ n = refl
 
--- a value that the octets spell selects as their whole number does
-pub select_grown : (h : Hearing) (tree : ℕ → Ty) (node : Node) (number : Number) (n : ℕ)
+-- a value that the octets spell selects what their whole number does
+pub select_grown : (h : Room) (tree : ℕ → Ty) (node : Node) (number : Number) (n : ℕ)
     → interpreted_in (switch_of (grow h tree node)) n ≡ Some number
     → selected node number ≡ select_in (grow h tree node) n
 select_grown h tree (nodes.union switch cases otherwise) number n e = search (arith)
@@ -109,7 +117,7 @@ select_grown h tree (nodes.tagged special tag inner other) number n e = search (
 select_grown h tree (nodes.typecode wide kind cases) number n e = search (arith)
 select_grown h tree _ number n e = refl
 
--- ---- a node in a room: all but the types of a TypeCode's parts stays
+-- ---- a node in a room: all stays, apart from the types of a TypeCode's parts
 
 pub in_shape : (room : ℕ) (node : Node) → shape_of (in_room room node) ≡ shape_of node
 in_shape room (nodes.typecode wide kind cases) = refl
@@ -139,7 +147,7 @@ pub in_selected : (room : ℕ) (node : Node) (number : Number)
 in_selected room (nodes.typecode wide kind cases) number = refl
 in_selected room _ number = refl
 
--- and all of every node but a union
+-- nodes other than unions keep all parts
 pub in_part : (room : ℕ) (node : Node) (i : ℕ) → (IsUnion (shape_of node) → ⊥)
     → part_at (in_room room node) i ≡ part_at node i
 in_part room (nodes.typecode wide kind cases) i none = absurd (none tt)

@@ -1,4 +1,4 @@
--- Numbers that are called the same are one, and a number is the same as itself.
+-- Numbers that compare as the same are equal, and a number is the same as itself.
 use Rattle.std.proofs.Common.{arith, ◌≡◌, Bool, true, false, eqb-true, refl}
 use Rattle.std.proofs.lemmas.Bool.{eq-eqb}
 use Rattle.std.proofs.lemmas.Bool.Decides.{Decides-int_eq}

@@ -1,4 +1,4 @@
--- A text is one request list at most, and a text that is a list is not refused.
+-- A text is at most one request list, and a text that is a list isn't refused.
 use Rattle.std.proofs.Common.{◌≡◌, ℕ, ◌<◌, Bool, false, List, [], ◌∷◌, ◌++◌, map, length, Option, Some, None, inl, inr, refl, sym, ap, ◌∙◌, subst, arith}
 use Rattle.std.specs.Fmt.{decimal}
 use Rattle.std.specs.Prelude.{Result, Ok, Err, IfOk, IfErr}
@@ -68,7 +68,7 @@ one_list third text es fs p q =
     one_by third es fs (recursion_from_All (IsEntry third) es p.entries)
     (recursion_from_All (IsEntry third) fs q.entries) (sym p.spelled ∙ q.spelled)
 
--- the k-th line of a list is an entry's
+-- the k-th line of a list is that of an entry
 line_at : (third : Bool) (es : List Entry) (before : List (List ℕ)) (line : List ℕ)
     (after : List (List ℕ))
     → AllByRecursion (IsEntry third) es → map line_of es ≡ before ++ line ∷ after
@@ -105,7 +105,7 @@ pub only_for_memory : {T : Type 0} (third : Bool) (text : List ℕ) (es : List E
 only_for_memory third text es (Ok x) p h = tt
 only_for_memory third text es (Err f) p h = search (arith, refused_for_memory)
 
--- what is so of the list that a text is, and of a result, is so of any list that the text is
+-- what is true of the list in a text and of a result is true of any list in the text
 pub of_list : {T : Type 0} (Q P : List Entry → T → Type 0) (third : Bool) (text : List ℕ)
     (es : List Entry) (r : Result T ListFault) → Lists third text es
     → IfOk r (λ x. (fs : List Entry) × Lists third text fs × Q fs x × P fs x) → IfOk r (λ x. P es x)

@@ -1,17 +1,17 @@
--- All valid files that a text spells have one table: it is read in one way, and no rule of a valid
--- file is broken.
-use Rattle.std.proofs.Common.{◌≡◌, ℕ, ◌++◌, ◌∷◌, [], List, Result, Ok, Err, ap, subst, arith}
+-- All valid files that a text spells have the same table: it is read in one way, and a valid file
+-- breaks no rule.
+use Rattle.std.proofs.Common.{◌≡◌, inl, inr, ℕ, ◌++◌, ◌∷◌, [], List, Result, Ok, Err, ap, subst, arith}
 use Rattle.giop_tokens.specs.declared.fault.Refusal.{Refusal}
 use Rattle.giop_tokens.specs.declared.fault.SigFaultKind.TheVariants as kinds
 use Rattle.giop_sig.specs.Grammar.{Declaration, SignatureFile}
 use Rattle.giop_sig.specs.Scopes.{Scope, first_scope, declare, scope_after, table}
 use Rattle.giop_sig.specs.Validity.{Kind, Each, IsValid, SpellsUpTo}
 use Rattle.giop_sig.specs.FileReading.{file_at}
-use Rattle.giop_sig.proofs.FileLaws.{BrokenIn, FileOut, file_reads}
+use Rattle.giop_sig.proofs.FileLaws.{BrokenIn, RefusedFile, WholeFile, WholeOut, file_reads}
 use Rattle.giop_sig.proofs.FileRules.{not_too_many}
 use Rattle.giop_sig.proofs.UnionWhole.{union_read}
 
--- a rule that holds of each declaration holds of the one after these
+-- a rule that is true of each declaration is true of the one after these
 each_at : (R : Scope → Declaration → Type 0) (s : Scope) (ds before after : List Declaration)
     (d : Declaration)
     → ds ≡ before ++ d ∷ after → Each R s ds → R (scope_after s before) d
@@ -37,25 +37,26 @@ not_broken kinds.Label text file spells valid b = search (arith, each_at)
 not_broken kinds.Limit text file spells valid b = search (arith, each_at, not_too_many)
 not_broken _ text file spells valid b = b.breaks
 
--- the table of a valid file that is read
+not_refused : {latest : ℕ} (why : Refusal) (text : List ℕ) (file : SignatureFile)
+    → SpellsUpTo latest text file → IsValid file → RefusedFile file why → ⊥
+not_refused why text file spells valid (inl b) = not_broken why.kind text file spells valid b
+not_refused why text file spells valid (inr u) = u.1 valid.declared
+
+-- the table of a valid file that was read
 read_table : {latest : ℕ} (text : List ℕ) (t : Scope) (file : SignatureFile)
     → SpellsUpTo latest text file → file_at latest text ≡ Ok t
     → t.table ≡ table file
 read_table text t file spells e =
-    let out : FileOut (first_scope file.version) file.declarations (Ok t) =
-    subst (FileOut (first_scope file.version) file.declarations) e
-    (file_reads union_read text file spells) in
-    ap (λ (x : Scope). x.table) out.0
+    let out : WholeFile file t = subst (WholeOut file) e (file_reads union_read text file spells) in
+    ap (λ (x : Scope). x.table) out.is
 
 table_by : {latest : ℕ} (text : List ℕ) (f g : SignatureFile)
     → SpellsUpTo latest text f → IsValid f → SpellsUpTo latest text g
     → (r : Result Scope Refusal) → file_at latest text ≡ r → table f ≡ table g
 table_by text f g spells valid others (Ok t) e = search (arith, read_table)
 table_by text f g spells valid others (Err why) e =
-    let broken : BrokenIn why.kind (first_scope f.version) f.declarations =
-    subst (FileOut (first_scope f.version) f.declarations) e (file_reads union_read text f spells)
-    in
-    absurd (not_broken why.kind text f spells valid broken)
+    absurd (not_refused why text f spells valid
+    (subst (WholeOut f) e (file_reads union_read text f spells)))
 
 pub one_table : (latest : ℕ) (text : List ℕ) (f g : SignatureFile)
     → SpellsUpTo latest text f → IsValid f → SpellsUpTo latest text g

@@ -1,5 +1,5 @@
--- What other crates may use of a table's types: their parts, their depth, that each fits at the
--- root of a message, and what is the same in each room.
+-- What other crates may use of a table's types: their parts, their depth, that each may be at the
+-- root of a message, and what is the same in any room.
 use Rattle.std.proofs.Common.{arith, ◌≡◌, ℕ, suc, ◌<◌, ◌≤◌, length, refl, sym, ap, subst, ◌∙◌}
 use Rattle.std.proofs.lemmas.Bool.{cases_lt}
 use Rattle.giop_sig.specs.Fits.{IsFit, IsRoot}
@@ -14,7 +14,8 @@ use Rattle.giop_sig.proofs.Nodes.{has_shape, in_name, in_part, shape_place}
 use Rattle.giop_sig.proofs.Solid.{fit_in_room}
 use Rattle.giop_sig.proofs.Tables.{Entered, entered, part_below, part_in_room, part_known_in, part_room, root_entered, shape_at, switch_room}
 
--- the part at a place has a smaller number, and is the tree's part, in one level less room
+-- the part at a place has a smaller number, and its tree is that of the part, in one level of room
+-- less
 pub record PartIs (t : Table) (id i part : ℕ) : Type 0 where
   pub below : part < id
   pub same : (room : ℕ) → tree_at t room part ≡ part_of (tree_at t (suc room) id) i
@@ -41,7 +42,7 @@ part_in_is t room id i laws known has =
     part_in_room t id i (part_number_in t room id i) room (node_at t id) (at_number t id laws known)
     has refl
 
--- which is a type of the table
+-- this part is a type of the table
 pub part_in_known : (t : Table) (room id i : ℕ) → IsTable t → id < length t.types
     → HasPlace (shape_in (tree t id)) i
     → (shape_in (tree t id) ≡ shapes.Led → i ≤ length t.types)
@@ -50,14 +51,14 @@ part_in_known t room id i laws known has led =
     part_known_in t id i (part_number_in t room id i) room (node_at t id)
     (at_number t id laws known) has led refl
 
--- the number of a part of a type that is no union is the same in each room
+-- the number of a part is the same in any room, apart from parts of a union
 pub same_number : (t : Table) (a room id i : ℕ) → (IsUnion (shape_in (tree_at t a id)) → ⊥)
     → part_number t id i ≡ part_number_in t room id i
 same_number t a room id i none =
     ap type_of (sym (in_part room (node_at t id) i
     (λ is. none (subst IsUnion (sym (shape_at t a id)) is))))
 
--- and so are the names of the parts of each
+-- the names of parts are the same in any room
 pub named_in_room : (room : ℕ) (node : Node) (i : ℕ)
     → name_of (part_at (in_room room node) i) ≡ name_of (part_at node i)
 named_in_room room node i = in_name room node i
@@ -69,7 +70,7 @@ pub depth_is : (t : Table) (id : ℕ) → ArePlain t.types → id < length t.typ
     → depth (tree t id) ≤ depth_of t.types
 depth_is t id plain known = omega (arith, depth_tree t id plain, depth_within t.types id known)
 
--- ---- the same in each room
+-- ---- the same in any room
 
 pub shape_room : (t : Table) (a b id : ℕ) → shape_in (tree_at t a id) ≡ shape_in (tree_at t b id)
 shape_room t a b id = shape_at t a id ∙ sym (shape_at t b id)
@@ -87,6 +88,7 @@ shape_is T (shapes.Members count) has = sym (ap shape_in has.2)
 shape_is T (shapes.Union count) has = sym (ap shape_in has.4)
 shape_is T (shapes.Sequence bound) has = sym (ap shape_in has.1)
 shape_is T (shapes.Array count) has = sym (ap shape_in has.1)
+shape_is T (shapes.Recursive bound) has = sym (ap shape_in has.2)
 shape_is T shapes.Encapsulation has = sym (ap shape_in has.1)
 shape_is T shapes.Tagged has = sym (ap shape_in has.4)
 
@@ -96,7 +98,7 @@ has_shape_room t a b id s has =
     subst (HasShape (tree_at t b id))
     (sym (shape_is (tree_at t a id) s has ∙ shape_room t a b id)) (has_shape (tree_at t b id))
 
--- a type that fits in one room does so in each
+-- a type that fits in one room fits in any
 pub fit_room : (t : Table) (id d a room : ℕ) → IsTable t → IsFit d (tree_at t a id)
     → IsFit (suc (suc room)) (tree_at t room id)
 fit_room t id d a room laws fit =

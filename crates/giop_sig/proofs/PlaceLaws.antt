@@ -5,18 +5,18 @@ use Rattle.std.proofs.lemmas.List.{length-append}
 use Rattle.giop_sig.specs.Table.{Node, Table, node_at, with_type, with_identity, with_variant, with_variants, with_listed}
 use Rattle.giop_sig.specs.Table as nodes
 use Rattle.giop_sig.specs.Trees.{depth_in, depth_of}
-use Rattle.giop_sig.specs.Grammar.{TypeExpr, Base, Text, Reference, AnyType, CodeType, WideChar, WideText, Named, SequenceOf, EncapsulationOf, Item, UnionCase, Param, Declaration, Enumeration, Structure, DeclaredUnion, DeclaredException, Call, KeyOf}
+use Rattle.giop_sig.specs.Grammar.{TypeExpr, Base, Text, Reference, AnyType, CodeType, WideChar, WideText, Named, SequenceOf, EncapsulationOf, Item, UnionCase, Param, Declaration, Enumeration, Structure, DeclaredUnion, Announcement, DeclaredException, Call, KeyOf}
 use Rattle.giop_sig.specs.Scopes.{Scope, AddedType, with_node, with_id_fronts, with_named, place, add_arrays, add_item, add_items, add_cases, default_from, add_params, add_return, add_struct_type, declare, scope_after}
 use Rattle.giop_sig.proofs.Depths.{deepest_more}
 
--- the greatest depth in a scope, and how many types it has
+-- the greatest depth of a scope's types, and how many there are
 abbrev pub deepest : Scope → ℕ
 deepest s = depth_of s.table.types
 
 abbrev pub size : Scope → ℕ
 size s = length s.table.types
 
--- some types are no more than others, and no deeper
+-- there are no more of the first types, and they are no deeper
 pub record Within (types more : List Node) : Type 0 where
   pub longer : length types ≤ length more
   pub deeper : depth_of types ≤ depth_of more
@@ -27,7 +27,7 @@ within_same = search (arith)
 pub within_on : {a b c : List Node} → Within a b → Within b c → Within a c
 within_on first second = search (arith)
 
--- the second scope has no fewer types than the first, and is no less deep
+-- the second scope has at least as many types as the first, and is at least as deep
 abbrev pub Grown : Scope → Scope → Type 0
 Grown s t = Within s.table.types t.table.types
 
@@ -143,7 +143,7 @@ variants_types w request reply [] t = refl
 variants_types w request reply (id ∷ ids) t =
     variants_types w request reply ids (with_variant w request reply id t)
 
--- interfaces are no types
+-- adding interfaces adds no types
 pub listed_types : (w : List ℕ) (request reply : ℕ) (ids : List (List ℕ)) (t : Table)
     → (with_listed w request reply ids t).types ≡ t.types
 listed_types w request reply [] t = refl
@@ -164,7 +164,7 @@ sequence_by : (t : Table) (number : ℕ) (v : Bool)
 sequence_by t number true = search (arith, length-append, deepest_more)
 sequence_by t number false = within_same
 
--- a name adds no type, and a repository id a sequence, at most
+-- a name adds no type, and a repository id at most the sequence
 pub named_more : (w : List ℕ) (id : Option (List ℕ)) (p : AddedType)
     → Grown p.0 (with_named w id p)
 named_more w None p = within_same
@@ -197,6 +197,7 @@ declare_more s (DeclaredUnion n id e cs) =
     let q = with_node x.0 union in
     within_on (place_more s e) (within_on (cases_more p.0 node cs)
     (within_on (node_more x.0 union) (named_more n id q)))
+declare_more s (Announcement word n) = node_more s (nodes.announced (length s.names.announced))
 declare_more s (DeclaredException n r is) = struct_more s is
 declare_more s (Call o n ps ids) =
     let t = add_return s o in

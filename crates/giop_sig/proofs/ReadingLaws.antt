@@ -1,5 +1,5 @@
 -- The forms of the laws of reading, from a spelling to what is read and from a text that was read
--- to its spelling; and two readings one after the other.
+-- to its spelling; and two readings one after another.
 use Rattle.std.proofs.Common.{◌≡◌, ℕ, ◌^◌, ◌<◌, ◌≤◌, ◌⊎◌, inl, inr, false, List, [], ◌∷◌, length, None, Result, Ok, Err, sym, subst, arith}
 use Rattle.std.specs.Prelude.{MatchResult}
 use Rattle.giop_tokens.specs.declared.fault.Refusal.{Refusal}
@@ -27,7 +27,7 @@ Breaks kinds.Label rule types = rule kinds.Label → ⊥
 Breaks kinds.Empty rule types = rule kinds.Empty → ⊥
 Breaks _ rule types = ⊥
 
--- what is broken in a part is broken in the whole
+-- a rule that a part breaks, the whole breaks
 pub lift : (k : Kind) (rule whole : Kind → Type 0) (types more : List Node)
     → ((j : Kind) → whole j → rule j) → Within types more
     → Breaks k rule types → Breaks k whole more
@@ -42,7 +42,7 @@ lift kinds.Limit rule whole types more up le (inr b) = search (arith)
 lift kinds.Label rule whole types more up le b = λ h. b (up kinds.Label h)
 lift kinds.Empty rule whole types more up le b = λ h. b (up kinds.Empty h)
 
--- what was read is made of a rest that has the remaining tokens, and keeps the rules
+-- what was read is made from a rest that has the remaining tokens, and it keeps the rules
 pub record Good {X : Type 0} (made : List ℕ → X) (rule : Kind → Type 0)
     (more : List Token) (x : X) : Type 0 where
   pub rest : List ℕ
@@ -50,7 +50,7 @@ pub record Good {X : Type 0} (made : List ℕ → X) (rule : Kind → Type 0)
   pub tokens : AreTokens rest more
   pub keeps : (k : Kind) → rule k
 
--- reading gives what is made, or breaks a rule
+-- reading gives what is made, or a rule that is broken
 pub record Out {X : Type 0} (made : List ℕ → X) (rule : Kind → Type 0) (types : List Node)
     (more : List Token) (r : Result X Refusal) : Type 0 where
   pub out : MatchResult r (Good made rule more) (λ e. Breaks e.kind rule types)
@@ -85,7 +85,7 @@ good_more (Ok x) o on up = search (arith)
 good_more {rule = rule} {whole = whole} {types = types} (Err e) o on up =
     record { out = lift e.kind rule whole types types up within_same o.out }
 
--- the same under equivalent rules
+-- the same for equivalent rules
 pub out_more : {X : Type 0} {made : List ℕ → X} {rule whole : Kind → Type 0} {types : List Node}
     {more : List Token} {r : Result X Refusal} → Out made rule types more r
     → ((k : Kind) → rule k → whole k) → ((k : Kind) → whole k → rule k)
@@ -94,13 +94,13 @@ out_more {r = r} o on up = good_more r o on up
 
 -- ---- a text that was read
 
--- the text is spelled so, up to the rest, and what is asked of its names holds
+-- the text is spelled like this up to the rest, and its names are free
 pub record Took (spelled : List Token → List Token) (Free : Type 0)
     (text rest : List ℕ) : Type 0 where
   pub free : Free
   pub front : (more : List Token) → AreTokens rest more → AreTokens text (spelled more)
 
--- ---- looking one token ahead
+-- ---- looking at the next token
 
 -- the tokens don't begin with the mark
 abbrev pub Apart : Mark → List Token → Type 0

@@ -1,4 +1,4 @@
--- Any loop of the reader against reading in repeated steps.
+-- Any loop of the reader compared with reading in repeated steps.
 use Rattle.std.proofs.Common.{◌≡◌, ℕ, suc, ◌+◌, ◌-◌, ◌<◌, ◌≤◌, Bool, true, false, cond, Result, Ok, Err, refl, sym, ap, ◌∙◌, arith}
 use Rattle.giop_tokens.specs.declared.fault.Refusal.{Refusal}
 use Rattle.giop_sig.specs.declared.parse_stop.ParseStop.{ParseStop}
@@ -46,7 +46,7 @@ pub bind_bind : {A B C : Type 0} (r : Result A Refusal) (f : A → Result B Refu
 bind_bind (Ok x) f g = refl
 bind_bind (Err e) f g = refl
 
--- what is made of the last state, by the first step
+-- what is made of the last state, from the first step
 pub step_first : {S Y : Type 0} (step : S → Result (Bool × S) Refusal) (limit : S → Refusal)
     (make : S → Result Y Refusal) (left : ℕ) (s : S)
     → (in_steps step limit (suc left) s >>= make)

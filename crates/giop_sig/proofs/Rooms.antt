@@ -1,17 +1,17 @@
--- The trees of types by their rooms: a discriminator has one tree, and a table that grows keeps its
+-- The trees of types in their rooms: a discriminator has one tree, and a table that grows keeps its
 -- trees.
 use Rattle.std.proofs.Common.{◌≡◌, ℕ, zero, suc, ◌<◌, List, [], ◌∷◌, length, refl, sym, subst, ap, ◌∙◌, arith}
 use mathlib.Core.Path.{fun_ext}
 use Rattle.std.specs.Prelude.{slice_get}
-use Rattle.giop_sig.specs.Types.{Choice, Cases, Tag, Ty, Single, Struct, Sequence, Array, Encapsulation, Hearing, HasInner, IsUnion, switch_of}
+use Rattle.giop_sig.specs.Types.{Choice, Cases, Tag, Ty, Single, Struct, Sequence, Array, Encapsulation, HasInner, IsUnion, switch_of}
 use Rattle.giop_sig.specs.Table.{Node, Part, Case, Table, node_in, node_at, shape_of, part_at, type_of, name_of, switch_at, case_part, IsScalarNode, IsFormed}
 use Rattle.giop_sig.specs.Table as nodes
-use Rattle.giop_sig.specs.Trees.{any_hearing, grow, grown_part, grown_union, in_room, union_of, octet_type, scalar_of, tree_at}
+use Rattle.giop_sig.specs.Trees.{Room, room_of, grow, grown_part, grown_union, in_room, union_of, octet_type, scalar_of, tree_at}
 use Rattle.giop_sig.proofs.Nodes.{in_shape, in_switch}
 use Rattle.giop_sig.proofs.Formed.{SameNodes, part_formed, switch_formed}
 use Rattle.giop_sig.proofs.Depths.{FormedBelow, IsSteady, steady_in}
 
--- ---- a node over trees that agree on its parts
+-- ---- a node, if the trees of its parts agree
 
 abbrev pub SamePart : (ℕ → Ty) → (ℕ → Ty) → Node → Type 0
 SamePart f g node = (k : ℕ) → HasInner (shape_of node) k
@@ -40,7 +40,7 @@ union_same f g choice node switch parts =
     ap (λ T. union_of choice node T (λ i. grown_part f (part_at node i))) switch
     ∙ ap (union_of choice node (g (switch_at node))) (fun_ext parts)
 
-pub grow_same : (h k : Hearing) (f g : ℕ → Ty) (node : Node) → IsSteady node → SamePart f g node
+pub grow_same : (h k : Room) (f g : ℕ → Ty) (node : Node) → IsSteady node → SamePart f g node
     → (IsUnion (shape_of node) → f (switch_at node) ≡ g (switch_at node))
     → grow h f node ≡ grow k g node
 grow_same h k f g (nodes.members parts) steady same switch =
@@ -57,48 +57,49 @@ grow_same h k f g (nodes.tagged special tag inner other) steady same switch =
     union_same f g Tag (nodes.tagged special tag inner other) (switch tt)
     (λ i. part_same f g (tag ∷ inner ∷ other ∷ []) i same)
 grow_same h k f g (nodes.any code) steady same switch = absurd steady
+grow_same h k f g (nodes.recursive bound element) steady same switch = absurd steady
 grow_same h k f g (nodes.typecode wide kind cases) steady same switch = absurd steady
 grow_same h k f g _ steady same switch = refl
 
 -- ---- the discriminator
 
-single_of : (h : Hearing) (f : ℕ → Ty) (room : ℕ) (node : Node) → IsScalarNode node
+single_of : (h : Room) (f : ℕ → Ty) (room : ℕ) (node : Node) → IsScalarNode node
     → grow h f (in_room room node) ≡ Single (scalar_of (grow h f (in_room room node)))
 single_of h f room (nodes.prim p) is = refl
 single_of h f room (nodes.enumeration names) is = refl
 single_of h f room (nodes.marked mark) is = refl
 single_of h f room _ is = absurd is
 
--- the type of one number that a union's discriminator has
+-- the type of a union's discriminator is one of one number
 pub single_at : (t : Table) (room i : ℕ) → IsScalarNode (node_at t i)
     → tree_at t room i ≡ Single (scalar_of (tree_at t room i))
 unfolding tree_at
-single_at t zero i is = single_of (any_hearing t 0) (λ k. octet_type) 0 (node_at t i) is
+single_at t zero i is = single_of (room_of t 0) (λ k. octet_type) 0 (node_at t i) is
 single_at t (suc room) i is =
-    single_of (any_hearing t room) (tree_at t room) room (node_at t i) is
+    single_of (room_of t room) (tree_at t room) room (node_at t i) is
 
-scalar_same : (h k : Hearing) (f g : ℕ → Ty) (a b : ℕ) (node : Node) → IsScalarNode node
+scalar_same : (h k : Room) (f g : ℕ → Ty) (a b : ℕ) (node : Node) → IsScalarNode node
     → grow h f (in_room a node) ≡ grow k g (in_room b node)
 scalar_same h k f g a b (nodes.prim p) is = refl
 scalar_same h k f g a b (nodes.enumeration names) is = refl
 scalar_same h k f g a b (nodes.marked mark) is = refl
 scalar_same h k f g a b _ is = absurd is
 
--- a type of one number is the same in each room
+-- a type of one number is the same in any room
 pub scalar_room : (t : Table) (a b i : ℕ) → IsScalarNode (node_at t i)
     → tree_at t a i ≡ tree_at t b i
 unfolding tree_at
 scalar_room t zero zero i is = refl
 scalar_room t zero (suc b) i is =
-    scalar_same (any_hearing t 0) (any_hearing t b) (λ k. octet_type) (tree_at t b) 0 b
+    scalar_same (room_of t 0) (room_of t b) (λ k. octet_type) (tree_at t b) 0 b
     (node_at t i) is
 scalar_room t (suc a) zero i is =
-    scalar_same (any_hearing t a) (any_hearing t 0) (tree_at t a) (λ k. octet_type) a 0
+    scalar_same (room_of t a) (room_of t 0) (tree_at t a) (λ k. octet_type) a 0
     (node_at t i) is
 scalar_room t (suc a) (suc b) i is =
-    scalar_same (any_hearing t a) (any_hearing t b) (tree_at t a) (tree_at t b) a b (node_at t i) is
+    scalar_same (room_of t a) (room_of t b) (tree_at t a) (tree_at t b) a b (node_at t i) is
 
-switch_in : (h : Hearing) (f : ℕ → Ty) (node : Node) → IsUnion (shape_of node)
+switch_in : (h : Room) (f : ℕ → Ty) (node : Node) → IsUnion (shape_of node)
     → f (switch_at node) ≡ Single (scalar_of (f (switch_at node)))
     → f (switch_at node) ≡ switch_of (grow h f node)
 switch_in h f (nodes.union switch cases otherwise) is e = e
@@ -106,7 +107,7 @@ switch_in h f (nodes.tagged special tag inner other) is e = e
 switch_in h f (nodes.typecode wide kind cases) is e = e
 switch_in h f _ is e = absurd is
 
-pub switch_grown : (h : Hearing) (f : ℕ → Ty) (room : ℕ) (node : Node) → IsUnion (shape_of node)
+pub switch_grown : (h : Room) (f : ℕ → Ty) (room : ℕ) (node : Node) → IsUnion (shape_of node)
     → f (switch_at node) ≡ Single (scalar_of (f (switch_at node)))
     → f (switch_at node) ≡ switch_of (grow h f (in_room room node))
 switch_grown h f room node is e =
@@ -128,13 +129,13 @@ tree_moved t u n zero i are steady same lt =
     let one = node_at t i in
     let a : in_room 0 one ≡ one = steady_in 0 one (steady i lt) in
     let b : in_room 0 (node_at u i) ≡ one = ap (in_room 0) (sym (same i lt)) ∙ a in
-    rw (a, b) (grow_same (any_hearing t 0) (any_hearing u 0) (λ k. octet_type) (λ k. octet_type) one
+    rw (a, b) (grow_same (room_of t 0) (room_of u 0) (λ k. octet_type) (λ k. octet_type) one
     (steady i lt) (λ k has. refl) (λ is. refl))
 tree_moved t u n (suc room) i are steady same lt =
     let one = node_at t i in
     let a : in_room room one ≡ one = steady_in room one (steady i lt) in
     let b : in_room room (node_at u i) ≡ one = ap (in_room room) (sym (same i lt)) ∙ a in
-    rw (a, b) (grow_same (any_hearing t room) (any_hearing u room) (tree_at t room) (tree_at u room)
+    rw (a, b) (grow_same (room_of t room) (room_of u room) (tree_at t room) (tree_at u room)
     one (steady i lt)
     (λ k has. let below = (part_formed t.types i one k (are i lt) has).below in
     tree_moved t u n room (type_of (part_at one k)) are steady same (omega arith))

@@ -7,7 +7,7 @@ use Rattle.giop_tokens.specs.Tokens.{Token, word, mark}
 use Rattle.giop_sig.specs.Table.{Node, Table, node_at, with_type, with_identity}
 use Rattle.giop_sig.specs.Table as nodes
 use Rattle.giop_sig.specs.Trees.{depth_in}
-use Rattle.giop_sig.specs.Grammar.{TypeExpr, Text, WideText, SequenceOf, EncapsulationOf, spell_most, spell_type, Item, spell_lengths, spell_item, spell_items, spell_names, spell_labels, UnionCase, spell_cases, Param, spell_more_params, spell_params, spell_return, spell_interfaces, Declaration, Enumeration, Structure, DeclaredUnion, DeclaredException, Call, KeyOf, spell, spell_all}
+use Rattle.giop_sig.specs.Grammar.{TypeExpr, Text, WideText, SequenceOf, EncapsulationOf, spell_most, spell_type, Item, spell_lengths, spell_item, spell_items, spell_names, spell_labels, UnionCase, spell_cases, Param, spell_more_params, spell_params, spell_return, spell_interfaces, Declaration, Enumeration, Structure, DeclaredUnion, Announcement, DeclaredException, Call, KeyOf, spell, spell_all}
 use Rattle.giop_sig.specs.Scopes.{Scope, AddedType, with_node, with_identified, with_id_fronts, add_struct_type, sequence_node, place, add_arrays, add_item, add_items, add_cases, default_from, add_params, add_return, declare, scope_after}
 use Rattle.giop_sig.proofs.PlaceLaws.{size, listed_types}
 use Rattle.giop_sig.proofs.SpellLaws.{most, names, label, labels, interfaces, identity}
@@ -20,7 +20,7 @@ sequence_by : (t : Table) (number : ℕ) (v : Bool)
 sequence_by t number true = search (arith, length-append)
 sequence_by t number false = omega arith
 
--- a repository id brings a type, at most
+-- a repository id adds one type at most
 identified : (t : Table) (id : Option (List ℕ)) (number : ℕ)
     → length (with_identified t id number).types ≤ suc (length t.types)
 identified t None number = omega arith
@@ -28,7 +28,7 @@ identified t (Some id) number =
     sequence_by (with_id_fronts (with_identity t (record { repository = id; type = number })) id
     number) number (nat_lt (depth_in t.types number) 24)
 
--- a type has one token more than types, at least
+-- a type has at least one token more than it adds types
 typed : (s : Scope) (e : TypeExpr) (more : List Token)
     → size (place s e).0 + length more < size s + length (spell_type e more)
 unfolding place
@@ -40,7 +40,7 @@ typed s (SequenceOf e o) more =
       arith,
       typed s e (spell_most o (mark marks.CloseAngle ∷ more)),
       most o (mark marks.CloseAngle ∷ more),
-      one_more p.0 (sequence_node o p.1),
+      one_more p.0 (sequence_node (p.0).table.types o p.1),
     )
 typed s (EncapsulationOf e) more = let p = place s e in
     omega (arith, typed s e (mark marks.CloseAngle ∷ more), one_more p.0 (nodes.encapsulation p.1))
@@ -137,6 +137,8 @@ declared s (DeclaredUnion n id e cs) more =
       one_more x.0 (nodes.union p.1 x.1 (default_from 0 cs)),
       identified (q.0).table id q.1,
     )
+declared s (Announcement w n) more =
+    omega (arith, one_more s (nodes.announced (length s.names.announced)))
 declared s (DeclaredException n r is) more =
     omega (
       arith,
@@ -160,7 +162,7 @@ declared s (Call o n ps ids) more =
     )
 declared s (KeyOf text id) more = omega arith
 
--- up to each declaration, no more types than tokens, beside those that were there
+-- up to each declaration there are at most as many new types as tokens
 pub types_fewer : (s : Scope) (before : List Declaration) (d : Declaration)
     (after : List Declaration)
     → size (declare (scope_after s before) d) ≤ size s + length (spell_all (before ++ d ∷ after))
@@ -168,7 +170,7 @@ types_fewer s [] d after = omega (arith, declared s d (spell_all after))
 types_fewer s (b ∷ bs) d after =
     omega (arith, declared s b (spell_all (bs ++ d ∷ after)), types_fewer (declare s b) bs d after)
 
--- no more types than tokens, beside those that were there
+-- there are at most as many new types as tokens
 pub types_few : (s : Scope) (ds : List Declaration)
     → size (scope_after s ds) ≤ size s + length (spell_all ds)
 types_few s [] = omega arith

@@ -68,7 +68,7 @@ pub most_takes : (text : List ℕ) (x : Option ℕ × List ℕ) → most_at text
 unfolding most_at
 most_takes text x e = search (arith, bind_ok, behind_by)
 
--- the rule that names are not reserved asks nothing of sizes
+-- the rule about reserved words asks nothing of sizes
 pub bound_free : (o : Option ℕ) → OfBound kinds.Syntax o
 bound_free None = tt
 bound_free (Some n) = tt

@@ -1,5 +1,5 @@
--- Every type of a table but the empty struct takes at least one octet, and fits in each room that
--- is as great as its depth.
+-- Each type of a table but the empty struct takes at least one octet, and fits in any room that is
+-- at least its depth.
 use Rattle.std.proofs.Common.{◌≡◌, ℕ, zero, suc, ◌<◌, ◌≤◌, Bool, true, false, cond, ◌&&◌, List, [], ◌∷◌, length, Option, Some, None, refl, sym, subst, ◌⊎◌, inl, inr, arith}
 use Rattle.std.proofs.lemmas.List.Quantifiers.{position-Some}
 use Rattle.std.proofs.lemmas.List.{get_or_past}
@@ -11,11 +11,11 @@ use Rattle.giop_cdr.specs.declared.number.Number.{Number}
 use Rattle.giop_cdr.specs.declared.prim.Primitive.TheVariants.{Octet}
 use Rattle.giop_sig.specs.declared.types.Selected.{Selected}
 use Rattle.giop_sig.specs.declared.types.Selected.TheVariants as selecteds
-use Rattle.giop_sig.specs.Types.{interpreted_by, Ty, HasMember, HasInner, Hearing, Told, Untold, Awaits, Offers, Is, Empty, Unknown, Then, Stops, sequel, part_of}
+use Rattle.giop_sig.specs.Types.{interpreted_by, Ty, HasMember, HasInner, Told, Untold, Awaits, Offers, Is, Empty, Unknown, Then, Stops, sequel, part_of}
 use Rattle.giop_sig.specs.Fits.{IsFit, IsRoot, IsEmptyStruct}
 use Rattle.giop_sig.specs.Table.{Node, Part, Case, Table, case_part, node_at, node_in, takes_octet, shape_of, part_at, type_of, switch_at, selected, case_or, IsFormed, IsCaseBelow, TakesOctet}
 use Rattle.giop_sig.specs.Table as nodes
-use Rattle.giop_sig.specs.Trees.{any_hearing, has_room, follows, in_room, wide_room, AreWide, IsWide, IsWidePart, grow, octet_type, scalar_of, selected_by, tree_at, tree, depth_in, wide_in, AreFormed, AreTypes}
+use Rattle.giop_sig.specs.Trees.{Room, any_hearing, room_of, has_room, follows, in_room, wide_room, AreWide, IsWide, IsWidePart, grow, octet_type, scalar_of, selected_by, tree_at, tree, depth_in, wide_in, AreFormed, AreTypes}
 use Rattle.giop_sig.proofs.Nodes.{case_below, inner_place, part_grown}
 use Rattle.giop_sig.proofs.Formed.{part_formed}
 use Rattle.giop_sig.proofs.Depths.{depth_within, part_shallower, some_depth}
@@ -63,43 +63,48 @@ taken_below types n node (Some number) i formed e = search (arith, selected_belo
 some_part : (p : Part) (ps : List Part) → 0 < length (p ∷ ps)
 some_part p ps = omega arith
 
-abbrev PartsFit : Hearing → (ℕ → Ty) → Node → ℕ → Type 0
+abbrev PartsFit : Room → (ℕ → Ty) → Node → ℕ → Type 0
 PartsFit h f node d =
     (k : ℕ) → HasInner (shape_of node) k → IsFit d (part_of (grow h f node) k)
 
--- what an any selects fits
-abbrev SequelsFit : Hearing → (ℕ → Ty) → ℕ → Type 0
-SequelsFit h f d = (told : Told) (i : ℕ) → sequel h told ≡ Then i → IsFit d (f i)
+-- what an any selects fits, and so do the elements of a recursive sequence
+record FollowersFit (h : Room) (f : ℕ → Ty) (d : ℕ) : Type 0 where
+  sequels : (told : Told) (i : ℕ) → sequel h.hearing told ≡ Then i → IsFit d (f i)
+  elements : (i : ℕ) → h.fits i ≡ true → IsFit d (f i)
 
-grown_fit : (types : List Node) (n : ℕ) (node : Node) (h : Hearing) (f : ℕ → Ty) (d room : ℕ)
+grown_fit : (types : List Node) (n : ℕ) (node : Node) (h : Room) (f : ℕ → Ty) (d room : ℕ)
     → IsFormed types n node → TakesOctet node → PartsFit h f (in_room room node) d
-    → SequelsFit h f d
+    → FollowersFit h f d
     → IsFit (suc d) (grow h f (in_room room node))
 unfolding IsFit
-grown_fit types n (nodes.members []) h f d room formed takes parts sequels = absurd takes
-grown_fit types n (nodes.members (p ∷ ps)) h f d room formed takes parts sequels =
+grown_fit types n (nodes.members []) h f d room formed takes parts others = absurd takes
+grown_fit types n (nodes.members (p ∷ ps)) h f d room formed takes parts others =
     (some_part p ps, parts)
-grown_fit types n (nodes.union switch cases otherwise) h f d room formed takes parts sequels = (
+grown_fit types n (nodes.union switch cases otherwise) h f d room formed takes parts others = (
   λ k i e. taken_below types n (nodes.union switch cases otherwise)
       (interpreted_by (scalar_of (f switch)) k) i formed e,
   parts,
 )
-grown_fit types n (nodes.sequence bound element) h f d room formed takes parts sequels = parts 0 tt
-grown_fit types n (nodes.array count element) h f d room formed takes parts sequels =
+grown_fit types n (nodes.sequence bound element) h f d room formed takes parts others = parts 0 tt
+grown_fit types n (nodes.array count element) h f d room formed takes parts others =
     (formed.0, parts 0 tt)
-grown_fit types n (nodes.encapsulation held) h f d room formed takes parts sequels = parts 0 tt
-grown_fit types n (nodes.tagged special tag one other) h f d room formed takes parts sequels = (
+grown_fit types n (nodes.encapsulation held) h f d room formed takes parts others = parts 0 tt
+grown_fit types n (nodes.tagged special tag one other) h f d room formed takes parts others = (
   λ k i e. taken_below types n (nodes.tagged special tag one other)
       (interpreted_by (scalar_of (f tag.type)) k) i formed e,
   parts,
 )
-grown_fit types n (nodes.any code) h f d room formed takes parts sequels = (parts 0 refl, sequels)
-grown_fit types n (nodes.typecode wide kind cases) h f d room formed takes parts sequels = (
+grown_fit types n (nodes.any code) h f d room formed takes parts others =
+    (parts 0 refl, others.sequels)
+grown_fit types n (nodes.announced place) h f d room formed takes parts others = absurd takes
+grown_fit types n (nodes.recursive bound element) h f d room formed takes parts others =
+    others.elements element
+grown_fit types n (nodes.typecode wide kind cases) h f d room formed takes parts others = (
   λ k i e. taken_below types n (nodes.typecode wide kind cases)
       (interpreted_by (scalar_of (f kind)) k) i formed e,
   parts,
 )
-grown_fit types n _ h f d room formed takes parts sequels = tt
+grown_fit types n _ h f d room formed takes parts others = tt
 
 -- ---- what an any selects
 
@@ -107,7 +112,7 @@ pub both : (a b : Bool) → (a && b) ≡ true → (a ≡ true) × (b ≡ true)
 both true b e = (refl, e)
 both false b e = absurd cc
 
--- what can follow is a type of the table that takes some octet and has room
+-- what can follow is a type of the table that takes an octet and has room
 pub record CanFollow (t : Table) (room i : ℕ) : Type 0 where
   pub known : i < length t.types
   pub takes : TakesOctet (node_at t i)
@@ -115,6 +120,7 @@ pub record CanFollow (t : Table) (room i : ℕ) : Type 0 where
 
 pub takes_by : (node : Node) → takes_octet node ≡ true → TakesOctet node
 takes_by (nodes.members []) e = absurd cc
+takes_by (nodes.announced place) e = absurd cc
 takes_by _ e = tt
 
 pub can_follow : (t : Table) (room i : ℕ) → follows t room i ≡ true → CanFollow t room i
@@ -143,7 +149,7 @@ selected_follows t room (Is i) k e = let is = then_by (follows t room i) i k e i
 selected_follows t room Empty k e = absurd cc
 selected_follows t room Unknown k e = absurd cc
 
--- ---- what follows the kind of a TypeCode, if there is room
+-- ---- what comes after the kind of a TypeCode, if there is room
 
 wide_read : (types : List Node) (cs : List Case) (i : ℕ) (p : Part)
     → AllByRecursion (λ c. IsWidePart types c.part.type) cs
@@ -153,7 +159,7 @@ wide_read types (c ∷ cs) zero p all e = let same : c.part ≡ p = cc in
     subst (λ (q : Part). IsWidePart types q.type) same all.0
 wide_read types (c ∷ cs) (suc i) p all e = wide_read types cs i p all.1 e
 
--- a part of a smaller number
+-- a part with a smaller number
 inner_room : (t : Table) (i room k : ℕ) → AreFormed t.types → i < length t.types
     → depth_in t.types i ≤ suc room → HasInner (shape_of (node_at t i)) k
     → CanFollow t room (type_of (part_at (node_at t i) k))
@@ -197,26 +203,30 @@ part_room t i room k node are w lt le e has =
     subst (λ n. CanFollow t room (type_of (part_at n k))) (sym e)
     (inner_room t i room k are lt le (subst (λ n. HasInner (shape_of n) k) e has))
 
--- a type fits if there is as much room as it is deep
+-- a type fits if the room is at least its depth
 pub fits : (t : Table) (room i : ℕ) → AreFormed t.types → AreWide t.types → i < length t.types
     → TakesOctet (node_at t i) → depth_in t.types i ≤ room → IsFit room (tree_at t room i)
 unfolding tree_at
 fits t zero i are w lt takes le = absurd (omega (arith, some_depth t.types i))
 fits t (suc room) i are w lt takes le =
     let node = node_at t i in
-    grown_fit t.types i node (any_hearing t room) (tree_at t room) room room (are.formed i lt) takes
+    grown_fit t.types i node (room_of t room) (tree_at t room) room room (are.formed i lt) takes
     (λ k has. let is = part_room t i room k node are w lt le refl has in
-    subst (IsFit room) (part_grown (any_hearing t room) (tree_at t room) (in_room room node) k
+    subst (IsFit room) (part_grown (room_of t room) (tree_at t room) (in_room room node) k
     (inner_place (in_room room node) k has))
     (fits t room (type_of (part_at (in_room room node) k)) are w is.known is.takes is.shallow))
-    (λ told k e. let is = selected_follows t room told k e in
-    fits t room k are w is.known is.takes is.shallow)
+    (record {
+      sequels = λ told k e. let is = selected_follows t room told k e in
+          fits t room k are w is.known is.takes is.shallow;
+      elements = λ k e. let is = can_follow t room k e in
+          fits t room k are w is.known is.takes is.shallow;
+    })
 
 octet_fits : IsFit 1 octet_type
 unfolding IsFit
 octet_fits = tt
 
--- a part in a table, whatever its room
+-- a part of a type is a type of the table, in any room
 pub any_room : (t : Table) (i room k : ℕ) (node : Node) → AreFormed t.types → AreWide t.types
     → i < length t.types → node ≡ node_at t i → HasInner (shape_of (in_room room node)) k
     → (type_of (part_at (in_room room node) k) < length t.types)
@@ -247,44 +257,50 @@ any_room t i room k node are w lt e has =
     let below = is.below in
     (omega arith, is.takes)
 
--- a tree that ends where its room does fits too
+-- a tree that is cut off at its room fits too
 pub fit_each : (t : Table) (room i : ℕ) → AreFormed t.types → AreWide t.types → i < length t.types
     → TakesOctet (node_at t i) → IsFit (suc (suc room)) (tree_at t room i)
 unfolding tree_at
 fit_each t zero i are w lt takes =
-    grown_fit t.types i (node_at t i) (any_hearing t 0) (λ k. octet_type) 1 0 (are.formed i lt)
+    grown_fit t.types i (node_at t i) (room_of t 0) (λ k. octet_type) 1 0 (are.formed i lt)
     takes
-    (λ k has. subst (IsFit 1) (part_grown (any_hearing t 0) (λ k. octet_type)
+    (λ k has. subst (IsFit 1) (part_grown (room_of t 0) (λ k. octet_type)
     (in_room 0 (node_at t i)) k (inner_place (in_room 0 (node_at t i)) k has)) octet_fits)
-    (λ told k e. octet_fits)
+    (record { sequels = λ told k e. octet_fits; elements = λ k e. octet_fits })
 fit_each t (suc room) i are w lt takes =
     let node = node_at t i in
-    grown_fit t.types i node (any_hearing t room) (tree_at t room) (suc (suc room)) room
+    grown_fit t.types i node (room_of t room) (tree_at t room) (suc (suc room)) room
     (are.formed i lt) takes
     (λ k has. let is = any_room t i room k node are w lt refl has in
-    subst (IsFit (suc (suc room))) (part_grown (any_hearing t room) (tree_at t room)
+    subst (IsFit (suc (suc room))) (part_grown (room_of t room) (tree_at t room)
     (in_room room node) k (inner_place (in_room room node) k has))
     (fit_each t room (type_of (part_at (in_room room node) k)) are w is.0 is.1))
-    (λ told k e. let is = selected_follows t room told k e in
-    fit_each t room k are w is.known is.takes)
+    (record {
+      sequels = λ told k e. let is = selected_follows t room told k e in
+          fit_each t room k are w is.known is.takes;
+      elements = λ k e. let is = can_follow t room k e in
+          fit_each t room k are w is.known is.takes;
+    })
 
--- a type that fits takes some octet
-takes_fit : (h : Hearing) (f : ℕ → Ty) (room : ℕ) (node : Node) (d : ℕ)
+-- a type that fits takes an octet
+takes_fit : (h : Room) (f : ℕ → Ty) (room : ℕ) (node : Node) (d : ℕ)
     → IsFit d (grow h f (in_room room node)) → TakesOctet node
 unfolding IsFit
 takes_fit h f room (nodes.members []) zero fit = absurd fit
 takes_fit h f room (nodes.members []) (suc d) fit = absurd (omega (arith, fit.0))
+takes_fit h f room (nodes.announced place) zero fit = absurd fit
+takes_fit h f room (nodes.announced place) (suc d) fit = absurd (omega (arith, fit.0))
 takes_fit h f room _ d fit = tt
 
--- what has no number is an octet
+-- a number without a type is an octet
 past_fits : (t : Table) (room i : ℕ) → node_at t i ≡ nodes.prim Octet
     → IsFit (suc (suc room)) (tree_at t room i)
 unfolding tree_at IsFit
 past_fits t zero i e =
-    subst (λ node. IsFit 2 (grow (any_hearing t 0) (λ k. octet_type) (in_room 0 node))) (sym e) tt
+    subst (λ node. IsFit 2 (grow (room_of t 0) (λ k. octet_type) (in_room 0 node))) (sym e) tt
 past_fits t (suc room) i e =
     subst (λ node. IsFit (suc (suc (suc room)))
-    (grow (any_hearing t room) (tree_at t room) (in_room room node))) (sym e) tt
+    (grow (room_of t room) (tree_at t room) (in_room room node))) (sym e) tt
 
 pub fit_in_room : (t : Table) (i d a room : ℕ) → AreFormed t.types → AreWide t.types
     → IsFit d (tree_at t a i)
@@ -292,9 +308,9 @@ pub fit_in_room : (t : Table) (i d a room : ℕ) → AreFormed t.types → AreWi
 unfolding tree_at
 fit_in_room t i d zero room are w fit (inl lt) =
     fit_each t room i are w lt
-    (takes_fit (any_hearing t 0) (λ k. octet_type) 0 (node_at t i) d fit)
+    (takes_fit (room_of t 0) (λ k. octet_type) 0 (node_at t i) d fit)
 fit_in_room t i d (suc a) room are w fit (inl lt) =
-    fit_each t room i are w lt (takes_fit (any_hearing t a) (tree_at t a) a (node_at t i) d fit)
+    fit_each t room i are w lt (takes_fit (room_of t a) (tree_at t a) a (node_at t i) d fit)
 fit_in_room t i d a room are w fit (inr le) =
     past_fits t room i (get_or_past t.types i (nodes.prim Octet) le)
 
@@ -304,19 +320,23 @@ fit_at t i are w known takes =
     fits t 24 i are.placed w known takes
     (omega (arith, depth_within t.types i known, are.shallow))
 
-takes_or_empty : (node : Node) → TakesOctet node ⊎ (node ≡ nodes.members [])
-takes_or_empty (nodes.members []) = inr refl
-takes_or_empty _ = inl tt
+-- a type that takes no octet is the empty struct
+takes_or_empty : (h : Room) (f : ℕ → Ty) (room : ℕ) (node : Node)
+    → TakesOctet node ⊎ IsEmptyStruct (grow h f (in_room room node))
+takes_or_empty h f room (nodes.members []) = inr tt
+takes_or_empty h f room (nodes.announced place) = inr tt
+takes_or_empty h f room _ = inl tt
 
 root_by : (t : Table) (i : ℕ) → AreTypes t.types → AreWide t.types → i < length t.types
-    → TakesOctet (node_at t i) ⊎ (node_at t i ≡ nodes.members []) → IsRoot (tree t i)
+    → TakesOctet (node_at t i)
+    ⊎ IsEmptyStruct (grow (room_of t 23) (tree_at t 23) (in_room 23 (node_at t i)))
+    → IsRoot (tree t i)
 unfolding tree_at
 root_by t i are w known (inl takes) = inl (fit_at t i are w known takes)
-root_by t i are w known (inr e) =
-    inr (subst (λ node. IsEmptyStruct (grow (any_hearing t 23) (tree_at t 23) (in_room 23 node)))
-    (sym e) tt)
+root_by t i are w known (inr empty) = inr empty
 
--- each type of a table fits at the root of a message
+-- each type of a table may be at the root of a message
 pub root_at : (t : Table) (i : ℕ) → AreTypes t.types → AreWide t.types → i < length t.types
     → IsRoot (tree t i)
-root_at t i are w known = root_by t i are w known (takes_or_empty (node_at t i))
+root_at t i are w known =
+    root_by t i are w known (takes_or_empty (room_of t 23) (tree_at t 23) 23 (node_at t i))

@@ -1,10 +1,10 @@
--- Lengths of spellings: a spelling is written in front of what follows it, and each declaration has
+-- Lengths of spellings: a spelling is written before what comes after it, and each declaration has
 -- tokens.
 use Rattle.std.proofs.Common.{ℕ, ◌<◌, ◌≤◌, List, [], ◌∷◌, length, Option, Some, None, arith}
 use Rattle.giop_tokens.specs.declared.marks.Mark.{Mark}
 use Rattle.giop_tokens.specs.declared.marks.Mark.TheVariants as marks
 use Rattle.giop_tokens.specs.Tokens.{Token, mark}
-use Rattle.giop_sig.specs.Grammar.{TypeExpr, Text, WideText, SequenceOf, EncapsulationOf, spell_between, spell_most, spell_type, Item, spell_lengths, spell_item, spell_items, spell_more_names, spell_names, Value, Plain, spell_value, Label, Default, Of, spell_label, spell_labels, UnionCase, spell_cases, Param, spell_more_params, spell_params, spell_return, spell_more_interfaces, spell_interfaces, spell_identity, Declaration, Enumeration, Structure, DeclaredUnion, DeclaredException, Call, KeyOf, spell, spell_all}
+use Rattle.giop_sig.specs.Grammar.{TypeExpr, Text, WideText, SequenceOf, EncapsulationOf, spell_between, spell_most, spell_type, Item, spell_lengths, spell_item, spell_items, spell_more_names, spell_names, Value, Plain, spell_value, Label, Default, Of, spell_label, spell_labels, UnionCase, spell_cases, Param, spell_more_params, spell_params, spell_return, spell_more_interfaces, spell_interfaces, spell_identity, Declaration, Enumeration, Structure, DeclaredUnion, Announcement, DeclaredException, Call, KeyOf, spell, spell_all}
 
 between : (a b : Mark) (o : Option ℕ) (more : List Token)
     → length more ≤ length (spell_between a b o more)
@@ -95,11 +95,12 @@ pub spelled_more : (d : Declaration) (more : List Token) → length more < lengt
 spelled_more (Enumeration n id ns) more = search (arith, identity, names)
 spelled_more (Structure n id is) more = search (arith, identity, items)
 spelled_more (DeclaredUnion n id e cs) more = search (arith, identity, typed, cases)
+spelled_more (Announcement w n) more = omega arith
 spelled_more (DeclaredException n r is) more = search (arith, items)
 spelled_more (Call o n ps ids) more = search (arith, returned, params, interfaces)
 spelled_more (KeyOf text id) more = omega arith
 
--- as many tokens as declarations, at least
+-- there are at least as many tokens as declarations
 pub spelled_few : (ds : List Declaration) → length ds ≤ length (spell_all ds)
 spelled_few [] = omega arith
 spelled_few (d ∷ ds) = search (arith, spelled_more, spelled_few ds)

@@ -1,5 +1,5 @@
--- The entry at a type's number agrees with the table and its tree.
-use Rattle.std.proofs.Common.{◌≡◌, ℕ, zero, suc, ◌<◌, ◌≤◌, Bool, false, List, length, get_or, Some, refl, sym, ap, ◌∙◌, subst, arith}
+-- The entry of a type agrees with the table and with the type's tree.
+use Rattle.std.proofs.Common.{◌≡◌, ℕ, zero, suc, ◌<◌, ◌≤◌, Bool, true, false, List, length, get_or, Option, Some, refl, sym, ap, ◌∙◌, subst, arith}
 use Rattle.std.specs.Prelude.{IfSome}
 use Rattle.std.proofs.lemmas.List.{length-map}
 use Rattle.giop_cdr.specs.declared.number.Number.{Number}
@@ -7,13 +7,16 @@ use Rattle.giop_sig.specs.declared.types.Shape.{Shape}
 use Rattle.giop_sig.specs.declared.types.Shape.TheVariants as shapes
 use Rattle.giop_sig.specs.declared.types.Selected.{Selected}
 use Rattle.giop_sig.specs.declared.types.Selected.TheVariants as selecteds
-use Rattle.giop_sig.specs.Types.{part_of, name_in, enum_name_in, switch_of, select_in, interpreted_in, shape_in, HasShape, HasMember, HasPlace, HasInner, IsUnion}
+use Rattle.giop_sig.specs.Types.{Ty, elements_fit, part_of, name_in, enum_name_in, switch_of, select_in, interpreted_in, shape_in, HasShape, HasMember, HasPlace, HasInner, IsUnion}
 use Rattle.giop_sig.specs.Fits.{IsRoot}
 use Rattle.giop_sig.specs.Table.{Node, Table, seen, node_at, node_in, shape_of, part_at, type_of, name_of, name_at, switch_at, selected, IsFormed}
 use Rattle.giop_sig.specs.Table as nodes
-use Rattle.giop_sig.specs.Trees.{any_hearing, in_room, octet_type, part_number_in, tree_at, tree, AreTypes, AreWide}
+use Rattle.giop_sig.specs.Trees.{Room, room_of, follows, grow, in_room, octet_type, part_number_in, tree_at, tree, AreTypes, AreWide, IsSettled}
 use Rattle.giop_sig.specs.HeaderTypes.{IsTable}
 use Rattle.giop_sig.specs.Views.{node_view, IsSeen, IsSized}
+use Rattle.giop_sig.specs.declared.entries.Entry.{Entry}
+use Rattle.giop_sig.specs.declared.entries.Entry.TheVariants as entries
+use Rattle.giop_sig.specs.declared.types.TypeId.{TypeId}
 use Rattle.giop_sig.specs.declared.entries.EntryWithDepth.{EntryWithDepth}
 use Rattle.giop_sig.proofs.Rooms.{scalar_room, single_at, switch_grown}
 use Rattle.giop_sig.proofs.Nodes.{in_enum_name, in_name, in_part, in_selected, in_shape, shape_grown, has_shape, part_grown, name_grown, enum_name_grown, select_grown}
@@ -21,7 +24,7 @@ use Rattle.giop_sig.proofs.Kept.{node_read}
 use Rattle.giop_sig.proofs.Formed.{sized, part_formed, name_short, switch_formed, enum_name_short}
 use Rattle.giop_sig.proofs.Solid.{any_room, root_at, selected_below}
 
--- ---- a table as it is seen
+-- ---- a table as messages see it
 
 pub seen_table : (narrow : Bool) (t : Table) → IsTable t → IsTable (seen narrow t)
 seen_table narrow t is = record {
@@ -47,7 +50,7 @@ pub seen_own : (view t : Table) (narrow : Bool) → view.narrow ≡ false → vi
 seen_own view t narrow own same e =
     ap (λ b. seen b t) (e ∙ sym own ∙ ap (λ (u : Table). u.narrow) same)
 
--- the entries of a table as it is seen
+-- the entries of a table as messages see it
 pub seen_place : (t u : Table) (ps : List EntryWithDepth) (i : ℕ) → IsSeen t ps → t ≡ u
     → i < length u.types → i < length ps
 seen_place t u ps i is same lt =
@@ -70,21 +73,21 @@ seen_sized t u ps i p is same lt h =
     (subst (IsFormed u.types i) (sym (seen_node t u ps i p is same lt h))
     (formed.placed.formed i lt))
 
--- ---- a node and its tree, in each room
+-- ---- a node and its tree, in any room
 
 pub shape_at : (t : Table) (room i : ℕ) → shape_in (tree_at t room i) ≡ shape_of (node_at t i)
 unfolding tree_at
-shape_at t zero i = shape_grown (any_hearing t 0) (λ k. octet_type) (in_room 0 (node_at t i))
+shape_at t zero i = shape_grown (room_of t 0) (λ k. octet_type) (in_room 0 (node_at t i))
     ∙ in_shape 0 (node_at t i)
 shape_at t (suc room) i =
-    shape_grown (any_hearing t room) (tree_at t room) (in_room room (node_at t i))
+    shape_grown (room_of t room) (tree_at t room) (in_room room (node_at t i))
     ∙ in_shape room (node_at t i)
 
 pub part_tree_at : (t : Table) (room i k : ℕ) → HasPlace (shape_of (node_at t i)) k
     → tree_at t room (part_number_in t room i k) ≡ part_of (tree_at t (suc room) i) k
 unfolding tree_at
 part_tree_at t room i k has =
-    part_grown (any_hearing t room) (tree_at t room) (in_room room (node_at t i)) k
+    part_grown (room_of t room) (tree_at t room) (in_room room (node_at t i)) k
     (subst (λ s. HasPlace s k) (sym (in_shape room (node_at t i))) has)
 
 member_in : (room k : ℕ) (node : Node) → HasMember (shape_of node) k
@@ -96,12 +99,12 @@ name_tree_at : (t : Table) (room i k : ℕ) → HasMember (shape_of (node_at t i
 unfolding tree_at
 name_tree_at t zero i k has =
     let node = node_at t i in
-    sym (in_name 0 node k) ∙ name_grown (any_hearing t 0) (λ k. octet_type) (in_room 0 node) k
+    sym (in_name 0 node k) ∙ name_grown (room_of t 0) (λ k. octet_type) (in_room 0 node) k
     (member_in 0 k node has)
 name_tree_at t (suc room) i k has =
     let node = node_at t i in
     sym (in_name room node k)
-    ∙ name_grown (any_hearing t room) (tree_at t room) (in_room room node) k
+    ∙ name_grown (room_of t room) (tree_at t room) (in_room room node) k
     (member_in room k node has)
 
 enum_tree_at : (t : Table) (room i n : ℕ)
@@ -110,11 +113,11 @@ unfolding tree_at
 enum_tree_at t zero i n =
     let node = node_at t i in
     sym (in_enum_name 0 node n)
-    ∙ enum_name_grown (any_hearing t 0) (λ k. octet_type) (in_room 0 node) n
+    ∙ enum_name_grown (room_of t 0) (λ k. octet_type) (in_room 0 node) n
 enum_tree_at t (suc room) i n =
     let node = node_at t i in
     sym (in_enum_name room node n)
-    ∙ enum_name_grown (any_hearing t room) (tree_at t room) (in_room room node) n
+    ∙ enum_name_grown (room_of t room) (tree_at t room) (in_room room node) n
 
 select_tree_at : (t : Table) (room i : ℕ) (number : Number) (n : ℕ)
     → interpreted_in (switch_of (tree_at t room i)) n ≡ Some number
@@ -123,13 +126,13 @@ unfolding tree_at
 select_tree_at t zero i number n e =
     let node = node_at t i in
     sym (in_selected 0 node number)
-    ∙ select_grown (any_hearing t 0) (λ k. octet_type) (in_room 0 node) number n e
+    ∙ select_grown (room_of t 0) (λ k. octet_type) (in_room 0 node) number n e
 select_tree_at t (suc room) i number n e =
     let node = node_at t i in
     sym (in_selected room node number)
-    ∙ select_grown (any_hearing t room) (tree_at t room) (in_room room node) number n e
+    ∙ select_grown (room_of t room) (tree_at t room) (in_room room node) number n e
 
--- the node that was read is the type's
+-- the node that was read is that of the type
 pub record Entered (t : Table) (i : ℕ) (node : Node) : Type 0 where
   pub types : AreTypes t.types
   pub wide : AreWide t.types
@@ -148,7 +151,10 @@ entered view t i node laws same known is = record {
 formed_at : (t : Table) (i : ℕ) (node : Node) → Entered t i node → IsFormed t.types i node
 formed_at t i node e = subst (IsFormed t.types i) (sym e.is) (e.types.placed.formed i e.known)
 
--- the node's shape is the tree's
+settled_at : (t : Table) (i : ℕ) (node : Node) → Entered t i node → IsSettled t.types node
+settled_at t i node e = subst (IsSettled t.types) (sym e.is) (e.types.settled i e.known)
+
+-- the shape of the node is that of the tree
 pub shape_entered : (t : Table) (i room : ℕ) (node : Node) → Entered t i node
     → shape_of node ≡ shape_in (tree_at t room i)
 shape_entered t i room node e = ap shape_of e.is ∙ sym (shape_at t room i)
@@ -177,7 +183,7 @@ pub union_entered : (t : Table) (i : ℕ) (node : Node) → Entered t i node
     → IsUnion (shape_in (tree t i)) → IsUnion (shape_of node)
 union_entered t i node e is = subst IsUnion (sym (shape_entered t i 24 node e)) is
 
--- the part at a place
+-- the part at a place has a smaller number
 pub part_below : (t : Table) (i k p : ℕ) (node : Node) → Entered t i node
     → HasInner (shape_in (tree t i)) k → p ≡ type_of (part_at node k) → p < i
 part_below t i k p node e has is =
@@ -189,7 +195,7 @@ at_node : (t : Table) (i k p : ℕ) (node : Node) → Entered t i node → p ≡
     → p ≡ type_of (part_at (node_at t i) k)
 at_node t i k p node e is = is ∙ ap (λ n. type_of (part_at n k)) e.is
 
--- a part of any other type than a union is the same in each room
+-- a part is the same in any room, if its type is no union
 pub part_room : (t : Table) (i k p room : ℕ) (node : Node) → Entered t i node
     → (IsUnion (shape_in (tree t i)) → ⊥)
     → HasPlace (shape_in (tree t i)) k → p ≡ type_of (part_at node k)
@@ -202,12 +208,15 @@ part_room t i k p room node e none has is =
     ∙ sym (ap type_of (in_part room (node_at t i) k bare))) ∙ part_tree_at t room i k there
 
 -- a part is a type of the table
-known_in : (t : Table) (i k : ℕ) (node : Node) → IsFormed t.types i node → i < length t.types
+known_in : (t : Table) (i k : ℕ) (node : Node) → IsFormed t.types i node
+    → IsSettled t.types node → i < length t.types
     → HasPlace (shape_of node) k → (shape_of node ≡ shapes.Led → k ≤ length t.types)
     → type_of (part_at node k) < length t.types
-known_in t i zero (nodes.any code) formed lt has led = let below = formed.below in omega arith
-known_in t i (suc k) (nodes.any code) formed lt has led = omega (arith, led refl)
-known_in t i k node formed lt has led =
+known_in t i zero (nodes.any code) formed settled lt has led = let below = formed.below in omega
+    arith
+known_in t i (suc k) (nodes.any code) formed settled lt has led = omega (arith, led refl)
+known_in t i k (nodes.recursive bound element) formed settled lt has led = settled.known
+known_in t i k node formed settled lt has led =
     let below = (part_formed t.types i node k formed has).below in omega arith
 
 pub part_known : (t : Table) (i k p : ℕ) (node : Node) → Entered t i node
@@ -218,7 +227,8 @@ part_known t i k p node e has led is =
     omega (
       arith,
       is,
-      known_in t i k node (formed_at t i node e) e.known (place_entered t i k node e has)
+      known_in t i k node (formed_at t i node e) (settled_at t i node e) e.known
+          (place_entered t i k node e has)
           (λ l. led (sym (shape_entered t i 24 node e) ∙ l)),
     )
 
@@ -228,7 +238,7 @@ room_known : (t : Table) (i k room : ℕ) (node : Node) → Entered t i node
 room_known t i k room (nodes.typecode wide kind cases) e has led =
     (any_room t i room k (nodes.typecode wide kind cases) e.types.placed e.wide e.known e.is has).0
 room_known t i k room node e has led =
-    known_in t i k node (formed_at t i node e) e.known has led
+    known_in t i k node (formed_at t i node e) (settled_at t i node e) e.known has led
 
 pub part_known_in : (t : Table) (i k p room : ℕ) (node : Node) → Entered t i node
     → HasPlace (shape_in (tree t i)) k
@@ -270,12 +280,12 @@ pub enum_name_within : (t : Table) (i n : ℕ) (node : Node) → Entered t i nod
     → IfSome (name_at node n) (λ name. length name ≤ 64)
 enum_name_within t i n node e = search (arith, enum_name_short, formed_at)
 
--- the discriminator
+-- the discriminator has a smaller number
 pub switch_below : (t : Table) (i s : ℕ) (node : Node) → Entered t i node
     → IsUnion (shape_in (tree t i)) → s ≡ switch_at node → s < i
 switch_below t i s node e is at = search (arith, switch_formed, formed_at, union_entered)
 
--- it is the same in each room
+-- the discriminator is the same in any room
 pub switch_room : (t : Table) (i s a b : ℕ) (node : Node) → Entered t i node
     → IsUnion (shape_in (tree t i)) → s ≡ switch_at node
     → tree_at t a s ≡ switch_of (tree_at t (suc b) i)
@@ -286,7 +296,7 @@ switch_room t i s a b node e is at =
     subst (λ n. IsUnion (shape_of n)) e.is (union_entered t i node e is) in
     let scalar = (switch_formed t.types i here (e.types.placed.formed i e.known) union).scalar in
     ap (tree_at t a) (at ∙ ap switch_at e.is) ∙ scalar_room t a b (switch_at here) scalar
-    ∙ switch_grown (any_hearing t b) (tree_at t b) b here union
+    ∙ switch_grown (room_of t b) (tree_at t b) b here union
     (single_at t b (switch_at here) scalar)
 
 pub select_tree : (t : Table) (i room : ℕ) (node : Node) (number : Number) (s : Selected)
@@ -302,3 +312,31 @@ pub select_place : (t : Table) (i : ℕ) (node : Node) (number : Number) (s : Se
 select_place t i node number s e is k at =
     subst (λ x. HasMember x k) (shape_entered t i 24 node e)
     (selected_below t.types i node number k (formed_at t i node e) (sym is ∙ at))
+
+-- ---- the elements of a recursive sequence
+
+pub fits_entered : (t : Table) (i room : ℕ) (e : Entry) (bound : Option ℕ) (element : TypeId)
+    → node_view e ≡ node_at t i → e ≡ entries.Recursive bound element
+    → follows t room element.0 ≡ elements_fit (tree_at t (suc room) i)
+unfolding tree_at
+fits_entered t i room e bound element is at =
+    let node : node_at t i ≡ nodes.recursive bound element.0 = sym is ∙ ap node_view at in
+    subst (λ n. follows t room element.0
+    ≡ elements_fit (grow (room_of t room) (tree_at t room) (in_room room n))) (sym node) refl
+
+other_fits : (h : Room) (f : ℕ → Ty) (room : ℕ) (e : Entry)
+    → ((bound : Option ℕ) (element : TypeId) → e ≡ entries.Recursive bound element → ⊥)
+    → true ≡ elements_fit (grow h f (in_room room (node_view e)))
+other_fits h f room (entries.Recursive bound element) none = absurd (none bound element refl)
+other_fits h f room (entries.TypeCode code) none = refl
+other_fits h f room (entries.Prim p) none = refl
+other_fits h f room _ none = refl
+
+-- the elements of any other sequence have room
+pub others_fit : (t : Table) (i room : ℕ) (e : Entry) → node_view e ≡ node_at t i
+    → ((bound : Option ℕ) (element : TypeId) → e ≡ entries.Recursive bound element → ⊥)
+    → true ≡ elements_fit (tree_at t (suc room) i)
+unfolding tree_at
+others_fit t i room e is none =
+    subst (λ n. true ≡ elements_fit (grow (room_of t room) (tree_at t room) (in_room room n))) is
+    (other_fits (room_of t room) (tree_at t room) room e none)

@@ -1,4 +1,4 @@
--- The line of a refusal: 0 only where memory was refused.
+-- The line of a refusal is 0 only if memory was refused.
 use Rattle.std.proofs.Common.{◌≡◌, ◌↔◌, ℕ, List, refl, arith}
 use Rattle.giop_tokens.specs.declared.fault.Refusal.{Refusal}
 use Rattle.giop_tokens.specs.declared.fault.SigFault.{SigFault}
@@ -6,7 +6,7 @@ use Rattle.giop_tokens.specs.declared.fault.SigFaultKind.{SigFaultKind}
 use Rattle.giop_tokens.specs.declared.fault.SigFaultKind.TheVariants as kinds
 use Rattle.giop_tokens.specs.Lines.{fault_of}
 
--- the line is 0 only where memory was refused
+-- the line is 0 only if memory was refused
 abbrev pub HasLine : SigFault → Type 0
 HasLine f = (f.line ≡ 0) ↔ (f.kind ≡ kinds.OutOfMemory)
 

@@ -1,5 +1,5 @@
 -- Reading the spelling of a type gives it, or a rule that it breaks.
-use Rattle.std.proofs.Common.{◌≡◌, ℕ, zero, suc, ◌<◌, ◌≤◌, Bool, true, false, cond, ◌&&◌, ltb, List, ◌∷◌, length, Option, Some, None, Ok, Err, refl, arith}
+use Rattle.std.proofs.Common.{◌≡◌, ℕ, zero, suc, ◌<◌, ◌≤◌, Bool, true, false, cond, ◌&&◌, ltb, List, ◌∷◌, length, Option, Some, None, Ok, Err, refl, subst, inl, arith}
 use Rattle.std.specs.Prelude.{codes}
 use Rattle.std.specs.Str.{bytes_eq}
 use Rattle.std.proofs.lemmas.Slice.Eq.{bytes_eq-Decides}
@@ -14,7 +14,7 @@ use Rattle.giop_tokens.specs.Readers.{word_at, mark_at}
 use Rattle.giop_tokens.specs.Names.{is_reserved}
 use Rattle.giop_tokens.proofs.ReaderLaws.{word_again, mark_again}
 use Rattle.giop_sig.specs.Grammar.{TypeExpr, Base, Text, Reference, AnyType, CodeType, WideChar, WideText, Named, SequenceOf, EncapsulationOf, base_word, spell_bound, spell_most, spell_type}
-use Rattle.giop_sig.specs.Scopes.{Names, has_encapsulations, is_third, Scope, named, base_number, number_or, sequence_node, add_text_type, add_sequence_type, place}
+use Rattle.giop_sig.specs.Scopes.{Names, Announced, announced_as, or_announced, type_named, has_encapsulations, is_third, Scope, named, base_number, number_or, sequence_node, add_text_type, add_sequence_type, place}
 use Rattle.giop_sig.specs.Validity.{Kind, IsFree, OfTypeName, OfVersion, OfThird, OfType}
 use Rattle.giop_sig.specs.Outcomes.{refused}
 use Rattle.giop_sig.specs.declared.numbers.TheConstants.{WIDE_STRING}
@@ -23,6 +23,7 @@ use Rattle.giop_sig.specs.TypeReading.{enclosed_at, most_at, TypeRead, base_of, 
 use Rattle.giop_sig.proofs.PlaceLaws.{within_same, Grown, node_more}
 use Rattle.giop_sig.proofs.SizeReads.{enclosed_reads, most_reads}
 use Rattle.giop_sig.proofs.TokensFew.{tokens_few}
+use Rattle.giop_sig.proofs.TypeTaken.{some_is}
 use Rattle.giop_sig.proofs.ReadingLaws.{Out, good, broken, out_bind, Apart}
 
 -- ---- the word of a type
@@ -32,7 +33,7 @@ not_by : (third : Bool) (w v : List ℕ) (b : Bool) → bytes_eq w v ≡ b
 not_by third w v true e free reserved = search (arith, false≢true, bytes_eq-Decides)
 not_by third w v false e free reserved = e
 
--- a free name is no word that is reserved
+-- a free name isn't a reserved word
 pub is_not : (third : Bool) (w v : List ℕ) → is_reserved third w ≡ false
     → is_reserved third v ≡ true → bytes_eq w v ≡ false
 is_not third w v free reserved = search (arith, not_by)
@@ -41,7 +42,7 @@ no_base : (third : Bool) (w : List ℕ) → is_reserved third w ≡ false → ba
 unfolding is_reserved
 no_base third w free = search (arith, is_not)
 
--- a word of version 3 is no free name there
+-- a word that is reserved in version 3 is no free name there
 no_later : (third : Bool) (w v : List ℕ) → is_reserved third w ≡ false
     → is_reserved true v ≡ true → (third && bytes_eq w v) ≡ false
 no_later true w v free reserved = is_not true w v free reserved
@@ -64,21 +65,22 @@ no_encapsulation _ = refl
 abbrev pub placed : Scope → TypeExpr → List ℕ → TypeRead
 placed s e rest = ((place s e).0, (place s e).1, rest)
 
--- a type whose first word opens no other
-leaf_first : (left : ℕ) (s : Scope) (text w rest : List ℕ) → word_at text ≡ Ok (w, rest)
+-- a type whose first word begins no type with another one in it
+leaf_first : (left : ℕ) (element : Bool) (s : Scope) (text w rest : List ℕ)
+    → word_at text ≡ Ok (w, rest)
     → bytes_eq w (codes "sequence") ≡ false → bytes_eq w (codes "encapsulation") ≡ false
-    → nested_at (suc left) s text ≡ leaf_after s text w rest (base_of w)
+    → nested_at (suc left) element s text ≡ leaf_after element s text w rest (base_of w)
 unfolding nested_at opener_at leaf_at
-leaf_first left s text w rest e p q = rw (e) (rw (p, q) (rw (e) refl))
+leaf_first left element s text w rest e p q = rw (e) (rw (p, q) (rw (e) refl))
 
-base_reads : (left : ℕ) (s : Scope) (p : Primitive) (text : List ℕ) (more : List Token)
-    → AreTokens text (word (base_word p) ∷ more)
-    → Out (placed s (Base p)) (λ k. OfType k s.names (Base p))
-    (place s (Base p)).0.table.types more (nested_at (suc left) s text)
+base_reads : (left : ℕ) (element : Bool) (s : Scope) (p : Primitive) (text : List ℕ)
+    (more : List Token) → AreTokens text (word (base_word p) ∷ more)
+    → Out (placed s (Base p)) (λ k. OfType k element s.names (Base p))
+    (place s (Base p)).0.table.types more (nested_at (suc left) element s text)
 unfolding OfType place
-base_reads left s p text more h =
+base_reads left element s p text more h =
     rw (
-      leaf_first left s text (base_word p) h.0 (word_again text (base_word p) more h)
+      leaf_first left element s text (base_word p) h.0 (word_again text (base_word p) more h)
           (no_sequence p) (no_encapsulation p),
       base_word_of p,
     ) (good h.0 h.2 (λ k. tt))
@@ -87,12 +89,12 @@ text_more : (s : Scope) (o : Option ℕ) → Grown s (add_text_type s o).0
 text_more s None = within_same
 text_more s (Some n) = search (arith, node_more)
 
-text_reads : (s : Scope) (o : Option ℕ) (rest : List ℕ) (more : List Token)
+text_reads : (element : Bool) (s : Scope) (o : Option ℕ) (rest : List ℕ) (more : List Token)
     → Apart marks.OpenAngle more → AreTokens rest (spell_bound o more)
-    → Out (placed s (Text o)) (λ k. OfType k s.names (Text o))
+    → Out (placed s (Text o)) (λ k. OfType k element s.names (Text o))
     (place s (Text o)).0.table.types more (text_at s rest)
 unfolding text_at OfType place
-text_reads s o rest more apart h =
+text_reads element s o rest more apart h =
     out_bind (enclosed_at marks.OpenAngle marks.CloseAngle rest)
     (λ b. Ok (read_as (add_text_type s b.0) b.1))
     (enclosed_reads s.table.types marks.OpenAngle marks.CloseAngle rest o more apart h)
@@ -102,59 +104,82 @@ pub third_keeps : (names : Names) → is_third names ≡ true → (k : Kind) →
 third_keeps names third kinds.Syntax = third
 third_keeps names third _ = tt
 
-wide_text_reads : (s : Scope) (o : Option ℕ) (rest : List ℕ) (more : List Token)
+wide_text_reads : (element : Bool) (s : Scope) (o : Option ℕ) (rest : List ℕ) (more : List Token)
     → is_third s.names ≡ true → Apart marks.OpenAngle more → AreTokens rest (spell_bound o more)
-    → Out (placed s (WideText o)) (λ k. OfType k s.names (WideText o))
+    → Out (placed s (WideText o)) (λ k. OfType k element s.names (WideText o))
     (place s (WideText o)).0.table.types more (wide_text_at s rest)
 unfolding wide_text_at OfType place
-wide_text_reads s o rest more third apart h =
+wide_text_reads element s o rest more third apart h =
     out_bind {Y = TypeRead} (enclosed_at marks.OpenAngle marks.CloseAngle rest)
     (λ b. Ok (s, WIDE_STRING, b.1))
     (enclosed_reads s.table.types marks.OpenAngle marks.CloseAngle rest o more apart h)
     (λ r m keeps. good r m (λ k. (third_keeps s.names third k, keeps k))) (λ k w. w.1) within_same
 
-named_keeps : (names : Names) (w : List ℕ) (i : ℕ) → IsFree (is_third names) w → length w ≤ 64
-    → named names w ≡ Some i → (k : Kind) → OfTypeName k names w
-named_keeps names w i free short is kinds.Syntax = free
-named_keeps names w i free short is kinds.UnknownType = (i, is)
-named_keeps names w i free short is kinds.Limit = short
-named_keeps names w i free short is _ = tt
+named_keeps : (element : Bool) (names : Names) (w : List ℕ) (i : ℕ) → IsFree (is_third names) w
+    → length w ≤ 64 → type_named element names w ≡ Some i → (k : Kind)
+    → OfTypeName k element names w
+named_keeps element names w i free short is kinds.Syntax = free
+named_keeps element names w i free short is kinds.UnknownType = (i, is)
+named_keeps element names w i free short is kinds.Limit = short
+named_keeps element names w i free short is _ = tt
 
-not_found : (names : Names) (w : List ℕ) → named names w ≡ None
-    → (i : ℕ) × (named names w ≡ Some i) → ⊥
-not_found names w e h = search (arith)
+not_found : (element : Bool) (names : Names) (w : List ℕ) → type_named element names w ≡ None
+    → (i : ℕ) × (type_named element names w ≡ Some i) → ⊥
+not_found element names w e h = search (arith)
 
-found_reads : (s : Scope) (text w rest : List ℕ) (more : List Token) (o : Option ℕ)
-    → named s.names w ≡ o → IsFree (is_third s.names) w → length w ≤ 64 → AreTokens rest more
-    → Out {X = TypeRead} (λ rest. (s, number_or o, rest)) (λ k. OfTypeName k s.names w)
+-- the same type is found if names that are only announced may be found, too
+found_same : (element : Bool) (o : Option ℕ) (a : Option Announced) (i : ℕ)
+    → or_announced element o a ≡ Some i → number_or (or_announced true o a) ≡ i
+found_same element (Some n) a i e = some_is n i e
+found_same true None (Some a) i e = some_is a.type i e
+found_same true None None i e = absurd cc
+found_same false None a i e = absurd cc
+
+abbrev found_number : Scope → List ℕ → List ℕ → TypeRead
+found_number s w rest = (s, number_or (type_named true s.names w), rest)
+
+found_reads : (element : Bool) (s : Scope) (text w rest : List ℕ) (more : List Token)
+    (o : Option ℕ) → type_named element s.names w ≡ o → IsFree (is_third s.names) w
+    → length w ≤ 64 → AreTokens rest more
+    → Out (found_number s w) (λ k. OfTypeName k element s.names w)
     s.table.types more (found_type s text rest o)
-found_reads s text w rest more None e free short m = search (arith, broken, not_found)
-found_reads s text w rest more (Some i) e free short m = search (arith, good, named_keeps)
+found_reads element s text w rest more None e free short m =
+    broken (refused kinds.UnknownType text) (not_found element s.names w e)
+found_reads element s text w rest more (Some i) e free short m =
+    subst (λ n. Out (found_number s w) (λ k. OfTypeName k element s.names w) s.table.types more
+    (Ok (s, n, rest)))
+    (found_same element (named s.names w) (announced_as s.names w) i e)
+    (good rest m (named_keeps element s.names w i free short e))
 
-long_reads : (s : Scope) (text w rest : List ℕ) (more : List Token) (v : Bool)
+long_reads : (element : Bool) (s : Scope) (text w rest : List ℕ) (more : List Token) (v : Bool)
     → ltb 64 (length w) ≡ v → IsFree (is_third s.names) w → AreTokens rest more
-    → Out {X = TypeRead} (λ rest. (s, number_or (named s.names w), rest))
-    (λ k. OfTypeName k s.names w) s.table.types more
-    (cond v (Err (refused kinds.Limit text)) (found_type s text rest (named s.names w)))
-long_reads s text w rest more true e free m = search (arith, broken, ltb-true)
-long_reads s text w rest more false e free m = search (arith, found_reads, ltb-false)
+    → Out (found_number s w) (λ k. OfTypeName k element s.names w) s.table.types more
+    (cond v (Err (refused kinds.Limit text))
+    (found_type s text rest (type_named element s.names w)))
+long_reads element s text w rest more true e free m =
+    let long = ltb-true 64 (length w) e in
+    broken (refused kinds.Limit text) (inl (λ short. absurd (omega (arith, long, short))))
+long_reads element s text w rest more false e free m =
+    found_reads element s text w rest more (type_named element s.names w) refl free
+    (ltb-false 64 (length w) e) m
 
-named_reads : (s : Scope) (text w rest : List ℕ) (more : List Token)
+named_reads : (element : Bool) (s : Scope) (text w rest : List ℕ) (more : List Token)
     → IsFree (is_third s.names) w → AreTokens rest more
-    → Out (placed s (Named w)) (λ k. OfType k s.names (Named w)) (place s (Named w)).0.table.types
-    more (named_type s text w rest)
+    → Out (placed s (Named w)) (λ k. OfType k element s.names (Named w))
+    (place s (Named w)).0.table.types more (named_type element s text w rest)
 unfolding named_type OfType place
-named_reads s text w rest more free m = search (arith, long_reads, ltb)
+named_reads element s text w rest more free m =
+    rw free (long_reads element s text w rest more (ltb 64 (length w)) refl free m)
 
-name_reads : (left : ℕ) (s : Scope) (w text : List ℕ) (more : List Token)
+name_reads : (left : ℕ) (element : Bool) (s : Scope) (w text : List ℕ) (more : List Token)
     → IsFree (is_third s.names) w → AreTokens text (word w ∷ more)
-    → Out (placed s (Named w)) (λ k. OfType k s.names (Named w))
-    (place s (Named w)).0.table.types more (nested_at (suc left) s text)
+    → Out (placed s (Named w)) (λ k. OfType k element s.names (Named w))
+    (place s (Named w)).0.table.types more (nested_at (suc left) element s text)
 unfolding is_reserved
-name_reads left s w text more free h =
+name_reads left element s w text more free h =
     let third = is_third s.names in
     rw (
-      leaf_first left s text w h.0 (word_again text w more h)
+      leaf_first left element s text w h.0 (word_again text w more h)
           (is_not third w (codes "sequence") free refl)
           (is_not third w (codes "encapsulation") free refl),
       no_base third w free,
@@ -164,36 +189,38 @@ name_reads left s w text more free h =
       no_later third w (codes "TypeCode") free refl,
       no_later third w (codes "wchar") free refl,
       no_later third w (codes "wstring") free refl,
-    ) (named_reads s text w h.0 more free h.2)
+    ) (named_reads element s text w h.0 more free h.2)
 
--- what closes a sequence, after its element
-closed_reads : (s : Scope) (e : TypeExpr) (o : Option ℕ) (rest : List ℕ)
+-- what closes a sequence, after the type of its elements
+closed_reads : (element : Bool) (s : Scope) (e : TypeExpr) (o : Option ℕ) (rest : List ℕ)
     (more : List Token) → AreTokens rest (spell_most o (mark marks.CloseAngle ∷ more))
-    → ((k : Kind) → OfType k s.names e) → (apart : Apart marks.Comma (mark marks.CloseAngle ∷ more))
-    → Out (placed s (SequenceOf e o)) (λ k. OfType k s.names (SequenceOf e o))
+    → ((k : Kind) → OfType k true s.names e)
+    → (apart : Apart marks.Comma (mark marks.CloseAngle ∷ more))
+    → Out (placed s (SequenceOf e o)) (λ k. OfType k element s.names (SequenceOf e o))
     (place s (SequenceOf e o)).0.table.types more (closed_by openers.Sequence (placed s e rest))
 unfolding OfType place closed_by
-closed_reads s e o rest more m keeps apart =
+closed_reads element s e o rest more m keeps apart =
     out_bind (most_at rest) (λ b. mark_at marks.CloseAngle b.1 >>= λ r.
     Ok (read_as (add_sequence_type b.0 (place s e)) r))
     (most_reads (place s e).0.table.types rest o (mark marks.CloseAngle ∷ more) apart m)
     (λ r n bound. rw (mark_again marks.CloseAngle r more n)
     (good n.0 n.2 (λ k. (keeps k, bound k))))
-    (λ k w. w.1) (node_more (place s e).0 (sequence_node o (place s e).1))
+    (λ k w. w.1) (node_more (place s e).0
+    (sequence_node ((place s e).0).table.types o (place s e).1))
 
 version_keeps : (names : Names) → has_encapsulations names ≡ true → (k : Kind) → OfVersion k names
 version_keeps names has kinds.Syntax = has
 version_keeps names has _ = tt
 
--- what closes an encapsulation, after what it holds
-held_reads : (s : Scope) (e : TypeExpr) (rest : List ℕ) (more : List Token)
+-- what closes an encapsulation, after the type in it
+held_reads : (element : Bool) (s : Scope) (e : TypeExpr) (rest : List ℕ) (more : List Token)
     → has_encapsulations s.names ≡ true → AreTokens rest (mark marks.CloseAngle ∷ more)
-    → ((k : Kind) → OfType k s.names e)
-    → Out (placed s (EncapsulationOf e)) (λ k. OfType k s.names (EncapsulationOf e))
+    → ((k : Kind) → OfType k false s.names e)
+    → Out (placed s (EncapsulationOf e)) (λ k. OfType k element s.names (EncapsulationOf e))
     (place s (EncapsulationOf e)).0.table.types more
     (closed_by openers.Encapsulation (placed s e rest))
 unfolding OfType place closed_by
-held_reads s e rest more has m keeps =
+held_reads element s e rest more has m keeps =
     rw (mark_again marks.CloseAngle rest more m)
     (good m.0 m.2 (λ k. (version_keeps s.names has k, keeps k)))
 
@@ -223,79 +250,81 @@ nest_few (SequenceOf e bound) more =
 nest_few (EncapsulationOf e) more = omega (arith, nest_few e (mark marks.CloseAngle ∷ more))
 nest_few _ more = omega arith
 
-nested_reads : (left : ℕ) (s : Scope) (e : TypeExpr) (text : List ℕ) (more : List Token)
-    → nest e < left → OfType kinds.Syntax s.names e → Apart marks.OpenAngle more
+nested_reads : (left : ℕ) (element : Bool) (s : Scope) (e : TypeExpr) (text : List ℕ)
+    (more : List Token)
+    → nest e < left → OfType kinds.Syntax element s.names e → Apart marks.OpenAngle more
     → AreTokens text (spell_type e more)
-    → Out (placed s e) (λ k. OfType k s.names e) (place s e).0.table.types more
-    (nested_at left s text)
+    → Out (placed s e) (λ k. OfType k element s.names e) (place s e).0.table.types more
+    (nested_at left element s text)
 unfolding nested_at opener_at leaf_at OfType place
-nested_reads zero s e text more lt free apart h = absurd (omega arith)
-nested_reads (suc left) s (Base p) text more lt free apart h = base_reads left s p text more h
-nested_reads (suc left) s (Text o) text more lt free apart h =
-    rw (leaf_first left s text (codes "string") h.0
+nested_reads zero element s e text more lt free apart h = absurd (omega arith)
+nested_reads (suc left) element s (Base p) text more lt free apart h =
+    base_reads left element s p text more h
+nested_reads (suc left) element s (Text o) text more lt free apart h =
+    rw (leaf_first left element s text (codes "string") h.0
     (word_again text (codes "string") (spell_bound o more) h) refl refl)
-    (text_reads s o h.0 more apart h.2)
-nested_reads (suc left) s Reference text more lt free apart h =
-    rw (leaf_first left s text (codes "Object") h.0
+    (text_reads element s o h.0 more apart h.2)
+nested_reads (suc left) element s Reference text more lt free apart h =
+    rw (leaf_first left element s text (codes "Object") h.0
     (word_again text (codes "Object") more h) refl refl)
     (good h.0 h.2 (λ k. tt))
-nested_reads (suc left) s AnyType text more lt free apart h =
+nested_reads (suc left) element s AnyType text more lt free apart h =
     rw (
-      leaf_first left s text (codes "any") h.0
+      leaf_first left element s text (codes "any") h.0
           (word_again text (codes "any") more h) refl refl,
       free,
     )
     (good h.0 h.2 (λ k. third_keeps s.names free k))
-nested_reads (suc left) s CodeType text more lt free apart h =
+nested_reads (suc left) element s CodeType text more lt free apart h =
     rw (
-      leaf_first left s text (codes "TypeCode") h.0
+      leaf_first left element s text (codes "TypeCode") h.0
           (word_again text (codes "TypeCode") more h) refl refl,
       free,
     )
     (good h.0 h.2 (λ k. third_keeps s.names free k))
-nested_reads (suc left) s WideChar text more lt free apart h =
+nested_reads (suc left) element s WideChar text more lt free apart h =
     rw (
-      leaf_first left s text (codes "wchar") h.0
+      leaf_first left element s text (codes "wchar") h.0
           (word_again text (codes "wchar") more h) refl refl,
       free,
     )
     (good h.0 h.2 (λ k. third_keeps s.names free k))
-nested_reads (suc left) s (WideText o) text more lt free apart h =
+nested_reads (suc left) element s (WideText o) text more lt free apart h =
     rw (
-      leaf_first left s text (codes "wstring") h.0
+      leaf_first left element s text (codes "wstring") h.0
           (word_again text (codes "wstring") (spell_bound o more) h) refl refl,
       free.0,
     )
-    (wide_text_reads s o h.0 more free.0 apart h.2)
-nested_reads (suc left) s (Named w) text more lt free apart h =
-    name_reads left s w text more free h
-nested_reads (suc left) s (SequenceOf e o) text more lt free apart h =
+    (wide_text_reads element s o h.0 more free.0 apart h.2)
+nested_reads (suc left) element s (Named w) text more lt free apart h =
+    name_reads left element s w text more free h
+nested_reads (suc left) element s (SequenceOf e o) text more lt free apart h =
     let tail = spell_most o (mark marks.CloseAngle ∷ more) in
     rw (
       word_again text (codes "sequence") (mark marks.OpenAngle ∷ spell_type e tail) h,
       mark_again marks.OpenAngle h.0 (spell_type e tail) h.2,
     )
-    (out_bind (nested_at left s (h.2).0) (closed_by openers.Sequence)
-    (nested_reads left s e (h.2).0 tail (omega arith) free.0 (most_apart o more) (h.2).2)
-    (λ rest m keeps. closed_reads s e o rest more m keeps refl) (λ k w. w.0)
+    (out_bind (nested_at left true s (h.2).0) (closed_by openers.Sequence)
+    (nested_reads left true s e (h.2).0 tail (omega arith) free.0 (most_apart o more) (h.2).2)
+    (λ rest m keeps. closed_reads element s e o rest more m keeps refl) (λ k w. w.0)
     (sequence_more s e o))
-nested_reads (suc left) s (EncapsulationOf e) text more lt free apart h =
+nested_reads (suc left) element s (EncapsulationOf e) text more lt free apart h =
     let tail = mark marks.CloseAngle ∷ more in
     rw (
       word_again text (codes "encapsulation") (mark marks.OpenAngle ∷ spell_type e tail) h,
       free.0,
       mark_again marks.OpenAngle h.0 (spell_type e tail) h.2,
     )
-    (out_bind (nested_at left s (h.2).0) (closed_by openers.Encapsulation)
-    (nested_reads left s e (h.2).0 tail (omega arith) free.1 refl (h.2).2)
-    (λ rest m keeps. held_reads s e rest more free.0 m keeps) (λ k w. w.1) (held_more s e))
+    (out_bind (nested_at left false s (h.2).0) (closed_by openers.Encapsulation)
+    (nested_reads left false s e (h.2).0 tail (omega arith) free.1 refl (h.2).2)
+    (λ rest m keeps. held_reads element s e rest more free.0 m keeps) (λ k w. w.1) (held_more s e))
 
--- what reading gives of a text that begins with a type
+-- what reading gives for a text that begins with a type
 pub type_reads : (s : Scope) (e : TypeExpr) (text : List ℕ) (more : List Token)
-    → OfType kinds.Syntax s.names e → Apart marks.OpenAngle more
+    → OfType kinds.Syntax false s.names e → Apart marks.OpenAngle more
     → AreTokens text (spell_type e more)
-    → Out (placed s e) (λ k. OfType k s.names e) (place s e).0.table.types
+    → Out (placed s e) (λ k. OfType k false s.names e) (place s e).0.table.types
     more (type_at s text)
 type_reads s e text more free apart h =
-    nested_reads (length text) s e text more
+    nested_reads (length text) false s e text more
     (omega (arith, nest_few e more, tokens_few (spell_type e more) text h)) free apart h

@@ -1,5 +1,5 @@
--- A type that was read: the text that was read spells it, and it can be a part of others.
-use Rattle.std.proofs.Common.{◌≡◌, ℕ, zero, suc, ◌<◌, Bool, true, false, cond, ◌&&◌, eqb, ltb, List, [], ◌∷◌, ◌++◌, length, Option, Some, None, Result, Ok, Err, append_assoc, refl, sym, subst, lit<, arith}
+-- A type that was read: the text that was read spells it, and other types may have it as a part.
+use Rattle.std.proofs.Common.{◌≡◌, ℕ, zero, suc, ◌<◌, Bool, true, false, cond, ◌&&◌, eqb, ltb, List, [], ◌∷◌, ◌++◌, length, Option, Some, None, Result, Ok, Err, append_assoc, refl, sym, subst, ◌∙◌, inl, inr, lit<, arith}
 use Rattle.std.specs.Prelude.{codes}
 use Rattle.std.specs.List.{AllByRecursion}
 use Rattle.std.specs.Map.{lookup}
@@ -9,6 +9,7 @@ use Rattle.std.proofs.Math.Seq.{get_or-append_seam}
 use Rattle.std.proofs.lemmas.Slice.Eq.{bytes_eq-Decides}
 use Rattle.giop_cdr.specs.declared.prim.Primitive.{Primitive}
 use Rattle.giop_cdr.specs.declared.prim.Primitive.TheVariants as prims
+use Rattle.giop_cdr.specs.declared.prim.Primitive.TheVariants.{Octet}
 use Rattle.giop_tokens.specs.declared.fault.Refusal.{Refusal}
 use Rattle.giop_tokens.specs.declared.fault.SigFaultKind.TheVariants as kinds
 use Rattle.giop_tokens.specs.declared.marks.Mark.TheVariants as marks
@@ -25,11 +26,11 @@ use Rattle.giop_sig.specs.RequestList.{flat}
 use Rattle.giop_sig.specs.Grammar.{TypeExpr, Base, Text, Reference, AnyType, CodeType, WideChar, WideText, Named, SequenceOf, EncapsulationOf, base_word, spell_most, spell_type}
 use Rattle.giop_sig.specs.declared.read_types.Opener.{Opener}
 use Rattle.giop_sig.specs.declared.read_types.Opener.TheVariants as openers
-use Rattle.giop_sig.specs.Scopes.{Names, has_encapsulations, is_third, Scope, AddedType, named, base_number, with_node, sequence_node, add_text_type, add_sequence_type, add_encapsulation_type, reference_number}
+use Rattle.giop_sig.specs.Scopes.{Names, Announced, announced_as, announced_place, or_announced, sequence_by, type_named, has_encapsulations, is_third, Scope, AddedType, named, base_number, with_node, sequence_node, add_text_type, add_sequence_type, add_encapsulation_type, reference_number}
 use Rattle.giop_sig.specs.Validity.{OfType}
-use Rattle.giop_sig.specs.ScopeViews.{IsKnown, IsDeclaredName, IsScope}
+use Rattle.giop_sig.specs.ScopeViews.{CanStand, IsAnnounced, IsAnnouncedName, IsKnown, IsDeclaredName, IsScope}
 use Rattle.giop_sig.specs.Outcomes.{refused}
-use Rattle.giop_sig.specs.TypeReading.{TypeRead, most_at, base_of, read_as, text_at, wide_text_at, closed_by, found_type, named_type, is_later, leaf_after, leaf_at, Opened, opened_by, opener_after, opener_at, type_after, nested_at, type_at}
+use Rattle.giop_sig.specs.TypeReading.{TypeRead, most_at, base_of, read_as, text_at, wide_text_at, closed_by, opens_element, found_type, named_type, is_later, leaf_after, leaf_at, Opened, opened_by, opener_after, opener_at, type_after, nested_at, type_at}
 use Rattle.giop_sig.proofs.Builtins.{first_known, first_leaf, first_takes, first_third}
 use Rattle.giop_sig.proofs.SizeTaken.{enclosed_takes, most_takes, bound_free}
 use Rattle.giop_sig.proofs.ScopeLaws.{known_stays, scope_grows}
@@ -62,17 +63,27 @@ grows_known s t i g is = subst (λ ns. IsKnown ns i) (sym (g.types).1)
 pub node_grows : (s : Scope) (n : Node) → Grows s (with_node s n).0
 node_grows s n = search (arith)
 
--- a node that was added can be a part
+-- a node that was added may be a part
 pub node_known : (s : Scope) (n : Node) → TakesOctet n
     → IsKnown (with_node s n).0.table.types (with_node s n).1
 node_known s n takes = search (arith, length-append, get_or-append_seam)
 
--- a scope after a type, whose number can be a part's
+-- the scope after a type, whose number may be that of a part
 pub record Sound (p : AddedType) : Type 0 where
   pub scope : IsScope p.0
   pub known : IsKnown (p.0).table.types p.1
 
--- one node more keeps this
+-- the same for a type that may be in another one, perhaps as that of a sequence's elements
+pub record SoundIn (element : Bool) (p : AddedType) : Type 0 where
+  pub scope : IsScope p.0
+  pub stands : CanStand element (p.0).table.version (p.0).table.types p.1
+
+pub known_stands : (element : Bool) (version : ℕ) (types : List Node) (i : ℕ) → IsKnown types i
+    → CanStand element version types i
+known_stands true version types i known = inl known
+known_stands false version types i known = known
+
+-- this is still true after one more node
 pub sound_node : (s : Scope) (n : Node) → IsScope s → TakesOctet n → Sound (with_node s n)
 sound_node s n is takes = search (arith, scope_grows, node_known)
 
@@ -80,9 +91,44 @@ sound_node s n is takes = search (arith, scope_grows, node_known)
 
 pub record TakenType (s : Scope) (text : List ℕ) (x : TypeRead) : Type 0 where
   pub expr : TypeExpr
-  pub took : Took (spell_type expr) (OfType kinds.Syntax s.names expr) text x.2
+  pub took : Took (spell_type expr) (OfType kinds.Syntax false s.names expr) text x.2
   pub grows : Grows s x.0
   pub sound : IsScope s → Sound (x.0, x.1)
+
+-- a type that was read, perhaps as that of a sequence's elements
+pub record TakenIn (element : Bool) (s : Scope) (text : List ℕ) (x : TypeRead) : Type 0 where
+  pub expr : TypeExpr
+  pub took : Took (spell_type expr) (OfType kinds.Syntax element s.names expr) text x.2
+  pub grows : Grows s x.0
+  pub sound : IsScope s → SoundIn element (x.0, x.1)
+
+free_in : (element : Bool) (names : Names) (e : TypeExpr) → OfType kinds.Syntax false names e
+    → OfType kinds.Syntax element names e
+unfolding OfType
+free_in element names (Base p) free = free
+free_in element names _ free = free
+
+taken_in : (element : Bool) (s : Scope) (text : List ℕ) (x : TypeRead) → TakenType s text x
+    → TakenIn element s text x
+taken_in element s text x t = record {
+  expr = t.expr;
+  took = record { free = free_in element s.names t.expr t.took.free; front = t.took.front };
+  grows = t.grows;
+  sound = λ is.
+      let h = t.sound is in record {
+        scope = h.scope;
+        stands = known_stands element (x.0).table.version (x.0).table.types x.1 h.known;
+      };
+}
+
+taken_type : (s : Scope) (text : List ℕ) (x : TypeRead) → TakenIn false s text x
+    → TakenType s text x
+taken_type s text x t = record {
+  expr = t.expr;
+  took = t.took;
+  grows = t.grows;
+  sound = λ is. let h = t.sound is in record { scope = h.scope; known = h.stands };
+}
 
 known_after : (types more : List Node) (version k : ℕ) → types ≡ first_types version ++ more
     → IsKnown (first_types version) k → IsKnown types k
@@ -105,7 +151,7 @@ third_known : (s : Scope) (k : ℕ) → IsScope s → is_third s.names ≡ true 
     → Sound (s, k)
 third_known s k is third lt = same_known s k is (first_third s.names.version k third lt)
 
-base_sound : (s : Scope) (p : Primitive) → IsScope s → Sound (s, base_number p)
+pub base_sound : (s : Scope) (p : Primitive) → IsScope s → Sound (s, base_number p)
 base_sound s prims.Octet is = leaf_known s 0 is (lit< tt)
 base_sound s prims.Char is = leaf_known s 1 is (lit< tt)
 base_sound s prims.Boolean is = leaf_known s 2 is (lit< tt)
@@ -178,7 +224,10 @@ text_took s text w rest x t same e =
       sound = λ is. text_type_sound s (b.0).0 is;
     })
 
--- a name that was found is a type's
+pub some_is : {X : Type 0} (x y : X) → Some x ≡ Some y → x ≡ y
+some_is x y e = cc
+
+-- a name that was found is that of a type
 found_known : (types : List Node) (names : List (List ℕ × Option ℕ)) (w : List ℕ) (k : ℕ) (v : Bool)
     (e : List ℕ × Option ℕ) → bytes_eq w e.0 ≡ v → IsDeclaredName types e
     → (flat (lookup (bytes_eq w) names) ≡ Some k → IsKnown types k)
@@ -186,51 +235,91 @@ found_known : (types : List Node) (names : List (List ℕ × Option ℕ)) (w : L
 found_known types names w k true e same is rest h = search (arith)
 found_known types names w k false e same is rest h = rest h
 
-named_known : (types : List Node) (names : List (List ℕ × Option ℕ)) (w : List ℕ) (k : ℕ)
+pub named_known : (types : List Node) (names : List (List ℕ × Option ℕ)) (w : List ℕ) (k : ℕ)
     → AllByRecursion (IsDeclaredName types) names
     → flat (lookup (bytes_eq w) names) ≡ Some k → IsKnown types k
 named_known types [] w k all h = absurd cc
 named_known types (e ∷ es) w k all h = found_known types es w k (bytes_eq w e.0) e refl all.0
     (named_known types es w k all.1) h
 
-found_by : (s : Scope) (text w rest : List ℕ) (x : TypeRead) (o : Option ℕ) → named s.names w ≡ o
+-- a name that was found is announced
+announced_by : (version : ℕ) (types : List Node) (xs : List (List ℕ × Announced)) (w : List ℕ)
+    (a : Announced) (v : Bool) (e : List ℕ × Announced) → IsAnnounced version types e.1.type
+    → (lookup (bytes_eq w) xs ≡ Some a → IsAnnounced version types a.type)
+    → cond v (Some e.1) (lookup (bytes_eq w) xs) ≡ Some a → IsAnnounced version types a.type
+announced_by version types xs w a true e is rest h =
+    subst (λ (b : Announced). IsAnnounced version types b.type) (some_one e.1 a h) is
+  where
+    some_one : (b c : Announced) → Some b ≡ Some c → b ≡ c
+    some_one b c h = cc
+announced_by version types xs w a false e is rest h = rest h
+
+announced_known : (version : ℕ) (types : List Node) (xs : List (List ℕ × Announced)) (w : List ℕ)
+    (a : Announced) → AllByRecursion (IsAnnouncedName version types) xs
+    → lookup (bytes_eq w) xs ≡ Some a → IsAnnounced version types a.type
+announced_known version types [] w a all h = absurd cc
+announced_known version types (e ∷ es) w a all h =
+    announced_by version types es w a (bytes_eq w e.0) e all.0
+    (announced_known version types es w a all.1) h
+
+stands_by : (element : Bool) (s : Scope) (w : List ℕ) (k : ℕ) (o : Option ℕ)
+    (a : Option Announced) → IsScope s → named s.names w ≡ o → announced_as s.names w ≡ a
+    → or_announced element o a ≡ Some k → CanStand element s.table.version s.table.types k
+stands_by element s w k (Some n) a is p q e =
+    known_stands element s.table.version s.table.types k
+    (named_known s.table.types s.names.known w k is.names (p ∙ e))
+stands_by true s w k None (Some a) is p q e =
+    let same : a.type ≡ k = some_is a.type k e in
+    inr (subst (IsAnnounced s.table.version s.table.types) same
+    (announced_known s.table.version s.table.types s.names.announced w a is.announced q))
+stands_by true s w k None None is p q e = absurd cc
+stands_by false s w k None a is p q e = absurd cc
+
+found_by : (element : Bool) (s : Scope) (text w rest : List ℕ) (x : TypeRead) (o : Option ℕ)
+    → type_named element s.names w ≡ o
     → is_reserved (is_third s.names) w ≡ false → Takes text (word w) rest
-    → found_type s text rest o ≡ Ok x → TakenType s text x
+    → found_type s text rest o ≡ Ok x → TakenIn element s text x
 unfolding OfType
-found_by s text w rest x None o free t e = absurd cc
-found_by s text w rest x (Some n) o free t e =
-    subst (TakenType s text) (ok_is (s, n, rest) x e) (record {
+found_by element s text w rest x None o free t e = absurd cc
+found_by element s text w rest x (Some n) o free t e =
+    subst (TakenIn element s text) (ok_is (s, n, rest) x e) (record {
       expr = Named w;
       took = record { free = free; front = t };
       grows = grows_none s;
-      sound = λ is.
-          record { scope = is; known = named_known s.table.types s.names.known w n is.names o };
+      sound = λ is. record {
+        scope = is;
+        stands = stands_by element s w n (named s.names w) (announced_as s.names w) is refl refl
+            o;
+      };
     })
 
-named_by : (s : Scope) (text w rest : List ℕ) (x : TypeRead) (a b : Bool)
+named_by : (element : Bool) (s : Scope) (text w rest : List ℕ) (x : TypeRead) (a b : Bool)
     → is_reserved (is_third s.names) w ≡ a
     → Takes text (word w) rest → cond a (Err (misplaced text))
-    (cond b (Err (refused kinds.Limit text)) (found_type s text rest (named s.names w)))
-    ≡ Ok x → TakenType s text x
-named_by s text w rest x true b free t e = absurd cc
-named_by s text w rest x false true free t e = absurd cc
-named_by s text w rest x false false free t e = search (arith, found_by)
+    (cond b (Err (refused kinds.Limit text)) (found_type s text rest
+    (type_named element s.names w)))
+    ≡ Ok x → TakenIn element s text x
+named_by element s text w rest x true b free t e = absurd cc
+named_by element s text w rest x false true free t e = absurd cc
+named_by element s text w rest x false false free t e =
+    found_by element s text w rest x (type_named element s.names w) refl free t e
 
-named_took : (s : Scope) (text w rest : List ℕ) (x : TypeRead) → Takes text (word w) rest
-    → named_type s text w rest ≡ Ok x → TakenType s text x
+named_took : (element : Bool) (s : Scope) (text w rest : List ℕ) (x : TypeRead)
+    → Takes text (word w) rest → named_type element s text w rest ≡ Ok x → TakenIn element s text x
 unfolding named_type
-named_took s text w rest x t e = search (arith, named_by, ltb)
+named_took element s text w rest x t e =
+    named_by element s text w rest x (is_reserved (is_third s.names) w) (ltb 64 (length w)) refl t e
 
 later_is : (w v : List ℕ) (third : Bool) → (third && bytes_eq w v) ≡ true
     → (third ≡ true) × (w ≡ v)
 later_is w v true e = (refl, (bytes_eq-Decides w v).0 e)
 later_is w v false e = absurd cc
 
--- a type by a word of version 3 alone
+-- a type of a word that only version 3 has
 later_took : (s : Scope) (text w v rest : List ℕ) (k : ℕ) (expr : TypeExpr)
     → Takes text (word w) rest → is_later s w v ≡ true
     → ((more : List Token) → spell_type expr more ≡ word v ∷ more)
-    → (is_third s.names ≡ true → OfType kinds.Syntax s.names expr) → k < THIRD_LEN
+    → (is_third s.names ≡ true → OfType kinds.Syntax false s.names expr) → k < THIRD_LEN
     → TakenType s text (s, k, rest)
 later_took s text w v rest k expr t later spells free lt =
     let is = later_is w v (is_third s.names) later in
@@ -263,57 +352,64 @@ wide_text_took s text w rest x t later e =
       sound = λ h. third_known s WIDE_STRING h is.0 (lit< tt);
     })
 
-wide_by : (s : Scope) (text w rest : List ℕ) (x : TypeRead) → Takes text (word w) rest
+wide_by : (element : Bool) (s : Scope) (text w rest : List ℕ) (x : TypeRead)
+    → Takes text (word w) rest
     → (a b : Bool) → is_later s w (codes "wchar") ≡ a → is_later s w (codes "wstring") ≡ b
-    → cond a (Ok (s, WIDE_CHAR, rest)) (cond b (wide_text_at s rest) (named_type s text w rest))
-    ≡ Ok x → TakenType s text x
+    → cond a (Ok (s, WIDE_CHAR, rest))
+    (cond b (wide_text_at s rest) (named_type element s text w rest))
+    ≡ Ok x → TakenIn element s text x
 unfolding OfType
-wide_by s text w rest x t true b p q e =
-    subst (TakenType s text) (ok_is (s, WIDE_CHAR, rest) x e)
+wide_by element s text w rest x t true b p q e = taken_in element s text x
+    (subst (TakenType s text) (ok_is (s, WIDE_CHAR, rest) x e)
     (later_took s text w (codes "wchar") rest WIDE_CHAR WideChar t p (λ more. refl) (λ is. is)
-    (lit< tt))
-wide_by s text w rest x t false true p q e = wide_text_took s text w rest x t q e
-wide_by s text w rest x t false false p q e = search (arith, named_took)
+    (lit< tt)))
+wide_by element s text w rest x t false true p q e =
+    taken_in element s text x (wide_text_took s text w rest x t q e)
+wide_by element s text w rest x t false false p q e = named_took element s text w rest x t e
 
--- wide text by its word, or a type by its name
-abbrev wide_or_named : Scope → List ℕ → List ℕ → List ℕ → Result TypeRead Refusal
-wide_or_named s text w rest =
+-- wide text for its word, or the type of a name
+abbrev wide_or_named : Bool → Scope → List ℕ → List ℕ → List ℕ → Result TypeRead Refusal
+wide_or_named element s text w rest =
     cond (is_later s w (codes "wchar")) (Ok (s, WIDE_CHAR, rest))
-    (cond (is_later s w (codes "wstring")) (wide_text_at s rest) (named_type s text w rest))
+    (cond (is_later s w (codes "wstring")) (wide_text_at s rest) (named_type element s text w rest))
 
-later_by : (s : Scope) (text w rest : List ℕ) (x : TypeRead) → Takes text (word w) rest
+later_by : (element : Bool) (s : Scope) (text w rest : List ℕ) (x : TypeRead)
+    → Takes text (word w) rest
     → (a b : Bool) → is_later s w (codes "any") ≡ a → is_later s w (codes "TypeCode") ≡ b
-    → cond a (Ok (s, ANY, rest)) (cond b (Ok (s, TYPE_CODE, rest)) (wide_or_named s text w rest))
-    ≡ Ok x → TakenType s text x
+    → cond a (Ok (s, ANY, rest))
+    (cond b (Ok (s, TYPE_CODE, rest)) (wide_or_named element s text w rest))
+    ≡ Ok x → TakenIn element s text x
 unfolding OfType
-later_by s text w rest x t true b p q e =
-    subst (TakenType s text) (ok_is (s, ANY, rest) x e)
+later_by element s text w rest x t true b p q e = taken_in element s text x
+    (subst (TakenType s text) (ok_is (s, ANY, rest) x e)
     (later_took s text w (codes "any") rest ANY AnyType t p (λ more. refl) (λ is. is)
-    (lit< tt))
-later_by s text w rest x t false true p q e =
-    subst (TakenType s text) (ok_is (s, TYPE_CODE, rest) x e)
+    (lit< tt)))
+later_by element s text w rest x t false true p q e = taken_in element s text x
+    (subst (TakenType s text) (ok_is (s, TYPE_CODE, rest) x e)
     (later_took s text w (codes "TypeCode") rest TYPE_CODE CodeType t q (λ more. refl) (λ is. is)
-    (lit< tt))
-later_by s text w rest x t false false p q e =
-    wide_by s text w rest x t (is_later s w (codes "wchar")) (is_later s w (codes "wstring")) refl
-    refl e
+    (lit< tt)))
+later_by element s text w rest x t false false p q e =
+    wide_by element s text w rest x t (is_later s w (codes "wchar"))
+    (is_later s w (codes "wstring")) refl refl e
 
--- a type by a word of version 3, or by its name
-abbrev later_or_named : Scope → List ℕ → List ℕ → List ℕ → Result TypeRead Refusal
-later_or_named s text w rest =
+-- a type for a word of version 3, or for a name
+abbrev later_or_named : Bool → Scope → List ℕ → List ℕ → List ℕ → Result TypeRead Refusal
+later_or_named element s text w rest =
     cond (is_later s w (codes "any")) (Ok (s, ANY, rest))
     (cond (is_later s w (codes "TypeCode")) (Ok (s, TYPE_CODE, rest))
-    (wide_or_named s text w rest))
+    (wide_or_named element s text w rest))
 
-leaf_by : (s : Scope) (text w rest : List ℕ) (x : TypeRead) → Takes text (word w) rest
+leaf_by : (element : Bool) (s : Scope) (text w rest : List ℕ) (x : TypeRead)
+    → Takes text (word w) rest
     → (a b : Bool) → bytes_eq w (codes "string") ≡ a → bytes_eq w (codes "Object") ≡ b
     → cond a (text_at s rest)
-    (cond b (Ok (s, reference_number s.names, rest)) (later_or_named s text w rest)) ≡ Ok x
-    → TakenType s text x
+    (cond b (Ok (s, reference_number s.names, rest)) (later_or_named element s text w rest))
+    ≡ Ok x → TakenIn element s text x
 unfolding OfType
-leaf_by s text w rest x t true b p q e = search (arith, text_took, bytes_eq-Decides)
-leaf_by s text w rest x t false true p q e =
-    subst (TakenType s text) (ok_is (s, reference_number s.names, rest) x e) (record {
+leaf_by element s text w rest x t true b p q e = taken_in element s text x
+    (text_took s text w rest x t ((bytes_eq-Decides w (codes "string")).0 p) e)
+leaf_by element s text w rest x t false true p q e = taken_in element s text x
+    (subst (TakenType s text) (ok_is (s, reference_number s.names, rest) x e) (record {
       expr = Reference;
       took = record {
         free = tt;
@@ -323,37 +419,36 @@ leaf_by s text w rest x t false true p q e =
       grows = grows_none s;
       sound = λ is. same_known s (reference_number s.names) is
           (first_known s.names.version IOR (lit< tt));
-    })
-leaf_by s text w rest x t false false p q e =
-    later_by s text w rest x t (is_later s w (codes "any")) (is_later s w (codes "TypeCode")) refl
-    refl e
+    }))
+leaf_by element s text w rest x t false false p q e =
+    later_by element s text w rest x t (is_later s w (codes "any"))
+    (is_later s w (codes "TypeCode")) refl refl e
 
-leaf_took : (s : Scope) (text w rest : List ℕ) (x : TypeRead) (o : Option ℕ)
-    → Takes text (word w) rest → base_of w ≡ o → leaf_after s text w rest o ≡ Ok x
-    → TakenType s text x
-leaf_took s text w rest x (Some k) t b e =
-    subst (TakenType s text) (ok_is (s, k, rest) x e)
-    (base_took s text w rest k t (base_from w k b))
-leaf_took s text w rest x None t b e = search (arith, leaf_by)
+leaf_took : (element : Bool) (s : Scope) (text w rest : List ℕ) (x : TypeRead) (o : Option ℕ)
+    → Takes text (word w) rest → base_of w ≡ o → leaf_after element s text w rest o ≡ Ok x
+    → TakenIn element s text x
+leaf_took element s text w rest x (Some k) t b e = taken_in element s text x
+    (subst (TakenType s text) (ok_is (s, k, rest) x e)
+    (base_took s text w rest k t (base_from w k b)))
+leaf_took element s text w rest x None t b e =
+    leaf_by element s text w rest x t (bytes_eq w (codes "string")) (bytes_eq w (codes "Object"))
+    refl refl e
 
-pub leaf_takes : (s : Scope) (text : List ℕ) (x : TypeRead) → leaf_at s text ≡ Ok x
-    → TakenType s text x
+pub leaf_takes : (element : Bool) (s : Scope) (text : List ℕ) (x : TypeRead)
+    → leaf_at element s text ≡ Ok x → TakenIn element s text x
 unfolding leaf_at
-leaf_takes s text x e =
-    let w = bind_ok (word_at text) (λ w. leaf_after s text w.0 w.1 (base_of w.0)) x e in
-    leaf_took s text (w.0).0 (w.0).1 x (base_of (w.0).0) (word_takes text w.0 w.1) refl w.2
+leaf_takes element s text x e =
+    let w = bind_ok (word_at text) (λ w. leaf_after element s text w.0 w.1 (base_of w.0)) x e in
+    leaf_took element s text (w.0).0 (w.0).1 x (base_of (w.0).0) (word_takes text w.0 w.1) refl w.2
 
-some_is : {X : Type 0} (x y : X) → Some x ≡ Some y → x ≡ y
-some_is x y e = cc
+-- ---- types with others in them
 
--- ---- types around others
-
--- the word that opens a type
+-- the word that begins a type
 abbrev opener_word : Opener → List ℕ
 opener_word openers.Sequence = codes "sequence"
 opener_word openers.Encapsulation = codes "encapsulation"
 
--- only a file of its version has an encapsulation
+-- only files of version 2 or later may have an encapsulation
 abbrev IsAllowed : Names → Opener → Type 0
 IsAllowed names openers.Sequence = Unit {0}
 IsAllowed names openers.Encapsulation = has_encapsulations names ≡ true
@@ -402,13 +497,20 @@ opener_takes s text o e =
     (bytes_eq v (codes "encapsulation")) (has_encapsulations s.names) (word_takes text w.0 w.1)
     refl refl refl w.2
 
-sequence_takes_octet : (bound : Option ℕ) (n : ℕ) (v : Bool)
-    → TakesOctet (cond v (nodes.octets bound) (nodes.sequence bound n))
-sequence_takes_octet bound n true = tt
-sequence_takes_octet bound n false = tt
+sequence_takes_octet : (bound : Option ℕ) (n : ℕ) (v : Bool) (o : Option ℕ)
+    → TakesOctet (cond v (nodes.octets bound) (sequence_by bound n o))
+sequence_takes_octet bound n true o = tt
+sequence_takes_octet bound n false None = tt
+sequence_takes_octet bound n false (Some place) = tt
 
--- what was closed can be a part, too
-pub closed_sound : (o : Opener) (t x : TypeRead) → closed_by o t ≡ Ok x → Sound (t.0, t.1)
+-- a sequence takes an octet
+sequence_takes : (types : List Node) (bound : Option ℕ) (n : ℕ)
+    → TakesOctet (sequence_node types bound n)
+sequence_takes types bound n =
+    sequence_takes_octet bound n (eqb n 0) (announced_place (node_in types n))
+
+-- what was closed may be a part, too
+pub closed_sound : (o : Opener) (t x : TypeRead) → closed_by o t ≡ Ok x → IsScope t.0
     → Sound (x.0, x.1)
 unfolding closed_by
 closed_sound openers.Sequence t x e is =
@@ -418,24 +520,24 @@ closed_sound openers.Sequence t x e is =
     (λ r. Ok (read_as (add_sequence_type (b.0).0 (t.0, t.1)) r)) x b.2 in
     subst (λ (y : TypeRead). Sound (y.0, y.1))
     (ok_is (read_as (add_sequence_type (b.0).0 (t.0, t.1)) r.0) x r.2)
-    (sound_node t.0 (sequence_node (b.0).0 t.1) is.scope
-    (sequence_takes_octet (b.0).0 t.1 (eqb t.1 0)))
+    (sound_node t.0 (sequence_node (t.0).table.types (b.0).0 t.1) is
+    (sequence_takes (t.0).table.types (b.0).0 t.1))
 closed_sound openers.Encapsulation t x e is =
     let r = bind_ok (mark_at marks.CloseAngle t.2)
     (λ r. Ok (read_as (add_encapsulation_type (t.0, t.1)) r)) x e in
     subst (λ (y : TypeRead). Sound (y.0, y.1))
     (ok_is (read_as (add_encapsulation_type (t.0, t.1)) r.0) x r.2)
-    (sound_node t.0 (nodes.encapsulation t.1) is.scope tt)
+    (sound_node t.0 (nodes.encapsulation t.1) is tt)
 
 closed_took : (s : Scope) (text : List ℕ) (o : Opener) (inner : List ℕ) (t x : TypeRead)
-    → TakenOpener s text (o, inner) → TakenType s inner t → closed_by o t ≡ Ok x
+    → TakenOpener s text (o, inner) → TakenIn (opens_element o) s inner t → closed_by o t ≡ Ok x
     → TakenType s text x
 unfolding OfType closed_by
 closed_took s text openers.Sequence inner t x k u e =
     let b = bind_ok {A = Option ℕ × List ℕ} _ _ x e in
     let r = bind_ok {A = List ℕ} _ _ x b.2 in
     let bound = most_takes t.2 b.0 b.1 in
-    let node = sequence_node (b.0).0 t.1 in
+    let node = sequence_node (t.0).table.types (b.0).0 t.1 in
     subst (TakenType s text) (ok_is (read_as (add_sequence_type (b.0).0 (t.0, t.1)) r.0) x r.2)
     (record {
       expr = SequenceOf u.expr (b.0).0;
@@ -449,7 +551,7 @@ closed_took s text openers.Sequence inner t x k u e =
       };
       grows = grows_on s t.0 (with_node t.0 node).0 u.grows (node_grows t.0 node);
       sound = λ is. let h = u.sound is in sound_node t.0 node h.scope
-          (sequence_takes_octet (b.0).0 t.1 (eqb t.1 0));
+          (sequence_takes (t.0).table.types (b.0).0 t.1);
     })
 closed_took s text openers.Encapsulation inner t x k u e =
     let r = bind_ok {A = List ℕ} _ _ x e in
@@ -468,23 +570,39 @@ closed_took s text openers.Encapsulation inner t x k u e =
       sound = λ is. let h = u.sound is in sound_node t.0 node h.scope tt;
     })
 
-type_by : (inner : List ℕ → Result TypeRead Refusal) (s : Scope) (text : List ℕ)
-    (o : Option Opened) (x : TypeRead)
-    → ((text : List ℕ) (y : TypeRead) → inner text ≡ Ok y → TakenType s text y)
-    → opener_at s text ≡ Ok o → type_after inner s text o ≡ Ok x → TakenType s text x
-type_by inner s text None x takes h e = leaf_takes s text x e
-type_by inner s text (Some o) x takes h e =
-    let t = bind_ok (inner o.1) (closed_by o.0) x e in
-    closed_took s text o.0 o.1 t.0 x (opener_takes s text o h) (takes o.1 t.0 t.1) t.2
+type_by : (inner : Bool → List ℕ → Result TypeRead Refusal) (element : Bool) (s : Scope)
+    (text : List ℕ) (o : Option Opened) (x : TypeRead)
+    → ((b : Bool) (text : List ℕ) (y : TypeRead) → inner b text ≡ Ok y → TakenIn b s text y)
+    → opener_at s text ≡ Ok o → type_after inner element s text o ≡ Ok x
+    → TakenIn element s text x
+type_by inner element s text None x takes h e = leaf_takes element s text x e
+type_by inner element s text (Some o) x takes h e =
+    let t = bind_ok (inner (opens_element o.0) o.1) (closed_by o.0) x e in
+    taken_in element s text x
+    (closed_took s text o.0 o.1 t.0 x (opener_takes s text o h)
+    (takes (opens_element o.0) o.1 t.0 t.1) t.2)
 
-nested_takes : (left : ℕ) (s : Scope) (text : List ℕ) (x : TypeRead)
-    → nested_at left s text ≡ Ok x → TakenType s text x
+nested_takes : (left : ℕ) (element : Bool) (s : Scope) (text : List ℕ) (x : TypeRead)
+    → nested_at left element s text ≡ Ok x → TakenIn element s text x
 unfolding nested_at
-nested_takes zero s text x e = absurd cc
-nested_takes (suc left) s text x e =
-    let o = bind_ok (opener_at s text) (type_after (nested_at left s) s text) x e in
-    type_by (nested_at left s) s text o.0 x (λ inner y h. nested_takes left s inner y h) o.1 o.2
+nested_takes zero element s text x e = absurd cc
+nested_takes (suc left) element s text x e =
+    let inner : Bool → List ℕ → Result TypeRead Refusal = λ b. nested_at left b s in
+    let o = bind_ok (opener_at s text) (type_after inner element s text) x e in
+    type_by inner element s text o.0 x (λ b t y h. nested_takes left b s t y h) o.1 o.2
 
 pub type_takes : (s : Scope) (text : List ℕ) (x : TypeRead) → type_at s text ≡ Ok x
     → TakenType s text x
-type_takes s text x e = nested_takes (length text) s text x e
+type_takes s text x e = taken_type s text x (nested_takes (length text) false s text x e)
+
+-- ---- what the code requires of a sequence's elements
+
+-- a node that stands for an announcement
+pub node_announced : (s : Scope) (place : ℕ) → s.table.version ≡ 3
+    → IsAnnounced (with_node s (nodes.announced place)).0.table.version
+    (with_node s (nodes.announced place)).0.table.types (with_node s (nodes.announced place)).1
+node_announced s place third = record {
+  third = third;
+  below = omega (arith, length-append s.table.types (nodes.announced place ∷ []));
+  is = (place, get_or-append_seam s.table.types (nodes.announced place) [] (nodes.prim Octet));
+}

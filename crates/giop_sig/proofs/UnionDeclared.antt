@@ -1,12 +1,13 @@
 -- A union that was read: the code may add it to the table, and the text that was read spells its
 -- declaration.
-use Rattle.std.proofs.Common.{◌≡◌, ℕ, ◌+◌, Bool, true, false, cond, List, [], ◌∷◌, length, Ok, Err, sym, ap, subst, ◌∙◌, arith}
+use Rattle.std.proofs.Common.{◌≡◌, ℕ, ◌+◌, Bool, true, false, cond, List, [], ◌∷◌, length, Some, Ok, Err, sym, ap, subst, ◌∙◌, arith}
 use Rattle.std.specs.Prelude.{codes}
 use Rattle.std.proofs.lemmas.List.{length-append}
 use Rattle.giop_tokens.specs.declared.fault.SigFaultKind.TheVariants as kinds
 use Rattle.giop_tokens.specs.declared.marks.Mark.TheVariants as marks
 use Rattle.giop_tokens.specs.Tokens.{word, mark, left_of}
 use Rattle.giop_tokens.proofs.ReaderLaws.{bind_ok, ok_is, Takes, mark_takes, keyword_takes}
+use Rattle.giop_sig.specs.declared.announced.TypeWord.TheVariants as type_words
 use Rattle.giop_sig.specs.Table.{Node, node_at, IsScalarNode, IsFormed}
 use Rattle.giop_sig.specs.Table as nodes
 use Rattle.giop_sig.specs.Grammar.{TypeExpr, DeclaredUnion, spell_type, spell_cases, spell_identity}
@@ -15,12 +16,12 @@ use Rattle.giop_sig.specs.Validity.{OfType, IsDiscriminator, OfCases, OfDeclarat
 use Rattle.giop_sig.specs.ScopeViews.{IsScope}
 use Rattle.giop_sig.specs.Outcomes.{refused}
 use Rattle.giop_sig.specs.TypeReading.{TypeRead}
-use Rattle.giop_sig.specs.ItemReading.{IdentityRead, Declared}
-use Rattle.giop_sig.specs.UnionReading.{CasesRead, cases_at, union_node, can_switch, switch_at, union_at}
+use Rattle.giop_sig.specs.ItemReading.{announces_at, announcement_at, declared_at, IdentityRead, Declared}
+use Rattle.giop_sig.specs.UnionReading.{CasesRead, cases_at, union_node, can_switch, switch_at, union_after, union_at}
 use Rattle.giop_sig.proofs.TypeTaken.{Grows, grows_on, TakenType, type_takes}
-use Rattle.giop_sig.proofs.ItemTaken.{declared_takes, end_takes}
+use Rattle.giop_sig.proofs.ItemTaken.{declared_takes, end_takes, TakenDeclaration}
+use Rattle.giop_sig.proofs.AnnouncedLaws.{announces_third, announcement_takes}
 use Rattle.giop_sig.proofs.IdentityLaws.{identity_takes}
-use Rattle.giop_sig.proofs.DeclaredLaws.{TakenDeclaration}
 use Rattle.giop_sig.proofs.UnionLaws.{node_stays}
 use Rattle.giop_sig.proofs.UnionReads.{discriminates, below_size}
 use Rattle.giop_sig.proofs.UnionTaken.{cases_taken}
@@ -30,7 +31,7 @@ use Rattle.giop_sig.proofs.ReadingLaws.{Took}
 
 record TakenSwitch (s : Scope) (text : List ℕ) (x : TypeRead) : Type 0 where
   pub expr : TypeExpr
-  pub took : Took (spell_type expr) (OfType kinds.Syntax s.names expr) text x.2
+  pub took : Took (spell_type expr) (OfType kinds.Syntax false s.names expr) text x.2
   pub grows : Grows s x.0
   pub scope : IsScope s → IsScope x.0
   pub is : IsDiscriminator (node_at (x.0).table x.1)
@@ -46,16 +47,16 @@ switch_taken : (s : Scope) (text : List ℕ) (x : TypeRead)
 unfolding switch_at
 switch_taken s text x e = search (arith, bind_ok, cond, switch_by, type_takes)
 
--- ---- what the code asks
+-- ---- what the code requires
 
--- a discriminator's type is one of numbers
+-- the type of a discriminator is one of one number
 discriminator_scalar : (node : Node) → IsDiscriminator node → IsScalarNode node
 discriminator_scalar (nodes.prim p) is = tt
 discriminator_scalar (nodes.enumeration names) is = tt
 discriminator_scalar (nodes.marked m) is = tt
 discriminator_scalar _ is = is
 
--- a union that was read can be in the table
+-- a union that was read may be in the table
 pub union_formed : (s : Scope) (a b : List ℕ) (t : TypeRead) (x : CasesRead)
     → switch_at s a ≡ Ok t → cases_at t.1 t.0 b ≡ Ok x → IsScope s
     → IsFormed (x.0).table.types (length (x.0).table.types) (union_node t.1 x)
@@ -78,13 +79,14 @@ union_grows s a b t x e f = grows_on s t.0 x.0 (switch_taken s a t e).grows
 -- ---- the declaration
 
 -- the text that was read spells the union
-pub union_takes : (s : Scope) (whole text : List ℕ) (x : Declared)
-    → Takes whole (word (codes "union")) text → union_at s text ≡ Ok x → TakenDeclaration s whole x
-unfolding union_at OfDeclaration
-union_takes s whole text x before e =
-    let d = bind_ok {A = List ℕ × List ℕ} _ _ x e in
-    let n = (d.0).0 in
-    let i = bind_ok {A = IdentityRead} _ _ x d.2 in
+union_by : (s : Scope) (whole text : List ℕ) (d : List ℕ × List ℕ) (x : Declared)
+    → Takes whole (word (codes "union")) text
+    → declared_at s (Some type_words.Union) s.table.declared text ≡ Ok d
+    → union_after s text d.0 d.1 ≡ Ok x → TakenDeclaration s whole x
+unfolding union_after OfDeclaration
+union_by s whole text d x before taken e =
+    let n = d.0 in
+    let i = bind_ok {A = IdentityRead} _ _ x e in
     let w = bind_ok {A = List ℕ} _ _ x i.2 in
     let b = bind_ok {A = List ℕ} _ _ x w.2 in
     let t = bind_ok {A = TypeRead} _ _ x b.2 in
@@ -93,8 +95,8 @@ union_takes s whole text x before e =
     let cs = bind_ok {A = CasesRead} _ _ x o.2 in
     let last = with_named n (i.0).0 (with_node (cs.0).0 (union_node (t.0).1 cs.0)) in
     let r = end_takes (left_of text) last (cs.0).2 x cs.2 in
-    let a = declared_takes s s.table.declared text d.0 d.1 in
-    let u = (identity_takes s (d.0).1 i.0 i.1).took in
+    let a = declared_takes s (Some type_words.Union) s.table.declared text d taken in
+    let u = (identity_takes s d.1 i.0 i.1).took in
     let k = switch_taken s b.0 t.0 t.1 in
     let c = cases_taken (t.0).1 (t.0).0 o.0 cs.0 cs.1 in
     let node = placed_node (place s k.expr) in
@@ -127,3 +129,22 @@ union_takes s whole text x before e =
       };
       shallow = r.shallow;
     }
+
+union_or : (s : Scope) (whole text : List ℕ) (d : List ℕ × List ℕ) (x : Declared) (v : Bool)
+    → Takes whole (word (codes "union")) text
+    → declared_at s (Some type_words.Union) s.table.declared text ≡ Ok d
+    → announces_at s d.1 ≡ Ok v
+    → cond v (announcement_at s type_words.Union text d.0 d.1) (union_after s text d.0 d.1) ≡ Ok x
+    → TakenDeclaration s whole x
+union_or s whole text d x true before taken a e =
+    announcement_takes s type_words.Union whole text d x before taken (announces_third s d.1 a) e
+union_or s whole text d x false before taken a e = union_by s whole text d x before taken e
+
+-- the text that was read spells the union, or its announcement
+pub union_takes : (s : Scope) (whole text : List ℕ) (x : Declared)
+    → Takes whole (word (codes "union")) text → union_at s text ≡ Ok x → TakenDeclaration s whole x
+unfolding union_at
+union_takes s whole text x before e =
+    let d = bind_ok {A = List ℕ × List ℕ} _ _ x e in
+    let a = bind_ok {A = Bool} _ _ x d.2 in
+    union_or s whole text d.0 x a.0 before d.1 a.1 a.2

@@ -33,7 +33,7 @@ abbrev pub kept_cases : Node → List Label → List (List ℕ) → List Case �
 kept_cases node labels names cases otherwise =
     record { labels = marks_of node labels; names = names; cases = cases; otherwise = otherwise }
 
--- and of a case more
+-- what is kept of one more case
 abbrev pub more_cases : Node → Scope → List Label → List (List ℕ) → List Case
     → Selected → UnionCase → Cases
 more_cases node s labels names cases otherwise c =
@@ -95,7 +95,7 @@ pub node_stays : (s t : Scope) (i : ℕ) → Grows s t → i < size s
     → node_at t.table i ≡ node_at s.table i
 node_stays s t i g lt = search (arith, get_or_append_left)
 
--- ---- cases, one after the other
+-- ---- cases, one after another
 
 -- what is kept after some more cases
 unfoldable pub made_cases : Node → Scope → List Label → List (List ℕ) → List Case → Selected

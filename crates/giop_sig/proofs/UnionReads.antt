@@ -1,5 +1,5 @@
--- Reading the spelling of a union, after its word, gives the union or a rule that it breaks.
-use Rattle.std.proofs.Common.{◌≡◌, ℕ, ◌+◌, ◌<◌, Bool, true, false, cond, ltb, List, [], ◌∷◌, ◌++◌, length, Option, Ok, Err, append_assoc, ltb-true, ltb-false, refl, ap, subst, ◌∙◌, arith}
+-- Reading the spelling of a union, after its first word, gives the union or a rule that it breaks.
+use Rattle.std.proofs.Common.{◌≡◌, ℕ, ◌+◌, ◌<◌, Bool, true, false, cond, ltb, List, [], ◌∷◌, ◌++◌, length, Option, Some, Ok, Err, append_assoc, ltb-true, ltb-false, refl, ap, subst, ◌∙◌, arith}
 use Rattle.std.specs.Prelude.{codes}
 use Rattle.std.proofs.lemmas.List.{length-append, append-nil, get_or_past}
 use Rattle.giop_cdr.specs.declared.prim.Primitive.TheVariants as prims
@@ -11,6 +11,7 @@ use Rattle.giop_tokens.specs.Readers.{mark_at, keyword_at}
 use Rattle.giop_tokens.proofs.ReaderLaws.{mark_again, mark_if_again, keyword_again}
 use Rattle.giop_sig.specs.declared.types.Selected.{Selected}
 use Rattle.giop_sig.specs.declared.types.Selected.TheVariants as selecteds
+use Rattle.giop_sig.specs.declared.announced.TypeWord.TheVariants as type_words
 use Rattle.giop_sig.specs.Table.{Case, Node, node_at}
 use Rattle.giop_sig.specs.Table as nodes
 use Rattle.giop_sig.specs.Grammar.{TypeExpr, Label, UnionCase, DeclaredUnion, spell_item, spell_type, spell_cases, spell_identity}
@@ -18,19 +19,20 @@ use Rattle.giop_sig.specs.Scopes.{Names, Scope, AddedType, with_node, has_defaul
 use Rattle.giop_sig.specs.Validity.{Kind, IsDiscriminator, OfType, OfSwitch, OfSome, OfCases, OfDeclaration, placed_node}
 use Rattle.giop_sig.specs.Outcomes.{refused}
 use Rattle.giop_sig.specs.TypeReading.{type_at}
-use Rattle.giop_sig.specs.ItemReading.{declared_at, identity_at, Declared, type_end_at}
-use Rattle.giop_sig.specs.UnionReading.{Cases, chosen, CasesRead, cases_at, union_node, can_switch, switch_at, union_at}
+use Rattle.giop_sig.specs.ItemReading.{announces_at, announcement_at, declared_at, identity_at, Declared, type_end_at}
+use Rattle.giop_sig.specs.UnionReading.{Cases, chosen, CasesRead, cases_at, union_node, can_switch, switch_at, union_after, union_at}
 use Rattle.giop_sig.proofs.PlaceLaws.{size, within_same, within_on, Grown, node_more, place_more, place_names, named_more}
 use Rattle.giop_sig.proofs.ReadingLaws.{Out, good, broken, out_bind, out_more, Apart}
 use Rattle.giop_sig.proofs.TypeLaws.{placed, type_reads}
 use Rattle.giop_sig.proofs.ItemLaws.{declared_reads, some_keeps, filled_end, filled_on, end_reads}
+use Rattle.giop_sig.proofs.AnnouncedLaws.{not_announced, identity_apart}
 use Rattle.giop_sig.proofs.IdentityLaws.{identity_reads}
 use Rattle.giop_sig.proofs.EnumLaws.{out_as}
 use Rattle.giop_sig.proofs.UnionLaws.{made_cases, made_more, labels_apart, cases_run}
 
 -- ---- what the cases make
 
--- the case with the default, where none was found before
+-- the case with the default, if there was none before
 abbrev default_or : Selected → ℕ → List UnionCase → Selected
 default_or selecteds.Nothing i cs = default_from i cs
 default_or (selecteds.Case j) i cs = selecteds.Case j
@@ -133,7 +135,7 @@ switch_keeps : (node : Node) → IsDiscriminator node → (k : Kind) → OfSwitc
 switch_keeps node is kinds.Label = is
 switch_keeps node is _ = tt
 
--- a type that isn't in the table is no discriminator
+-- a type that isn't in the table can't be that of a discriminator
 below_by : (s : Scope) (i : ℕ) (v : Bool) → ltb i (size s) ≡ v
     → IsDiscriminator (node_at s.table i) → i < size s
 below_by s i true e is = ltb-true i (size s) e
@@ -144,17 +146,17 @@ below_size s i is = below_by s i (ltb i (size s)) refl is
 
 switch_by : (s : Scope) (e : TypeExpr) (text rest : List ℕ) (more : List Token) (v : Bool)
     → can_switch (placed_node (place s e)) ≡ v → AreTokens rest more
-    → ((k : Kind) → OfType k s.names e)
-    → Out (placed s e) (λ k. OfType k s.names e × OfSwitch k (placed_node (place s e)))
+    → ((k : Kind) → OfType k false s.names e)
+    → Out (placed s e) (λ k. OfType k false s.names e × OfSwitch k (placed_node (place s e)))
     (place s e).0.table.types more
     (cond v (Ok ((place s e).0, (place s e).1, rest)) (Err (refused kinds.Label text)))
 switch_by s e text rest more true p m keeps = search (arith, good, switch_keeps, discriminates)
 switch_by s e text rest more false p m keeps = search (arith, broken, no_discriminator)
 
 switch_reads : (s : Scope) (e : TypeExpr) (text : List ℕ) (more : List Token)
-    → OfType kinds.Syntax s.names e → Apart marks.OpenAngle more
+    → OfType kinds.Syntax false s.names e → Apart marks.OpenAngle more
     → AreTokens text (spell_type e more)
-    → Out (placed s e) (λ k. OfType k s.names e × OfSwitch k (placed_node (place s e)))
+    → Out (placed s e) (λ k. OfType k false s.names e × OfSwitch k (placed_node (place s e)))
     (place s e).0.table.types more (switch_at s text)
 unfolding switch_at
 switch_reads s e text more free apart h =
@@ -166,7 +168,7 @@ switch_reads s e text more free apart h =
 
 -- ---- a union
 
--- the union of cases that were kept
+-- the union with the cases that were kept
 abbrev kept_union : ℕ → Scope × Cases → AddedType
 kept_union switch x = with_node x.0 (nodes.union switch (x.1).cases (x.1).otherwise)
 
@@ -190,7 +192,7 @@ choice_reads : (n : List ℕ) (id : Option (List ℕ)) (switch : TypeExpr) (case
     (with_named n id (kept_union (place s switch).1
     (made_cases (placed_node (place s switch)) (place s switch).0 [] [] [] selecteds.Nothing
     cases))).table.types more (union_at s text)
-unfolding union_at OfDeclaration
+unfolding union_at union_after OfDeclaration
 choice_reads n id switch cases s text more free h =
     let at = left_of text in
     let p = place s switch in
@@ -202,16 +204,15 @@ choice_reads n id switch cases s text more free h =
     let chosen = mark marks.OpenParenthesis ∷ spell_type switch body in
     let last = within_on (node_more m.0 whole) (named_more n id (with_node m.0 whole)) in
     let made = within_on (made_more node p.0 [] [] [] selecteds.Nothing cases) last in
-    out_bind (declared_at s s.table.declared text)
-    (λ d. identity_at s d.1 >>= λ i. keyword_at (codes "switch") i.1
-    >>= λ w. mark_at marks.OpenParenthesis w >>= λ b.
-    switch_at s b >>= λ t. mark_at marks.CloseParenthesis t.2
-    >>= λ q. mark_at marks.OpenBrace q >>= λ o. cases_at t.1 t.0 o
-    >>= λ cs. type_end_at at d.0 i.0 cs.0 (union_node t.1 cs) cs.2)
-    (declared_reads s.table.types s s.table.declared text n
+    out_bind (declared_at s (Some type_words.Union) s.table.declared text)
+    (λ d. announces_at s d.1 >>= λ a. cond a (announcement_at s type_words.Union text d.0 d.1)
+    (union_after s text d.0 d.1))
+    (declared_reads s.table.types s (Some type_words.Union) s.table.declared text n
     (spell_identity id (word (codes "switch") ∷ chosen)) free.0 h)
     (λ d td kd.
-    out_bind (identity_at s d) (λ i. keyword_at (codes "switch") i.1
+    rw (not_announced s d (spell_identity id (word (codes "switch") ∷ chosen))
+    (identity_apart id (word (codes "switch") ∷ chosen) refl) td)
+    (out_bind (identity_at s d) (λ i. keyword_at (codes "switch") i.1
     >>= λ w. mark_at marks.OpenParenthesis w >>= λ b.
     switch_at s b >>= λ t. mark_at marks.CloseParenthesis t.2
     >>= λ q. mark_at marks.OpenBrace q >>= λ o. cases_at t.1 t.0 o
@@ -240,10 +241,10 @@ choice_reads n id switch cases s text more free h =
     (λ k. (kd k, ka k, (kb k).0, (kb k).1, (kc k).0, (kc k).1)))
     (λ k w. (w.4, w.5)) last))
     (λ k w. (w.2, w.3)) made))
-    (λ k w. w.1) (within_on (place_more s switch) made))
+    (λ k w. w.1) (within_on (place_more s switch) made)))
     (λ k w. w.0) (within_on (place_more s switch) made)
 
--- what reading gives of a text that begins with a union, after its word
+-- what reading gives for a text that begins with a union, after its first word
 pub union_reads : (s : Scope) (n : List ℕ) (id : Option (List ℕ)) (switch : TypeExpr)
     (cases : List UnionCase) (text : List ℕ) (more : List Token)
     → OfDeclaration kinds.Syntax s (DeclaredUnion n id switch cases)

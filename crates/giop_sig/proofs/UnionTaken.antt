@@ -1,5 +1,5 @@
--- The cases of a union that were read: the text that was read spells them, and they can be a
--- union's.
+-- The cases of a union that were read: the text that was read spells them, and a union may have
+-- them.
 use Rattle.std.proofs.Common.{◌≡◌, ℕ, zero, suc, ◌+◌, ◌≤◌, Bool, true, false, cond, ltb, List, [], ◌∷◌, ◌++◌, length, get_or, Option, Some, None, Ok, Err, refl, sym, ap, subst, ◌∙◌, arith}
 use Rattle.std.specs.Prelude.{codes}
 use Rattle.std.specs.List.{All}
@@ -63,7 +63,7 @@ value_taken : {third : Bool} (text : List ℕ) (x : Value × List ℕ) → value
 unfolding value_at
 value_taken text x e = search (arith, bind_ok, token_taken)
 
--- a value, and what follows it
+-- a value, and the rest after it
 record TakenNumber (third : Bool) (text rest : List ℕ) : Type 0 where
   value : Value
   taken : TakenValue third text (value, rest)
@@ -183,7 +183,7 @@ labels_run_taken {third = third} node (suc left) ls x e =
     let b = bind_ok (begins_label ls.3) (label_or_end third node ls) s.0 s.1 in
     labels_taken_by node left ls b.0 s.0 x (labels_run_taken node left) b.1 b.2 s.2
 
--- the labels of a case, one at least
+-- the labels of a case, at least one
 record TakenSome (third : Bool) (text rest : List ℕ) : Type 0 where
   first : Label
   others : List Label
@@ -208,7 +208,7 @@ labels_taken node seen text x e = search (arith, bind_ok, labels_taken_or)
 
 -- ---- cases
 
--- what is kept of cases that can be a union's
+-- what is kept of cases that a union may have
 record SoundCases (s : Scope) (cs : Cases) : Type 0 where
   parts : All (λ c. IsPart s.table.types (length s.table.types) c.part) cs.cases
   few : length cs.cases ≤ 256
@@ -282,7 +282,7 @@ case_taken : (switch : ℕ) (x y : CasesRead) → case_at switch x ≡ Ok y → 
 unfolding case_at
 case_taken switch x y e = search (arith, bind_ok, ok_is, case_made, labels_taken, item_takes)
 
--- ---- cases, one after the other
+-- ---- cases, one after another
 
 record TakenCases (x y : CasesRead) : Type 0 where
   cases : List UnionCase

@@ -100,7 +100,7 @@ interface_takes i text x e =
     interface_taken_by i text y.0 x (list_any (bytes_eq (y.0).0) i.names)
     (leb 1024 (length i.names)) refl refl y.1 y.2
 
--- ---- the interfaces of a list, as they are spelled
+-- ---- the interfaces in a list, as they are spelled
 
 new_keeps : (t : Table) (key : List ℕ) → keyed_number t key ≡ None → (k : Kind) → OfNewKey k t key
 new_keeps t key new kinds.Duplicate = new
@@ -304,7 +304,7 @@ pub new_variant_is : (c : Called) (t : Table) (text id rest : List ℕ) (v : Boo
 unfolding new_variant_at
 new_variant_is c t text id rest v e known = rw (e, known) refl
 
--- a new operation of an interface
+-- a new operation in an interface
 pub record TakenVariant (c : Called) (t : Table) (text : List ℕ) (x : List ℕ × List ℕ) : Type 0
   where
     pub interface : TakenInterface t.interfaces text x
@@ -344,7 +344,7 @@ variants_take (suc n) c s text x e =
     (ok_is (variant_end c (id.0).0 (s, text) (after_comma (id.0).1 o.0)) m.0 o.2) ∙ m.2)
     (λ s text run. variants_take n c s text x run)
 
--- only a file of version 3 has such a list
+-- only files of version 3 have such a list
 abbrev pub IsAllowedList : Names → List (List ℕ) → Type 0
 IsAllowedList names [] = Unit {0}
 IsAllowedList names (id ∷ ids) = is_third names ≡ true
@@ -403,7 +403,7 @@ variants_free w request reply [] t = tt
 variants_free w request reply (id ∷ ids) t =
     (tt, tt, variants_free w request reply ids (with_variant w request reply id t))
 
--- a list that is allowed has its words
+-- a list that is allowed keeps the rule about words
 pub list_free : (names : Names) (w : List ℕ) (request reply : ℕ) (ids : List (List ℕ)) (t : Table)
     → IsAllowedList names ids → OfList kinds.Syntax names w request reply ids t
 list_free names w request reply [] t allowed = tt

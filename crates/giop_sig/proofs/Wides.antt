@@ -9,7 +9,7 @@ use Rattle.giop_sig.specs.declared.types.Shape.TheVariants as shapes
 use Rattle.giop_sig.specs.Types.{HasInner}
 use Rattle.giop_sig.specs.Table.{Node, node_in, part_at, type_of, shape_of, IsFormed}
 use Rattle.giop_sig.specs.Table as nodes
-use Rattle.giop_sig.specs.Trees.{some_of, wide_by, wide_at, wide_in, part_wide, node_wide, AreFormed}
+use Rattle.giop_sig.specs.Trees.{some_of, wide_by, wide_at, wide_in, node_wide, AreFormed}
 use Rattle.giop_sig.proofs.Depths.{FormedBelow}
 use Rattle.giop_sig.proofs.Formed.{SameNodes, part_formed}
 
@@ -19,7 +19,7 @@ some_same (suc n) f g same =
     ap (λ b. b || f n) (some_same n f g (λ i lt. same i (omega arith)))
     ∙ ap (λ b. some_of n g || b) (same n (omega arith))
 
-wide_same : (s : Shape) (f g : ℕ → Bool) → ((k : ℕ) → HasInner s k → f k ≡ g k)
+pub wide_same : (s : Shape) (f g : ℕ → Bool) → ((k : ℕ) → HasInner s k → f k ≡ g k)
     → wide_by s f ≡ wide_by s g
 wide_same (shapes.Members count) f g same = some_same count f g same
 wide_same (shapes.Union count) f g same = some_same count f g same
@@ -29,7 +29,7 @@ wide_same (shapes.Array count) f g same = same 0 tt
 wide_same shapes.Encapsulation f g same = same 0 tt
 wide_same _ f g same = refl
 
--- it is found by the types up to its own alone, and to its end
+-- this depends on the types up to its own alone, and is found to the end
 wide_moved : (types others : List Node) (n a b i : ℕ) → FormedBelow types n
     → SameNodes types others n → i < n → i < a → i < b → wide_at types a i ≡ wide_at others b i
 unfolding wide_at
@@ -43,7 +43,7 @@ wide_moved types others n (suc a) (suc b) i are same lt la lb =
     ∙ ap (λ node. wide_by (shape_of node) (λ k. wide_at others b (type_of (part_at node k))))
     (same i lt)
 
--- that of a type is its node's
+-- a type has wide text if its node has
 wide_parts : (types : List Node) (i : ℕ) → AreFormed types → i < length types
     → wide_in types i ≡ node_wide types (node_in types i)
 unfolding wide_at
@@ -55,7 +55,7 @@ wide_parts types i are lt =
     (type_of (part_at (node_in types i) k)) are.formed (λ j h. refl) (omega arith) (omega arith)
     (omega arith))
 
--- the types that were there have it as before
+-- the types that were there still have it or not
 pub wide_stays : (types : List Node) (node : Node) (i : ℕ) → AreFormed types → i < length types
     → wide_in types i ≡ wide_in (types ++ node ∷ []) i
 wide_stays types node i are lt =
@@ -63,7 +63,7 @@ wide_stays types node i are lt =
     (λ k h. sym (get_or_append_left types (node ∷ []) (nodes.prim Octet) k h)) lt (omega arith)
     (omega arith)
 
--- the one that is added has it if its node does
+-- the type that is added has it if its node has
 pub wide_added : (types : List Node) (node : Node) → AreFormed types
     → IsFormed types (length types) node → AreFormed (types ++ node ∷ [])
     → node_wide types node ≡ wide_in (types ++ node ∷ []) (length types)

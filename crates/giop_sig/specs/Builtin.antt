@@ -1,7 +1,7 @@
--- The built-in types, with which every catalogue begins: the primitives, and what the headers and
--- bodies of GIOP are made of (GIOP Message Formats; Interoperable Object References; meaning). They
+-- The built-in types, with which each catalogue begins: the primitives, and the types of the
+-- headers and bodies of GIOP (GIOP Message Formats; Interoperable Object References; meaning). They
 -- are written with the numbers that types have in version 3. Other versions have no named numbers,
--- so that later types have other numbers there.
+-- so later types have other numbers there.
 use Rattle.std.specs.Prelude.{ℕ, ◌-◌, ◌==◌, nat_lt, cond, pos, false, List, [], ◌∷◌, ◌++◌, map, None, codes}
 use Rattle.giop_cdr.specs.declared.prim.Primitive.TheVariants as prims
 use Rattle.giop_cdr.specs.declared.number.Number.TheVariants.{Signed}
@@ -14,12 +14,13 @@ use Rattle.giop_sig.specs.Table as nodes
 
 -- ---- numbers in a version
 
--- The number that a type has in versions 1 and 2, by its number in version 3: a named number is a
--- ULONG there, and the types after the four of them come 4 sooner.
+-- The number of a type in versions 1 and 2, from its number in version 3: a named number is a ULONG
+-- there, and the types after the four named numbers have numbers that are less by 4.
 abbrev pub older : ℕ → ℕ
 older n = cond (nat_lt n CONTEXT_ID) n (cond (nat_lt n CODE_SETS) ULONG (n - 4))
 
--- The number of a type in a version, by its number in version 3. Any version but 3 is as 1.
+-- The number of a type in a version, from its number in version 3. Each version other than 3 is
+-- like version 1.
 abbrev pub number_in : ℕ → ℕ → ℕ
 number_in version n = cond (version == 3) n (older n)
 
@@ -29,8 +30,8 @@ renumbered_part f p = record { name = p.name; type = f p.type }
 abbrev pub renumbered_case : (ℕ → ℕ) → Case → Case
 renumbered_case f c = record { labels = c.labels; part = renumbered_part f c.part }
 
--- A node with other numbers for the types of its parts. An any and a TypeCode are in one version
--- alone, and stay.
+-- A node with other numbers for the types of its parts. An any and a TypeCode are in version 3
+-- alone, and stay the same.
 abbrev pub renumbered : (ℕ → ℕ) → Node → Node
 renumbered f (nodes.members parts) = nodes.members (map (renumbered_part f) parts)
 renumbered f (nodes.union switch cases otherwise) =
@@ -48,13 +49,13 @@ renumbered f node = node
 abbrev pub member : List ℕ → ℕ → Part
 member name type = record { name = name; type = type }
 
--- a case of the target, with its one label
+-- a case of the target, with one label
 abbrev pub labelled : ℕ → List ℕ → ℕ → Case
 labelled label name type = record { labels = Signed (pos label) ∷ []; part = member name type }
 
 -- ---- contexts, profiles and references
 
--- a service context: with the id 1 it holds code sets
+-- a service context: if its id is 1, it holds code sets
 abbrev pub service_context : Node
 service_context =
     nodes.tagged 1 (member (codes "context_id") CONTEXT_ID)
@@ -67,7 +68,7 @@ profile_body =
     ∷ member (codes "host") STRING ∷ member (codes "port") USHORT
     ∷ member (codes "object_key") OCTETS ∷ [])
 
--- a tagged profile: with the tag 0 it holds an internet profile
+-- a tagged profile: if its tag is 0, it holds an internet profile
 abbrev pub tagged_profile : Node
 tagged_profile =
     nodes.tagged 0 (member (codes "tag") PROFILE_TAG)
@@ -83,7 +84,7 @@ abbrev pub reference_address : Node
 reference_address =
     nodes.members (member (codes "selected_profile_index") ULONG ∷ member (codes "ior") IOR ∷ [])
 
--- the target of a request; no other discriminator is allowed there
+-- the target of a request; any other discriminator is refused
 abbrev pub target : Node
 target =
     nodes.union SHORT (labelled 0 (codes "object_key") OCTETS
@@ -92,7 +93,7 @@ target =
 
 -- ---- how a request ended
 
--- how far the request came
+-- whether the request was completed
 abbrev pub completion : Node
 completion =
     nodes.enumeration (codes "COMPLETED_YES" ∷ codes "COMPLETED_NO" ∷ codes "COMPLETED_MAYBE" ∷ [])
@@ -202,7 +203,7 @@ leaf_types =
     ∷ (nodes.octets None)
     ∷ []
 
--- the numbers that have names, in version 3: the id of a service context, the tag of a profile, a
+-- the numbers that have names in version 3: the id of a service context, the tag of a profile, a
 -- code set, and the minor code of a system exception
 abbrev pub named_types : List Node
 named_types = nodes.marked 3 ∷ nodes.marked 4 ∷ nodes.marked 5 ∷ nodes.marked 6 ∷ []
@@ -250,7 +251,7 @@ compound_types =
 unfoldable pub builtin_types : List Node
 builtin_types = map (renumbered older) (leaf_types ++ compound_types)
 
--- the catalogue of no declarations
+-- the catalogue without declarations
 abbrev pub builtin_table : Table
 builtin_table = record {
   version = 1;

@@ -37,7 +37,7 @@ return_at s text = do
   v ← keyword_if (codes "void") text
   return_after s text v
 
--- the name of an operation; without interfaces in the file it must be new
+-- the name of an operation; if the file can't have interfaces, the name must be new
 unfoldable pub new_operation_at : Scope → List ℕ → Result (List ℕ × List ℕ) Refusal
 new_operation_at s text = do
   n ← operation_name_at text
@@ -73,13 +73,13 @@ in_reply directions.In p ps = ps
 in_reply directions.Out p ps = ps ++ p ∷ []
 in_reply directions.Inout p ps = ps ++ p ∷ []
 
--- the lists to which a parameter of a direction is added
+-- the names of the parameters, and the members of requests and replies
 pub record ParameterLists : Type 0 where
   pub seen : List (List ℕ)
   pub request : List Part
   pub reply : List Part
 
--- with a parameter more
+-- the lists with one more parameter
 abbrev pub with_param : ParameterLists → Direction → Part → ParameterLists
 with_param w d p =
     record {
@@ -88,7 +88,7 @@ with_param w d p =
       reply = in_reply d p w.reply;
     }
 
--- parameters that were read, and what follows them
+-- the parameters that were read, and the rest of the text
 abbrev pub Params : Type 0
 Params = Scope × ParameterLists × List ℕ
 
@@ -142,13 +142,13 @@ interface_at i text = do
   if not (list_any (bytes_eq id.0) i.names) && nat_le 1024 (length i.names)
       then Err (refused kinds.Limit text) else Ok (id.0, id.1)
 
--- a name, and the structs of its requests and replies
+-- the name of an operation, and the structs of its requests and replies
 pub record Called : Type 0 where
   pub name : List ℕ
   pub request : ℕ
   pub reply : ℕ
 
--- what was read of a list of interfaces
+-- the scope after a list of interfaces, and the rest of the text
 abbrev pub Variants : Type 0
 Variants = Scope × List ℕ
 
@@ -158,14 +158,14 @@ with_listed_by f s = record s { table = f s.table }
 abbrev pub variant_key : Called → Table → List ℕ → List ℕ
 variant_key c t id = operation_key (number_of t.interfaces id + 1) c.name
 
--- an interface for which the operation's name is new
+-- an interface in which the operation's name is new
 unfoldable pub new_variant_at : Called → Table → List ℕ → Result (List ℕ × List ℕ) Refusal
 new_variant_at c t text = do
   id ← interface_at t.interfaces text
   if is_some (keyed_number t (variant_key c t id.0)) then Err (refused kinds.Duplicate text)
       else Ok (id.0, id.1)
 
--- whether no comma follows, and what follows
+-- whether no comma comes, and the rest
 abbrev pub after_comma : List ℕ → Option (List ℕ) → Bool × List ℕ
 after_comma rest None = (true, rest)
 after_comma rest (Some r) = (false, r)
@@ -184,7 +184,7 @@ variant_step c v = do
 abbrev pub too_many_variants : Variants → Refusal
 too_many_variants v = misplaced v.1
 
--- the operation without interfaces, whose name is at a place
+-- an operation without interfaces, whose name is at the front of `at`
 abbrev pub plain_by : List ℕ → Called → Variants → Result Variants Refusal
 plain_by at c v =
     if is_some (keyed_number (v.0).table (operation_key 0 c.name))
@@ -195,17 +195,17 @@ abbrev pub listed_by : List ℕ → Called → Variants → Option (List ℕ) �
 listed_by at c v None = plain_by at c v
 listed_by at c v (Some r) = in_steps (variant_step c) too_many_variants (length r) (v.0, r)
 
--- the interfaces of an operation, whose name is at a place
+-- the interfaces of an operation, if it has some; its name is at the front of `at`
 unfoldable pub listed_at : List ℕ → Called → Variants → Result Variants Refusal
 listed_at at c v =
     if is_third (v.0).names then (keyword_if (codes "of") v.1 >>= listed_by at c v)
     else plain_by at c v
 
--- the two structs of an operation's parameters, the request first
+-- the two structs of an operation's parameters: first that of requests, then that of replies
 abbrev pub structs_of : ParamsRead → AddedType
 structs_of m = with_node (with_node m.0 (nodes.members m.1)).0 (nodes.members m.2)
 
--- an operation of the two structs of its parameters
+-- an operation with the two structs of its parameters
 abbrev pub called_of : List ℕ → ParamsRead → Called
 called_of w m =
     record { name = w; request = length (m.0).table.types; reply = (structs_of m).1 }
@@ -223,7 +223,7 @@ operation_at s text = do
   l ← listed_at t.2 (called_of n.0 m) ((structs_of m).0, m.3)
   end_of (left_of t.2) (counted l.0) l.1
 
--- a KEY that is new
+-- a new KEY
 unfoldable pub new_key_at : Scope → List ℕ → Result (List ℕ × List ℕ) Refusal
 new_key_at s text = do
   k ← repository_at text

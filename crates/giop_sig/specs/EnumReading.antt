@@ -12,11 +12,11 @@ use Rattle.giop_sig.specs.Outcomes.{refused}
 use Rattle.giop_sig.specs.ItemReading.{new_name_at, declared_at, filled_at, identity_at, Declared, type_end_at}
 use Rattle.giop_sig.specs.Repeats.{in_steps}
 
--- enumerators, and what follows them
+-- the enumerators that were read, and the rest of the text
 abbrev pub NamesRead : Type 0
 NamesRead = List (List ℕ) × List ℕ
 
--- an enumerator after others
+-- one more enumerator
 unfoldable pub enumerator_at : Bool → List (List ℕ) → List ℕ → Result NamesRead Refusal
 enumerator_at third seen text = do
   w ← new_name_at third 1024 seen text
@@ -45,10 +45,10 @@ names_at third text = do
   some ← filled_at text
   in_steps (names_step third) too_many_names 1025 ([], some)
 
--- an enum, after its word
+-- an enum, after its first word
 unfoldable pub enumeration_at : Scope → List ℕ → Result Declared Refusal
 enumeration_at s text = do
-  n ← declared_at s s.table.declared text
+  n ← declared_at s None s.table.declared text
   i ← identity_at s n.1
   o ← mark_at marks.OpenBrace i.1
   names ← names_at (is_third s.names) o

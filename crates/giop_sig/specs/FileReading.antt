@@ -1,6 +1,6 @@
 -- Reading a signature file from left to right (steps), and which of its refusals is the first
 -- (meaning).
-use Rattle.std.specs.Prelude.{◌≡◌, ◌⊎◌, ℕ, ◌&&◌, Bool, true, false, if◌then◌else◌, List, length, Result, Ok, Err, codes}
+use Rattle.std.specs.Prelude.{◌≡◌, ◌⊎◌, ℕ, ◌&&◌, nat_lt, Bool, true, false, if◌then◌else◌, List, [], ◌∷◌, ◌++◌, length, slice_index_or, Option, None, Some, Result, Ok, Err, codes}
 use Rattle.std.specs.Str.{bytes_eq}
 use Rattle.giop_tokens.specs.declared.fault.Refusal.{Refusal}
 use Rattle.giop_tokens.specs.declared.fault.SigFault.{SigFault}
@@ -11,7 +11,9 @@ use Rattle.giop_tokens.specs.Faults.{no_memory}
 use Rattle.giop_tokens.specs.Lines.{fault_of}
 use Rattle.giop_tokens.specs.Readers.{misplaced, word_at, number_at, mark_at, keyword_at, end_at}
 use Rattle.giop_sig.specs.Grammar.{is_version}
-use Rattle.giop_sig.specs.Scopes.{is_third, Scope, first_scope}
+use Rattle.giop_tokens.specs.Tokens.{left_of}
+use Rattle.giop_sig.specs.Scopes.{is_third, Scope, first_scope, settled}
+use Rattle.giop_sig.specs.Validity.{first_undeclared}
 use Rattle.giop_sig.specs.ItemReading.{Declared, structure_at, exception_at}
 use Rattle.giop_sig.specs.CallReading.{operation_at, key_at}
 use Rattle.giop_sig.specs.EnumReading.{enumeration_at}
@@ -33,22 +35,51 @@ declaration_at s text = do
   w ← word_at text
   declaration_after s text w.0 w.1
 
-abbrev pub declaration_or_end : Declared → Bool → Result (Bool × Declared) Refusal
+-- the scope after declarations, the places of the announced names in order, and the rest of the
+-- text
+abbrev pub DeclarationsRead : Type 0
+DeclarationsRead = Scope × List ℕ × List ℕ
+
+-- how many names are announced
+abbrev pub announcements : Scope → ℕ
+announcements s = length s.names.announced
+
+-- The places after the declaration that a text begins with: it announced its name if more names are
+-- announced after it than before it.
+unfoldable pub places_after : ℕ → ℕ → List ℕ → List ℕ → Result (List ℕ) Refusal
+places_after before after places text = do
+  w ← word_at text
+  Ok (if nat_lt before after then places ++ left_of w.1 ∷ [] else places)
+
+abbrev pub declaration_or_end : DeclarationsRead → Bool → Result (Bool × DeclarationsRead) Refusal
 declaration_or_end d true = Ok (true, d)
 declaration_or_end d false = do
-  next ← declaration_at d.0 d.1
-  Ok (false, next)
+  next ← declaration_at d.0 d.2
+  places ← places_after (announcements d.0) (announcements next.0) d.1 d.2
+  Ok (false, (next.0, places, next.1))
 
--- the end of the text, or a declaration more
-unfoldable pub declarations_step : Declared → Result (Bool × Declared) Refusal
+-- the end of the text, or one more declaration
+unfoldable pub declarations_step : DeclarationsRead → Result (Bool × DeclarationsRead) Refusal
 declarations_step d = do
-  over ← end_at d.1
+  over ← end_at d.2
   declaration_or_end d over
 
-abbrev pub misplaced_after : Declared → Refusal
-misplaced_after d = misplaced d.1
+abbrev pub misplaced_after : DeclarationsRead → Refusal
+misplaced_after d = misplaced d.2
 
--- the version of the format, a number up to the latest that is read
+-- a refusal for a name that isn't declared, at the place of its announcement
+abbrev pub undeclared : List ℕ → ℕ → Refusal
+undeclared places i = record { kind = kinds.UnknownType; left = slice_index_or places i 0 }
+
+abbrev pub settled_unless : Scope → List ℕ → Option ℕ → Result Scope Refusal
+settled_unless s places None = Ok (settled s)
+settled_unless s places (Some i) = Err (undeclared places i)
+
+-- the end of the text: each name that is announced is declared
+unfoldable pub settled_at : Scope → List ℕ → Result Scope Refusal
+settled_at s places = settled_unless s places (first_undeclared s.names)
+
+-- the version of the format, which is at most `latest`
 unfoldable pub version_at : ℕ → List ℕ → Result (ℕ × List ℕ) Refusal
 version_at latest text = do
   n ← number_at text
@@ -62,23 +93,23 @@ head_at latest text = do
   r ← mark_at marks.Semicolon v.1
   Ok (v.0, r)
 
--- what a file declares, of a version up to the latest that is read
+-- what a file declares whose version is at most `latest`
 unfoldable pub file_at : ℕ → List ℕ → Result Scope Refusal
 file_at latest text = do
   h ← head_at latest text
-  d ← in_steps declarations_step misplaced_after (length text) (first_scope h.0, h.1)
-  Ok d.0
+  d ← in_steps declarations_step misplaced_after (length text) (first_scope h.0, [], h.1)
+  settled_at d.0 d.1
 
 -- the refusal of a text that is too long
 abbrev pub text_too_long : SigFault
 text_too_long = record { line = 1; kind = kinds.Limit }
 
--- the first refusal of reading a file of a version up to one from the front, and its place; memory
--- may be refused at any time
+-- the refusal at the first wrong token of a file whose version is at most `latest`, and its line;
+-- memory may be refused at any time
 abbrev pub IsFirstRefusalUpTo : ℕ → List ℕ → SigFault → Type 0
 IsFirstRefusalUpTo latest text f =
     (f ≡ no_memory) ⊎ ((r : Refusal) × (file_at latest text ≡ Err r) × (f ≡ fault_of text r))
 
--- the first refusal of reading a file of version 1 or 2
+-- the same for a file of version 1 or 2
 abbrev pub IsFirstRefusal : List ℕ → SigFault → Type 0
 IsFirstRefusal text f = IsFirstRefusalUpTo 2 text f

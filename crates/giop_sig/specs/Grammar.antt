@@ -1,10 +1,13 @@
 -- Signature files: what a file and its declarations are, and the tokens that spell it
--- (docs/FORMATS.md, Signature file; meaning). Each spelling is written in front of what follows it.
+-- (docs/FORMATS.md, Signature file; meaning). Each spelling is written before `more`, the tokens
+-- that come after it.
 use Rattle.std.specs.Prelude.{ℕ, ◌&&◌, nat_le, Bool, true, false, List, [], ◌∷◌, Option, Some, None, codes}
 use Rattle.giop_cdr.specs.declared.prim.Primitive.{Primitive}
 use Rattle.giop_cdr.specs.declared.prim.Primitive.TheVariants as prims
 use Rattle.giop_tokens.specs.declared.marks.Mark.{Mark}
 use Rattle.giop_tokens.specs.declared.marks.Mark.TheVariants as marks
+use Rattle.giop_sig.specs.declared.announced.TypeWord.{TypeWord}
+use Rattle.giop_sig.specs.declared.announced.TypeWord.TheVariants as type_words
 use Rattle.giop_sig.specs.declared.read_calls.Direction.{Direction}
 use Rattle.giop_sig.specs.declared.read_calls.Direction.TheVariants as directions
 use Rattle.giop_tokens.specs.Tokens.{Token, word, number, negative, repository, mark}
@@ -17,17 +20,17 @@ pub data TypeExpr : Type 0 where
   Text : Option ℕ → TypeExpr
   -- an object reference
   Reference : TypeExpr
-  -- a TypeCode and a value of its type
+  -- an any: a TypeCode and a value of its type
   AnyType : TypeExpr
-  -- a TypeCode alone
+  -- a TypeCode by itself
   CodeType : TypeExpr
-  -- a wide character, and a wide string, perhaps with a bound, which counts characters
+  -- a wide character; and a wide string, perhaps with a bound, which counts characters
   WideChar : TypeExpr
   WideText : Option ℕ → TypeExpr
-  -- an enum, struct or union by its name
+  -- an enum, struct or union, by its name
   Named : List ℕ → TypeExpr
   SequenceOf : TypeExpr → Option ℕ → TypeExpr
-  -- a value of a type, in octets of its own
+  -- a value in octets with a byte order of their own
   EncapsulationOf : TypeExpr → TypeExpr
 
 abbrev pub base_word : Primitive → List ℕ
@@ -43,7 +46,7 @@ base_word prims.ULongLong = codes "ulonglong"
 base_word prims.Float = codes "float"
 base_word prims.Double = codes "double"
 
--- a size between two marks, where there is one
+-- a size between two marks, if there is one
 abbrev pub spell_between : Mark → Mark → Option ℕ → List Token → List Token
 spell_between before close None more = more
 spell_between before close (Some n) more = mark before ∷ number n ∷ mark close ∷ more
@@ -52,7 +55,7 @@ spell_between before close (Some n) more = mark before ∷ number n ∷ mark clo
 abbrev pub spell_bound : Option ℕ → List Token → List Token
 spell_bound bound more = spell_between marks.OpenAngle marks.CloseAngle bound more
 
--- the bound of a sequence, after its element's type: , N
+-- the bound of a sequence, after the type of its elements: , N
 abbrev pub spell_most : Option ℕ → List Token → List Token
 spell_most None more = more
 spell_most (Some n) more = mark marks.Comma ∷ number n ∷ more
@@ -75,13 +78,13 @@ spell_type (EncapsulationOf e) more =
 
 -- ---- items: members, cases and parameters
 
--- a name with its type, in arrays of these lengths, the outermost first
+-- a type and a name, in arrays of these lengths, the outermost first
 pub record Item : Type 0 where
   pub type : TypeExpr
   pub name : List ℕ
   pub lengths : List ℕ
 
--- the lengths of arrays, each between its marks: [ N ]
+-- the lengths of arrays, each in brackets: [ N ]
 abbrev pub spell_lengths : List ℕ → List Token → List Token
 spell_lengths [] more = more
 spell_lengths (n ∷ ns) more =
@@ -90,7 +93,7 @@ spell_lengths (n ∷ ns) more =
 abbrev pub spell_item : Item → List Token → List Token
 spell_item i more = spell_type i.type (word i.name ∷ spell_lengths i.lengths more)
 
--- members, each with its semicolon, and the closing mark
+-- members with a semicolon each, and the closing mark
 abbrev pub spell_items : List Item → List Token → List Token
 spell_items [] more = mark marks.CloseBrace ∷ more
 spell_items (i ∷ is) more = spell_item i (mark marks.Semicolon ∷ spell_items is more)
@@ -108,7 +111,7 @@ spell_names (n ∷ ns) more = word n ∷ spell_more_names ns more
 
 -- ---- the cases of a union
 
--- a value that a label names
+-- the value that a label names
 pub data Value : Type 0 where
   Plain : ℕ → Value
   Below : ℕ → Value
@@ -137,7 +140,7 @@ abbrev pub spell_labels : List Label → List Token → List Token
 spell_labels [] more = more
 spell_labels (l ∷ ls) more = spell_label l (spell_labels ls more)
 
--- a case: one label or more, and the item that they select
+-- a case: one or more labels, and the item that they select
 pub record UnionCase : Type 0 where
   pub label : Label
   pub others : List Label
@@ -184,7 +187,7 @@ spell_more_interfaces [] more = more
 spell_more_interfaces (id ∷ ids) more =
     mark marks.Comma ∷ repository id ∷ spell_more_interfaces ids more
 
--- repository ids with commas between them, after their word, or nothing
+-- nothing, or a word and the repository ids of interfaces with commas between them
 abbrev pub spell_interfaces : List (List ℕ) → List Token → List Token
 spell_interfaces [] more = more
 spell_interfaces (id ∷ ids) more =
@@ -192,22 +195,29 @@ spell_interfaces (id ∷ ids) more =
 
 -- ---- declarations
 
--- the repository id of a type, where it has one
+-- the repository id of a type, if it has one
 abbrev pub spell_identity : Option (List ℕ) → List Token → List Token
 spell_identity None more = more
 spell_identity (Some id) more = repository id ∷ more
 
--- an enum, struct or union: its name, perhaps its repository id, and what is in it
+-- the first word of a struct or union
+abbrev pub type_word : TypeWord → List ℕ
+type_word type_words.Struct = codes "struct"
+type_word type_words.Union = codes "union"
+
+-- an enum, struct or union: its name, its repository id if it has one, and its content
 pub data Declaration : Type 0 where
   Enumeration : List ℕ → Option (List ℕ) → List (List ℕ) → Declaration
   Structure : List ℕ → Option (List ℕ) → List Item → Declaration
-  -- its discriminator, its cases
+  -- its discriminator and its cases
   DeclaredUnion : List ℕ → Option (List ℕ) → TypeExpr → List UnionCase → Declaration
-  -- an exception: its name, its repository id, its members
+  -- a struct or union that is declared later, with the same word
+  Announcement : TypeWord → List ℕ → Declaration
+  -- an exception: its name, its repository id and its members
   DeclaredException : List ℕ → List ℕ → List Item → Declaration
   -- an operation: what it returns, its name, its parameters, and perhaps its interfaces
   Call : Option TypeExpr → List ℕ → List Param → List (List ℕ) → Declaration
-  -- an object key, or the front of some, and its interface
+  -- an object key or the front of object keys, and its interface
   KeyOf : List ℕ → List ℕ → Declaration
 
 abbrev pub spell : Declaration → List Token → List Token
@@ -222,6 +232,7 @@ spell (DeclaredUnion n id switch cases) more =
     ∷ mark marks.OpenParenthesis
     ∷ spell_type switch (mark marks.CloseParenthesis ∷ mark marks.OpenBrace
     ∷ spell_cases cases (mark marks.Semicolon ∷ more)))
+spell (Announcement w n) more = word (type_word w) ∷ word n ∷ mark marks.Semicolon ∷ more
 spell (DeclaredException n r items) more =
     word (codes "exception") ∷ word n ∷ repository r ∷ mark marks.OpenBrace
     ∷ spell_items items (mark marks.Semicolon ∷ more)
@@ -243,7 +254,7 @@ pub record SignatureFile : Type 0 where
   pub version : ℕ
   pub declarations : List Declaration
 
--- the versions of the format up to one
+-- whether a version of the format is at most `latest`
 abbrev pub is_version : ℕ → ℕ → Bool
 is_version latest n = nat_le 1 n && nat_le n latest
 

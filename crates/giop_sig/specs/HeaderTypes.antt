@@ -1,5 +1,5 @@
--- Which built-in types are headers and bodies (GIOP Message Formats), and what holds of a catalogue
--- as a whole (meaning).
+-- Which built-in types are those of headers and bodies (GIOP Message Formats), and what is true of
+-- a whole catalogue (meaning).
 use Rattle.std.specs.Prelude.{◌≡◌, ℕ, suc, ◌^◌, ◌<◌, ◌≤◌, ◌⊎◌, List, [], ◌∷◌, ◌++◌, length, Option, Some, None, slice_get, slice_index_or, codes}
 use Rattle.std.specs.List.{All}
 use Rattle.std.specs.Option.{option_map}
@@ -14,7 +14,7 @@ use Rattle.giop_sig.specs.Trees.{AreTypes, AreWide, tree}
 use Rattle.giop_sig.specs.Builtin.{number_in}
 use Rattle.giop_sig.specs.AnyTypes.{first_types, first_table}
 
--- the numbers in version 3 of the header types of each message type, in 1.0, 1.1 and 1.2
+-- the numbers in version 3 of the header types, for each message type in 1.0, 1.1 and 1.2
 abbrev pub header_rows : List (List (Option ℕ))
 header_rows =
     -- Request, Reply, CancelRequest, LocateRequest, LocateReply
@@ -38,13 +38,13 @@ abbrev pub cell_in : Option (List (Option ℕ)) → ℕ → Option ℕ
 cell_in None minor = None
 cell_in (Some row) minor = cell_of (slice_get row minor)
 
--- the number, in a version of signature files, of the header type of a minor version of GIOP and a
--- message type
+-- the number of the header type for a minor version of GIOP and a message type, in a version of
+-- signature files
 abbrev pub header_number : ℕ → ℕ → ℕ → Option ℕ
 header_number version minor kind =
     option_map (number_in version) (cell_in (slice_get header_rows kind) minor)
 
--- the header type of a minor version and a message type
+-- the header type for a minor version of GIOP and a message type
 abbrev pub header_type : ℕ → ℕ → ℕ → Option Ty
 header_type version minor kind =
     option_map (tree (first_table version)) (header_number version minor kind)
@@ -55,7 +55,7 @@ third_fixed fixeds.SystemException = SYSTEM_EXCEPTION
 third_fixed fixeds.Forward = IOR
 third_fixed fixeds.Addressing = SHORT
 
--- the number, in a version of signature files, of a body that none declares
+-- the number of the type of a body that isn't declared, in a version of signature files
 abbrev pub fixed_number : ℕ → Fixed → ℕ
 fixed_number version fixed = number_in version (third_fixed fixed)
 
@@ -68,8 +68,8 @@ BeginsWithId T =
     (count : ℕ) × (names : ℕ → List ℕ) × (parts : ℕ → Ty) × (T ≡ Struct (suc count) names parts)
     × (names 0 ≡ codes "request_id") × (parts 0 ≡ Single (Plain ULong))
 
--- where the request id is read before the type is: in all messages of 1.2 that have a header, and
--- in every cancel request
+-- the messages whose request id is read before the type is: all messages of 1.2 that have a header,
+-- and each cancel request
 abbrev pub IdStandsFirst : ℕ → ℕ → Type 0
 IdStandsFirst minor kind = (minor ≡ 2) ⊎ (kind ≡ 2)
 
@@ -86,39 +86,46 @@ pub record IsException (types : List Node) (e : Exception) : Type 0 where
   pub short : length e.repository ≤ 128
   pub members : e.members < length types
 
--- a type of the table, with its repository id
+-- a type of the table that has a repository id
 pub record IsIdentity (types : List Node) (e : Identity) : Type 0 where
   pub short : length e.repository ≤ 128
   pub type : e.type < length types
 
--- a node of a type that no file of version 1 or 2 needs
+-- a node that a file of version 1 or 2 may have
 abbrev pub IsPlain : Node → Type 0
 IsPlain nodes.wide_text = ⊥
 IsPlain nodes.wide_char = ⊥
 IsPlain (nodes.marked mark) = ⊥
 IsPlain (nodes.any code) = ⊥
+IsPlain (nodes.announced place) = ⊥
+IsPlain (nodes.recursive bound element) = ⊥
 IsPlain (nodes.typecode wide kind cases) = ⊥
 IsPlain node = Unit {0}
+
+-- a node that a declaration in a file of a version may add
+abbrev pub IsAddable : ℕ → Node → Type 0
+IsAddable version (nodes.announced place) = version ≡ 3
+IsAddable version (nodes.recursive bound element) = version ≡ 3
+IsAddable version node = IsPlain node
 
 abbrev pub ArePlain : List Node → Type 0
 ArePlain types = (i : ℕ) → i < length types → IsPlain (node_in types i)
 
--- no two have one name
+-- no two elements have the same name
 abbrev pub AreDistinct : {X : Type 0} → (X → List ℕ) → X → List X → Type 0
 AreDistinct name_in d xs =
     (i j : ℕ) → i < length xs → j < length xs
     → name_in (slice_index_or xs i d) ≡ name_in (slice_index_or xs j d) → i ≡ j
 
--- Types and fronts of ids by which the value of an any is known. Only those of version 3 have wide
--- text, anys, TypeCodes and what these are made of.
+-- The types and the fronts of repository ids from which the type of an any's value is known. Only
+-- files of version 3 have wide text, anys, TypeCodes and their parts, and types that are announced.
 pub record KnowsAnys (version : ℕ) (types : List Node) (fronts : List (List ℕ)) : Type 0 where
   pub plain : (version ≡ 3 → ⊥) → ArePlain types
   pub wide : AreWide types
   pub short : All (λ front. length front ≤ 129) fronts
   pub few : length fronts ≤ 65536
 
--- a table that begins with the types of its version, within the limits, of types such as are asked
--- for
+-- a table that begins with the types of its version, is within the limits, and has such types
 pub record TableOf (Types : List Node → Type 0) (t : Table) : Type 0 where
   pub types : Types t.types
   pub begins : (more : List Node) × (t.types ≡ first_types t.version ++ more)

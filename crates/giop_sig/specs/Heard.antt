@@ -1,5 +1,6 @@
--- What the TypeCode of an any tells of its value (CDR Transfer Syntax, Pseudo-Object Types, TypeCode
--- and any; meaning). Its kind, its id, a count of members and a bound are heard; names are not.
+-- What the TypeCode of an any tells about the value of the any (CDR Transfer Syntax, Pseudo-Object
+-- Types, TypeCode and any; meaning). The kind, the repository id, a count of members and a bound
+-- tell something; names don't.
 use Rattle.std.specs.Prelude.{ℕ, zero, suc, ◌+◌, ◌==◌, nat_le, nat_lt, cond, Bool, true, false, List, [], ◌∷◌, ◌++◌, length, take, Option, Some, None, position, slice_index_or}
 use Rattle.std.specs.List.{list_any}
 use Rattle.std.specs.Str.{bytes_eq}
@@ -11,8 +12,9 @@ use Rattle.giop_sig.specs.Table as nodes
 
 -- ---- kinds
 
--- What each kind tells, from 0 on: a struct, a union and an enum are known by their ids, of which no
--- octet has come (the first three fronts), and a sequence and an alias by what they hold.
+-- What each kind tells, from 0 on. A struct, a union and an enum are known by their repository ids,
+-- of which no octet has come yet (the first three fronts). A sequence and an alias are known by the
+-- type in them.
 abbrev pub told_kinds : List Told
 told_kinds =
     Empty ∷ Empty ∷ Is SHORT ∷ Is LONG ∷ Is USHORT ∷ Is ULONG ∷ Is FLOAT ∷ Is DOUBLE ∷ Is BOOLEAN
@@ -29,11 +31,12 @@ abbrev pub is_sequence_of : ℕ → Node → Bool
 is_sequence_of i (nodes.sequence None element) = element == i
 is_sequence_of i node = false
 
--- the sequence of a type that has an id, or of wide text, is the next type
+-- for a type that has a repository id, or for wide text: the next type, if it is the sequence of
+-- that type
 abbrev pub next_sequence : Table → ℕ → Told
 next_sequence t i = cond (is_sequence_of i (node_at t (i + 1))) (Is (i + 1)) Unknown
 
--- what a sequence of a type tells, whatever its bound
+-- what is told by a sequence of a type, whatever its bound
 abbrev pub sequence_told : Table → ℕ → Told
 sequence_told t i =
     cond (i == OCTET) (Is OCTETS) (cond (nat_le i STRING) (Is (SEQUENCES + i))
@@ -41,13 +44,14 @@ sequence_told t i =
 
 -- ---- ids and counts
 
--- the kind of a struct, a union or an enum
+-- the kind of a type, if it is a struct, a union or an enum
 abbrev pub kind_of : Node → ℕ
 kind_of (nodes.union switch cases otherwise) = 16
 kind_of (nodes.enumeration names) = 17
 kind_of node = 15
 
--- a struct or an enum is known when its count is; a union has none that is heard
+-- what a type with the right repository id and kind tells: a struct or an enum is known after its
+-- count, and a union at once
 abbrev pub of_kind : ℕ → ℕ → Node → Told
 of_kind kind i (nodes.members parts) = cond (kind == 15) (Offers i) Unknown
 of_kind kind i (nodes.union switch cases otherwise) = cond (kind == 16) (Is i) Unknown
@@ -58,25 +62,25 @@ abbrev pub found_as : Table → ℕ → Option TypeId → Told
 found_as t kind None = Unknown
 found_as t kind (Some i) = of_kind kind i.0 (node_at t i.0)
 
--- what a whole id tells, after the octet of its kind
+-- what is told by a whole repository id, after the octet of its kind
 abbrev pub identity_told : Table → List ℕ → Told
 identity_told t [] = Unknown
 identity_told t (kind ∷ id) = found_as t kind (identified_in t id)
 
--- fronts with one more, if it is new
+-- the fronts with one more, if it is new
 abbrev pub with_front : List (List ℕ) → List ℕ → List (List ℕ)
 with_front fs front = cond (list_any (bytes_eq front) fs) fs (fs ++ front ∷ [])
 
--- with that of so many octets of an id, if it has more
+-- the fronts with that of the first n octets of an id, if the id has more
 abbrev pub with_front_of : ℕ → List ℕ → ℕ → List (List ℕ) → List (List ℕ)
 with_front_of kind id n fs = cond (nat_lt n (length id)) (with_front fs (kind ∷ take n id)) fs
 
--- with those of an id of a kind: a string comes in pieces of 32 octets
+-- the fronts with those of an id of a type of this kind: a string comes in pieces of 32 octets
 abbrev pub with_fronts : ℕ → List ℕ → List (List ℕ) → List (List ℕ)
 with_fronts kind id fs =
     with_front_of kind id 96 (with_front_of kind id 64 (with_front_of kind id 32 fs))
 
--- the front with a number
+-- the front with this number
 abbrev pub front_at : Table → ℕ → List ℕ
 front_at t n = slice_index_or t.fronts n []
 
@@ -84,12 +88,13 @@ abbrev pub front_told : Option ℕ → Told
 front_told None = Unknown
 front_told (Some n) = Awaits n
 
--- what has come of an id, after the octet of its kind, tells, and whether more follows
+-- what is told by the octets of a repository id that have come, after the octet of its kind; and
+-- whether more come
 abbrev pub id_told : Table → List ℕ → Bool → Told
 id_told t octets true = front_told (position (bytes_eq octets) t.fronts)
 id_told t octets false = identity_told t octets
 
--- how many members a struct or names an enum has
+-- whether a struct has n members, or an enum n names
 abbrev pub has_count : ℕ → Node → Bool
 has_count n (nodes.members parts) = length parts == n
 has_count n (nodes.enumeration names) = length names == n
@@ -98,18 +103,18 @@ has_count n node = false
 abbrev pub count_told : Table → ℕ → ℕ → Told
 count_told t i n = cond (has_count n (node_at t i)) (Is i) Unknown
 
--- the fronts before the first octet of an id, of a struct, a union and an enum
+-- the fronts before the first octet of an id: of a struct, a union and an enum
 abbrev pub first_fronts : List (List ℕ)
 first_fronts = (15 ∷ []) ∷ (16 ∷ []) ∷ (17 ∷ []) ∷ []
 
--- ---- what is heard, and what follows
+-- ---- what is told, and what follows
 
 -- after the bound of a sequence
 abbrev pub bound_told : Table → Told → Told
 bound_told t (Is i) = sequence_told t i
 bound_told t told = Unknown
 
--- after what tells nothing: only the pieces of an id may come when it is awaited
+-- after something that tells nothing: if an id is awaited, only its pieces may come
 abbrev pub unless_awaited : Told → Told
 unless_awaited (Awaits n) = Unknown
 unless_awaited told = told
@@ -124,7 +129,7 @@ abbrev pub spelt : Table → Told → List ℕ → Bool → Told
 spelt t (Awaits n) octets more = id_told t (front_at t n ++ octets) more
 spelt t told octets more = told
 
--- what a sign changes: the marks 0 and 1 are those of a kind and of a sequence's bound
+-- what has been told after a sign; mark 0 is that of a kind, and mark 1 that of a sequence's bound
 abbrev pub hears : Table → Told → Sign → Told
 hears t told (MarkedNumber zero n) = told_by n
 hears t told (MarkedNumber (suc zero) n) = bound_told t told
@@ -132,7 +137,7 @@ hears t told (MarkedNumber mark n) = unless_awaited told
 hears t told (Counted n) = counted t told n
 hears t told (Spelt octets more) = spelt t told octets more
 
--- what was told selects a type that can follow
+-- what was told selects a type, if it can follow
 abbrev pub selects : (ℕ → Bool) → Told → Sequel
 selects can_follow (Is i) = cond (can_follow i) (Then i) Stops
 selects can_follow Empty = Ends

@@ -1,4 +1,4 @@
--- How what a value tells of what follows it is kept, and how a type hears it (meaning).
+-- How the code keeps what a value has told of what comes next, and which types tell it (meaning).
 use Rattle.std.specs.Prelude.{ℕ, ◌-◌, ◌<◌, ◌++◌}
 use Rattle.giop_sig.specs.declared.types.Following.{Following}
 use Rattle.giop_sig.specs.declared.types.Following.TheVariants as followings
@@ -21,7 +21,7 @@ told_of (signals.Is i) = types.Is i
 told_of signals.Empty = types.Empty
 told_of signals.Unknown = types.Unknown
 
--- and the signal of what was told
+-- the signal that stands for what was told
 abbrev pub signal_of : Told → Signal
 signal_of types.Untold = signals.Untold
 signal_of (types.Awaits n) = signals.Awaits n
@@ -30,13 +30,13 @@ signal_of (types.Is i) = signals.Is i
 signal_of types.Empty = signals.Empty
 signal_of types.Unknown = signals.Unknown
 
--- what a line says by it
+-- what a sign of the code stands for
 abbrev pub sign_is : Sign → types.Sign
 sign_is (signs.Marked mark n) = types.MarkedNumber mark n
 sign_is (signs.Counted n) = types.Counted n
 sign_is (signs.Spelt held rest more) = types.Spelt (held.now ++ rest.now) more
 
--- what follows, by the place behind that of the part that tells it
+-- what a following of the code stands for; the part that tells has place 0
 abbrev pub sequel_of : Following → Sequel
 sequel_of (followings.Then place) = types.Then (place - 1)
 sequel_of followings.Ends = types.Ends
@@ -46,19 +46,19 @@ abbrev pub HasPart : Following → Type 0
 HasPart (followings.Then place) = 0 < place
 HasPart following = Unit {0}
 
--- of a type that doesn't begin with such a part nothing is heard
+-- a type that doesn't begin with such a part tells nothing
 abbrev pub deaf : Hearing
 deaf = record {
   hears = λ told sign. told;
   selects = λ told. types.Ends;
 }
 
--- how a type's part that tells what follows is heard
+-- how the part of a type that tells what comes next is heard
 abbrev pub hearing_in : Ty → Hearing
 hearing_in (Led h F parts) = h
 hearing_in T = deaf
 
--- what a signal becomes by a sign, in a type of that node: only an any hears
+-- the signal after a sign, in a type with this node: only an any tells something
 abbrev pub signal_by_node : Table → Node → Signal → types.Sign → Signal
 signal_by_node C (nodes.any code) told sign = signal_of (hears C (told_of told) sign)
 signal_by_node C node told sign = told

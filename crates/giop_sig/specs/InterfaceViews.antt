@@ -11,12 +11,12 @@ key_view e = (e.0.items, e.1.0)
 abbrev pub interfaces_view : List (ArrayVec ℕ) → List (ArrayVec ℕ × InterfaceId) → Interfaces
 interfaces_view names keys = record { names = map (λ n. n.items) names; keys = map key_view keys }
 
--- a KEY of one of so many interfaces
+-- a KEY of one of the interfaces
 pub record IsKeyOf (interfaces : ℕ) (k : List ℕ × ℕ) : Type 0 where
   pub short : length k.0 ≤ 128
   pub known : k.1 < interfaces
 
--- the names and KEYs are short, and there are fronts of no other sizes
+-- the names and KEYs are short, and there are only fronts of sizes that are marked
 pub record AreKept (marked : List Bool) (i : Interfaces) : Type 0 where
   pub short : All (λ name. length name ≤ 128) i.names
   pub few : length i.names ≤ 1024

@@ -1,11 +1,11 @@
--- Interfaces, and the object keys that are theirs (docs/FORMATS.md, Signature file; meaning).
+-- Interfaces, and the interface of an object key (docs/FORMATS.md, Signature file; meaning).
 use Rattle.std.specs.Prelude.{◌≡◌, ℕ, zero, suc, ◌+◌, ◌-◌, ◌/◌, ◌%◌, ◌<◌, ◌≤◌, ◌==◌, ◌&&◌, ◌||◌, Bool, if◌then◌else◌, nat_le, nat_lt, List, [], ◌∷◌, ◌++◌, length, take, Option, Some, None, codes, slice_index_or}
 use Rattle.std.specs.Map.{lookup}
 use Rattle.std.specs.Option.{option_or}
 use Rattle.std.specs.List.{list_all, list_any, position_or_len}
 use Rattle.std.specs.Str.{bytes_eq}
 
--- the repository ids of the interfaces, and the KEYs, as they are spelled, each with the number of
+-- the repository ids of the interfaces; and the KEYs as they are spelled, each with the number of
 -- its interface
 pub record Interfaces : Type 0 where
   pub names : List (List ℕ)
@@ -20,44 +20,45 @@ no_interfaces = record { names = []; keys = [] }
 abbrev pub digit : ℕ → ℕ
 digit n = if nat_lt n 10 then 48 + n else 87 + n
 
--- octets in hexadecimal digits
+-- octets as hexadecimal digits
 abbrev pub hex : List ℕ → List ℕ
 hex [] = []
 hex (b ∷ bs) = digit (b / 16) ∷ digit (b % 16) ∷ hex bs
 
--- the KEY of a key alone
+-- the KEY for just this key
 abbrev pub whole_text : List ℕ → List ℕ
 whole_text key = hex key
 
--- the KEY of all keys that begin with these octets
+-- the KEY for all keys that begin with these octets
 abbrev pub front_text : List ℕ → List ℕ
 front_text octets = hex octets ++ codes "*"
 
 abbrev pub is_digit : ℕ → Bool
 is_digit b = (nat_le 48 b && nat_le b 57) || (nat_le 97 b && nat_le b 102)
 
--- its digits, without the last octet where that is *
+-- the digits of a KEY, without the last octet if that is *
 abbrev pub digits_of : List ℕ → List ℕ
 digits_of text =
     if slice_index_or text (length text - 1) 0 == 42 then take (length text - 1) text else text
 
--- hexadecimal digits in lower case, an even number of them, and perhaps *
+-- whether a KEY is spelled like this: with an even number of hexadecimal digits in lower case, and
+-- perhaps *
 abbrev pub is_key : List ℕ → Bool
 is_key text = list_all is_digit (digits_of text) && (length (digits_of text) % 2 == 0)
 
 -- ---- what is added
 
--- the number of an interface, which is the next one if it is new
+-- the number of the interface with a repository id; the next number if it is new
 abbrev pub number_of : Interfaces → List ℕ → ℕ
 number_of i id = position_or_len (bytes_eq id) i.names
 
--- with an interface, if it is new
+-- the interfaces with one more, if it is new
 abbrev pub with_interface : Interfaces → List ℕ → Interfaces
 with_interface i id = record i {
   names = if list_any (bytes_eq id) i.names then i.names else i.names ++ id ∷ [];
 }
 
--- with a KEY of an interface
+-- the interfaces with one more KEY
 abbrev pub with_key : Interfaces → List ℕ → List ℕ → Interfaces
 with_key i text id = record (with_interface i id) {
   keys = i.keys ++ (text, number_of i id) ∷ [];
@@ -69,7 +70,7 @@ with_key i text id = record (with_interface i id) {
 abbrev pub of_text : Interfaces → List ℕ → Option ℕ
 of_text i text = lookup (bytes_eq text) i.keys
 
--- the interface of the longest front of a key that has one, of those of at most so many octets
+-- the interface of the longest front of a key that has one, among the fronts of at most n octets
 unfoldable pub longest_front : Interfaces → List ℕ → ℕ → Option ℕ
 longest_front i key zero = of_text i (front_text [])
 longest_front i key (suc n) =
@@ -81,8 +82,8 @@ of_key i key =
     if nat_lt 128 (length key) then None
     else option_or (of_text i (whole_text key)) (longest_front i key (length key))
 
--- whose an object key is: that of the KEY which it is, or else that of the longest of the KEYs with *
--- with which it begins, or else none; one of more than 128 octets has none
+-- the interface of an object key is that of the KEY for just this key, or else of the longest KEY
+-- with * that it begins with, or else there is none; a key of more than 128 octets has none
 pub record IsInterfaceOf (i : Interfaces) (key : List ℕ) (o : Option ℕ) : Type 0 where
   pub long : 128 < length key → o ≡ None
   pub whole : length key ≤ 128 → (n : ℕ) → of_text i (whole_text key) ≡ Some n → o ≡ Some n

@@ -1,8 +1,6 @@
--- Reading members from left to right: items, structs and exceptions (steps).
+-- Reading items, structs and exceptions from left to right (steps).
 use Rattle.std.specs.Prelude.{ℕ, zero, suc, Bool, true, false, if◌then◌else◌, nat_le, List, [], ◌∷◌, ◌++◌, length, Option, Some, None, Result, Ok, Err, option_and_then}
-use Rattle.std.specs.Map.{lookup}
 use Rattle.std.specs.Option.{is_some}
-use Rattle.std.specs.Str.{bytes_eq}
 use Rattle.giop_tokens.specs.declared.fault.Refusal.{Refusal}
 use Rattle.giop_tokens.specs.declared.fault.SigFaultKind.TheVariants as kinds
 use Rattle.giop_tokens.specs.declared.marks.Mark.TheVariants as marks
@@ -13,15 +11,17 @@ use Rattle.giop_tokens.specs.Names.{identifier_at}
 use Rattle.giop_sig.specs.Table.{Node, Part, exception_in, identified_in}
 use Rattle.giop_sig.specs.Table as nodes
 use Rattle.giop_sig.specs.Trees.{depth_of}
-use Rattle.giop_sig.specs.Scopes.{is_third, Scope, AddedType, add_arrays, part, with_node, with_named, with_raised}
-use Rattle.giop_sig.specs.Validity.{is_among}
+use Rattle.giop_sig.specs.declared.announced.TypeWord.{TypeWord}
+use Rattle.giop_sig.specs.declared.announced.TypeWord.TheVariants as type_words
+use Rattle.giop_sig.specs.Scopes.{is_third, Scope, AddedType, add_announced_type, add_arrays, announced_as, part, with_announced, with_node, with_named, with_raised}
+use Rattle.giop_sig.specs.Validity.{is_among, is_taken}
 use Rattle.giop_sig.specs.Outcomes.{refused}
 use Rattle.giop_sig.specs.TypeReading.{enclosed_at, type_at}
 use Rattle.giop_sig.specs.Repeats.{in_steps}
 
 -- ---- names
 
--- a name after those of its list, which may have so many
+-- a name that isn't in `seen`, which may have `most` names
 unfoldable pub new_name_at : Bool → ℕ → List (List ℕ) → List ℕ
     → Result (List ℕ × List ℕ) Refusal
 new_name_at third most seen text = do
@@ -29,11 +29,13 @@ new_name_at third most seen text = do
   if is_among seen n.0 then Err (refused kinds.Duplicate text)
       else (if nat_le most (length seen) then Err (refused kinds.Limit text) else Ok (n.0, n.1))
 
--- the name of an enum, struct, union or exception, of which the scope has so many
-unfoldable pub declared_at : Scope → ℕ → List ℕ → Result (List ℕ × List ℕ) Refusal
-declared_at s count text = do
+-- the new name of an enum, struct, union or exception; the scope has `count` of these, and `word`
+-- is the first word of a struct or union
+unfoldable pub declared_at : Scope → Option TypeWord → ℕ → List ℕ
+    → Result (List ℕ × List ℕ) Refusal
+declared_at s word count text = do
   n ← identifier_at (is_third s.names) text
-  if is_some (lookup (bytes_eq n.0) s.names.known) then Err (refused kinds.Duplicate text)
+  if is_taken s.names word n.0 then Err (refused kinds.Duplicate text)
       else (if nat_le 4096 count then Err (refused kinds.Limit text) else Ok (n.0, n.1))
 
 -- ---- items
@@ -41,14 +43,14 @@ declared_at s count text = do
 abbrev pub ItemRead : Type 0
 ItemRead = Scope × Part × List ℕ
 
--- the lengths of arrays, the outermost first, and what follows them
+-- the lengths of arrays, the outermost first, and the rest of the text
 abbrev pub LengthsRead : Type 0
 LengthsRead = List ℕ × List ℕ
 
 abbrev pub onto_lengths : ℕ → LengthsRead → LengthsRead
 onto_lengths n ls = (n ∷ ls.0, ls.1)
 
--- a length that may have come, and the others
+-- a length, if there is one, and the others
 abbrev pub lengths_after : (List ℕ → Result LengthsRead Refusal) → Option ℕ × List ℕ
     → Result LengthsRead Refusal
 lengths_after others (None, rest) = Ok ([], rest)
@@ -56,19 +58,19 @@ lengths_after others (Some n, rest) = do
   ls ← others rest
   Ok (onto_lengths n ls)
 
--- the lengths that come next, at most so many
+-- the lengths that come next, at most `most`
 unfoldable pub lengths_at : ℕ → List ℕ → Result LengthsRead Refusal
 lengths_at zero text = Ok ([], text)
 lengths_at (suc most) text = do
   l ← enclosed_at marks.OpenBracket marks.CloseBracket text
   lengths_after (lengths_at most) l
 
--- How many lengths an item may have: in a file of version 3 all that come, and a text has fewer
--- than octets; in an older one a single length.
+-- How many lengths an item may have: in a file of version 3 any number, which is less than the
+-- octets of the text; in an older one a single length.
 abbrev pub most_lengths : Bool → List ℕ → ℕ
 most_lengths third text = if third then length text else 1
 
--- an item of a type that was read, with this name
+-- an item with a type that was read and this name
 abbrev pub read_item : AddedType → List ℕ → List ℕ → ItemRead
 read_item p w rest = (p.0, part w p.1, rest)
 
@@ -81,7 +83,7 @@ item_at most seen s text = do
 
 -- ---- members
 
--- the names of the members that were read, the members, and what follows them
+-- the names of the members that were read, the members, and the rest of the text
 abbrev pub Members : Type 0
 Members = Scope × List (List ℕ) × List Part × List ℕ
 
@@ -95,7 +97,7 @@ abbrev pub member_after : Members → Option (List ℕ) → Result (Bool × Memb
 member_after m (Some r) = Ok (true, (m.0, m.1, m.2, r))
 member_after m None = member_at m
 
--- the closing mark, or a member more
+-- the closing mark, or one more member
 unfoldable pub member_step : Members → Result (Bool × Members) Refusal
 member_step m = do
   c ← mark_if marks.CloseBrace m.3
@@ -110,7 +112,7 @@ MembersRead = Scope × List Part × List ℕ
 abbrev pub members_read : Members → Result MembersRead Refusal
 members_read m = Ok (m.0, m.2, m.3)
 
--- members up to the closing mark, in so many steps
+-- members up to the closing mark, in at most n steps
 abbrev pub members_run : ℕ → Members → Result MembersRead Refusal
 members_run n m = in_steps member_step too_many_members n m >>= members_read
 
@@ -129,11 +131,11 @@ filled_at text = do
 
 -- ---- the repository id of a type
 
--- the id of a type, where it has one, and what follows
+-- the repository id of a type, if it has one, and the rest of the text
 abbrev pub IdentityRead : Type 0
 IdentityRead = Option (List ℕ) × List ℕ
 
--- a new id, the first token of the text; nothing where that is another token
+-- a new repository id, which is the first token of the text; nothing if that is another token
 abbrev pub identity_after : Scope → List ℕ → Option (List ℕ) → List ℕ → Result IdentityRead Refusal
 identity_after s text None rest = Ok (None, text)
 identity_after s text (Some id) rest =
@@ -145,44 +147,71 @@ identity_by s text = do
   t ← next text
   identity_after s text (option_and_then as_repository t.0) t.1
 
--- the id of a type, where one comes; only in a file of version 3 it may
+-- the repository id of a type, if one comes; it may come in a file of version 3 only
 unfoldable pub identity_at : Scope → List ℕ → Result IdentityRead Refusal
 identity_at s text = if is_third s.names then identity_by s text else Ok (None, text)
 
 -- ---- the end of a declaration
 
--- a scope after a declaration, and what follows that
+-- the scope after a declaration, and the rest of the text
 abbrev pub Declared : Type 0
 Declared = Scope × List ℕ
 
--- too many levels, in the declaration whose name is at this place
+-- a type is too deep in the declaration whose name is at this place
 abbrev pub too_deep : ℕ → Refusal
 too_deep at = record { kind = kinds.Depth; left = at }
 
--- the end of a declaration whose name is at this place, in the scope that it makes: its mark; and
--- no type may be too deep
+-- the end of a declaration whose name is at this place, with the scope that it makes: a semicolon,
+-- and no type is too deep
 unfoldable pub end_of : ℕ → Scope → List ℕ → Result Declared Refusal
 end_of at s text = do
   r ← mark_at marks.Semicolon text
   if nat_le (depth_of s.table.types) 24 then Ok (s, r) else Err (too_deep at)
 
--- the end of an enum, struct or union, whose type has this node, and perhaps a repository id
+-- the end of an enum, struct or union, whose type has this node, and a repository id if it has one
 abbrev pub type_end_at : ℕ → List ℕ → Option (List ℕ) → Scope → Node → List ℕ
     → Result Declared Refusal
 type_end_at at name id s node text = end_of at (with_named name id (with_node s node)) text
 
+-- ---- announcements
+
+abbrev pub announces_by : List ℕ → Result Bool Refusal
+announces_by text = do
+  rest ← mark_if marks.Semicolon text
+  Ok (is_some rest)
+
+-- whether a declaration ends after its name, and so announces it; it may do so in a file of version
+-- 3 only
+unfoldable pub announces_at : Scope → List ℕ → Result Bool Refusal
+announces_at s text = if is_third s.names then announces_by text else Ok false
+
+-- the end of an announcement, whose name is at the front of `text` and must not be announced yet
+unfoldable pub announcement_at : Scope → TypeWord → List ℕ → List ℕ → List ℕ
+    → Result Declared Refusal
+announcement_at s word text w rest =
+    if is_some (announced_as s.names w) then Err (refused kinds.Duplicate text)
+    else end_of (left_of text) (with_announced word w (add_announced_type s)) rest
+
 -- ---- declarations of members, each after its first word
 
-unfoldable pub structure_at : Scope → List ℕ → Result Declared Refusal
-structure_at s text = do
-  n ← declared_at s s.table.declared text
-  i ← identity_at s n.1
+-- a struct, after its name, which is at the front of `text`
+unfoldable pub structure_after : Scope → List ℕ → List ℕ → List ℕ → Result Declared Refusal
+structure_after s text w rest = do
+  i ← identity_at s rest
   o ← mark_at marks.OpenBrace i.1
   f ← filled_at o
   m ← members_at s f
-  type_end_at (left_of text) n.0 i.0 m.0 (nodes.members m.1) m.2
+  type_end_at (left_of text) w i.0 m.0 (nodes.members m.1) m.2
 
--- a repository id that is new
+-- a struct, or its announcement
+unfoldable pub structure_at : Scope → List ℕ → Result Declared Refusal
+structure_at s text = do
+  n ← declared_at s (Some type_words.Struct) s.table.declared text
+  a ← announces_at s n.1
+  if a then announcement_at s type_words.Struct text n.0 n.1
+      else structure_after s text n.0 n.1
+
+-- a new repository id of an exception
 unfoldable pub new_repository_at : Scope → List ℕ → Result (List ℕ × List ℕ) Refusal
 new_repository_at s text = do
   i ← repository_at text
@@ -190,7 +219,7 @@ new_repository_at s text = do
 
 unfoldable pub exception_at : Scope → List ℕ → Result Declared Refusal
 exception_at s text = do
-  n ← declared_at s (length s.table.exceptions) text
+  n ← declared_at s None (length s.table.exceptions) text
   i ← new_repository_at s n.1
   o ← mark_at marks.OpenBrace i.1
   m ← members_at s o

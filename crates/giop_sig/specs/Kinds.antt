@@ -1,13 +1,14 @@
--- Numbers with a mark: the kinds of a TypeCode and their words (CDR Transfer Syntax, Pseudo-Object
--- Types, TypeCode; meaning).
+-- Numbers with a mark that are kinds of a TypeCode, and their words (CDR Transfer Syntax,
+-- Pseudo-Object Types, TypeCode; meaning).
 use Rattle.std.specs.Prelude.{ℕ, ◌==◌, ◌||◌, Bool, cond, codes, List, [], ◌∷◌, Option, Some, None, slice_get}
 
--- Whether a number with a mark is a kind. The marks are: 0 a kind that is heard, 1 the bound of a
--- sequence, 2 a kind that isn't heard, 3 to 6 a number that may have a name (Names).
+-- Whether a number with this mark is a kind. Mark 0 is that of a kind that tells the type of a
+-- value, 1 that of the bound of a sequence, 2 that of any other kind, and 3 to 6 are those of
+-- numbers that may have names (Names).
 abbrev pub is_kind : ℕ → Bool
 is_kind mark = (mark == 0) || (mark == 2)
 
--- the words of the kinds, from 0 on
+-- the words of the kinds, from kind 0 on
 abbrev pub kind_words : List (List ℕ)
 kind_words =
     codes "tk_null" ∷ codes "tk_void" ∷ codes "tk_short" ∷ codes "tk_long"
@@ -21,10 +22,10 @@ kind_words =
     ∷ codes "tk_abstract_interface" ∷ codes "tk_local_interface" ∷ codes "tk_component"
     ∷ codes "tk_home" ∷ codes "tk_event" ∷ []
 
--- the word of a kind: 4294967295 is no kind, and stands for a TypeCode that came before
+-- the word of a kind; 4294967295 isn't a kind, and refers to an earlier TypeCode
 abbrev pub kind_word : ℕ → Option (List ℕ)
 kind_word n = cond (n == 4294967295) (Some (codes "indirection")) (slice_get kind_words n)
 
--- the word of a number with a mark: a number that is no kind has none
+-- the word of a number with this mark; none if it isn't a kind
 abbrev pub marked_word : ℕ → ℕ → Option (List ℕ)
 marked_word mark n = cond (is_kind mark) (kind_word n) None

@@ -30,4 +30,5 @@ pub mod UnionReading
 pub mod Labels
 pub mod FileReading
 pub mod ScopeViews
+pub mod Settling
 pub mod Hearings

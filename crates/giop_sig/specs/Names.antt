@@ -1,10 +1,10 @@
--- Numbers with a mark that have names: a service context's id, a profile's tag, a code set and the
--- minor code of a system exception (General Inter-ORB Protocol; meaning).
+-- Numbers with a mark that have names: the id of a service context, the tag of a profile, a code
+-- set, and the minor code of a system exception (General Inter-ORB Protocol; meaning).
 use Rattle.std.specs.Prelude.{ℕ, ◌==◌, ◌/◌, ◌%◌, cond, codes, decimal, List, [], ◌∷◌, ◌++◌, Option, Some, None, slice_get}
 use Rattle.std.specs.Option.{option_map}
 use Rattle.giop_sig.specs.declared.names.NumberName.{NumberName}
 
--- the names of the ids of service contexts, from 0 on (IOP, Standard Service Contexts)
+-- the names of the ids of service contexts, from id 0 on (IOP, Standard Service Contexts)
 abbrev pub context_names : List (List ℕ)
 context_names =
     codes "TransactionService" ∷ codes "CodeSets" ∷ codes "ChainBypassCheck"
@@ -15,7 +15,7 @@ context_names =
     ∷ codes "SecurityAttributeService" ∷ codes "ActivityService"
     ∷ codes "RMICustomMaxStreamFormat" ∷ []
 
--- the names of the tags of profiles, from 0 on (IOP, Standard IOR Profiles)
+-- the names of the tags of profiles, from tag 0 on (IOP, Standard IOR Profiles)
 abbrev pub profile_names : List (List ℕ)
 profile_names =
     codes "TAG_INTERNET_IOP" ∷ codes "TAG_MULTIPLE_COMPONENTS" ∷ codes "TAG_SCCP_IOP"
@@ -31,28 +31,27 @@ code_set_name n =
     (cond (n == 0x00010109) (Some (codes "UTF_16"))
     (cond (n == 0x05010001) (Some (codes "UTF_8")) None)))))
 
--- the name of the vendor that has these upper 20 bits of minor codes (IDL to wire mapping, Minor
--- Code Allocation)
+-- the vendor with these upper 20 bits of minor codes (IDL to wire mapping, Minor Code Allocation)
 unfoldable pub vendor_name : ℕ → Option (List ℕ)
 vendor_name n =
     cond (n == 0x4f4d0) (Some (codes "OMG"))
     (cond (n == 0x41540) (Some (codes "omniORB"))
     (cond (n == 0x54410) (Some (codes "TAO")) None))
 
--- the name of a minor code: its vendor, and the lower 12 bits as the vendor's code
+-- the name of a minor code: its vendor, and its lower 12 bits as the vendor's code
 abbrev pub minor_name : ℕ → Option (List ℕ)
 minor_name n =
     option_map (λ vendor. vendor ++ (codes " " ++ decimal (n % 4096))) (vendor_name (n / 4096))
 
--- the name of a number with a mark: those of the ids of service contexts are 3, of the tags of
--- profiles 4, of code sets 5 and of minor codes 6, and the kinds and bounds of TypeCodes have none
+-- the name of a number with this mark: mark 3 is that of the ids of service contexts, 4 of the tags
+-- of profiles, 5 of code sets, and 6 of minor codes; kinds and bounds of TypeCodes have no names
 unfoldable pub marked_name : ℕ → ℕ → Option (List ℕ)
 marked_name mark n =
     cond (mark == 3) (slice_get context_names n)
     (cond (mark == 4) (slice_get profile_names n)
     (cond (mark == 5) (code_set_name n) (cond (mark == 6) (minor_name n) None)))
 
--- a word as it is written, with the code after it if there is one
+-- a word as it is written, and then the code if there is one
 abbrev pub coded : List ℕ → Option ℕ → List ℕ
 coded word None = word
 coded word (Some code) = word ++ (codes " " ++ decimal code)

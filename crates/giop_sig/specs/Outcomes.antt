@@ -1,4 +1,4 @@
--- The result of a function of the reader against what reading gives (steps).
+-- How the result of a function of the code compares with what reading gives (steps).
 use Rattle.std.specs.Prelude.{◌≡◌, ℕ, List, Result, Ok, Err}
 use Rattle.giop_tokens.specs.declared.fault.Refusal.{Refusal}
 use Rattle.giop_tokens.specs.declared.fault.SigFaultKind.{SigFaultKind}
@@ -11,11 +11,11 @@ abbrev pub Stops : {Y : Type 0} → ParseStop → Result Y Refusal → Type 0
 Stops stops.Memory read = Unit {0}
 Stops (stops.Refused r) read = read ≡ Err r
 
--- what a function returned, seen by a view, is what reading gives, unless memory was refused
+-- what a function answered, as contracts see it, is what reading gives, unless memory was refused
 abbrev pub Gives : {X Y : Type 0} → (X → Y) → Result X ParseStop → Result Y Refusal → Type 0
 Gives view (Ok x) read = read ≡ Ok (view x)
 Gives view (Err e) read = Stops e read
 
--- a refusal of the first token of a text
+-- a refusal at the first token of a text
 abbrev pub refused : SigFaultKind → List ℕ → Refusal
 refused k text = record { kind = k; left = left_of text }

@@ -1,4 +1,5 @@
--- The parameters that were read, and an operation's name and structs, as contracts see them (state).
+-- The parameters that were read, and an operation's name and structs, as contracts see them
+-- (state).
 use Rattle.std.specs.Prelude.{◌≡◌, map}
 use Rattle.giop_sig.specs.declared.read_calls.Parameters.{Parameters}
 use Rattle.giop_sig.specs.declared.read_calls.Called as code
@@ -21,7 +22,7 @@ called_view c = record {
   reply = c.signature.reply.0;
 }
 
--- a scope with the types and as many operations as before
+-- a scope has the same types as before, and as many operations
 pub record KeepsTypes (before s : Scope) : Type 0 where
   pub types : s.table.types ≡ before.table.types
   pub called : s.table.called ≡ before.table.called

@@ -1,9 +1,9 @@
--- Reading in repeated steps, each of which gives whether it was the last (steps).
+-- Reading in repeated steps, each of which says whether it was the last (steps).
 use Rattle.std.specs.Prelude.{ℕ, zero, suc, Bool, if◌then◌else◌, Result, Ok, Err}
 use Rattle.giop_tokens.specs.declared.fault.Refusal.{Refusal}
 use Rattle.giop_tokens.specs.Reading.{◌>>=◌}
 
--- at most so many steps; where none is the last, a refusal of the state after them
+-- at most `left` steps; if none of them is the last, the state after them is refused
 unfoldable pub in_steps : {S : Type 0} → (S → Result (Bool × S) Refusal) → (S → Refusal)
     → ℕ → S → Result S Refusal
 in_steps step limit zero s = Err (limit s)

@@ -14,7 +14,7 @@ use Rattle.giop_sig.specs.declared.fault.ListFaultKind.TheVariants.{Syntax, Limi
 
 -- ---- the text
 
--- its lines, each ended by LF; the last LF may be missing
+-- the lines of a text, each ended by LF; the last LF may be missing
 abbrev pub lines : List ℕ → List (List ℕ)
 lines [] = []
 lines (b ∷ bs) = if b == 10 then [] ∷ lines bs else onto_first b (lines bs)
@@ -24,26 +24,26 @@ pub record Asked : Type 0 where
   pub name : List ℕ
   pub interface : Option (List ℕ)
 
--- one line of a list: a request of this id asked for this
+-- one line of a list: a request with this id asked for this
 pub record Entry : Type 0 where
   pub id : ℕ
   pub asked : Asked
 
--- a printed octet of ASCII, and no space
+-- a printable octet of ASCII other than a space
 abbrev pub IsNameOctet : ℕ → Type 0
 IsNameOctet b = (33 ≤ b) × (b ≤ 126)
 
--- 1 to 128 such octets
+-- a name is 1 to 128 such octets
 pub record IsName (name : List ℕ) : Type 0 where
   pub some : 0 < length name
   pub short : length name ≤ 128
   pub octets : All IsNameOctet name
 
--- `third` says whether a line may have a third word: with a catalogue of version 3
+-- whether a line may have a third word: it may if the catalogue has version 3
 abbrev pub third_in : Table → Bool
 third_in C = C.version == 3
 
--- what an entry may ask for; a repository id is of the octets of a name
+-- what an entry may ask for; a repository id is spelled like a name
 pub record IsAsked (third : Bool) (a : Asked) : Type 0 where
   pub name : IsName a.name
   pub interface : IfSome a.interface (λ id. IsTrue third × IsName id)
@@ -53,16 +53,16 @@ pub record IsEntry (third : Bool) (e : Entry) : Type 0 where
   pub id : e.id < 2 ^ 32
   pub asked : IsAsked third e.asked
 
--- a name, and perhaps a space and a repository id
+-- a name, or a name, a space and a repository id
 abbrev pub words : List ℕ → Option (List ℕ) → List ℕ
 words name None = name
 words name (Some id) = name ++ 32 ∷ id
 
--- the line of an entry: its id in decimal with no leading zero, a space, its words
+-- the line of an entry: its id in decimal without leading zeros, a space, and its words
 abbrev pub line_of : Entry → List ℕ
 line_of e = decimal e.id ++ 32 ∷ words e.asked.name e.asked.interface
 
--- the line is some entry's
+-- the line is that of an entry
 abbrev pub IsEntryLine : Bool → List ℕ → Type 0
 IsEntryLine third line = (e : Entry) × IsEntry third e × (line ≡ line_of e)
 
@@ -75,7 +75,7 @@ pub record Lists (third : Bool) (text : List ℕ) (es : List Entry) : Type 0 whe
 
 -- ---- the refusals
 
--- the lines before this one, the k-th, are entries
+-- the lines before the k-th one, which is this, are entries
 pub record ReachesLine (third : Bool) (text : List ℕ) (es : List Entry) (line : List ℕ)
     (k : ℕ) : Type 0 where
   pub octets : length text ≤ 16777216
@@ -83,8 +83,8 @@ pub record ReachesLine (third : Bool) (text : List ℕ) (es : List Entry) (line 
   pub rest : (after : List (List ℕ)) × (lines text ≡ map line_of es ++ line ∷ after)
   pub number : k ≡ length es + 1
 
--- the first line refused is the k-th, and this is why: it is no entry, or the text is too long, or
--- the line is an entry too many
+-- the first line that is refused is the k-th, for this reason: it isn't an entry, or the text is
+-- too long, or the line is an entry too many
 abbrev pub IsRefusedAs : Bool → List ℕ → ℕ → ListFaultKind → Type 0
 IsRefusedAs third text k Syntax =
     (es : List Entry) × (line : List ℕ) × ReachesLine third text es line k
@@ -97,35 +97,34 @@ IsRefusedAs third text k OutOfMemory = k ≡ 0
 
 -- ---- the operation of an id
 
--- what the entries of an id ask for
+-- what the entries with an id ask for
 abbrev pub asked_of : List Entry → ℕ → List Asked
 asked_of es id = map (λ e. e.asked) (filter (λ e. id == e.id) es)
 
--- the same name, and the same interface or none
+-- whether the names are the same, and so are the interfaces, or there are none
 abbrev pub same_asked : Asked → Asked → Bool
 same_asked a b = bytes_eq a.name b.name && option_eq bytes_eq a.interface b.interface
 
--- the one that all of these are
+-- the one that all of these are the same as
 abbrev pub the_one : List Asked → Option Asked
 the_one [] = None
 the_one (a ∷ others) = if list_all (same_asked a) others then Some a else None
 
--- gives the number of the operation of a name and of an interface by its repository id, or of none
+-- gives the number of the operation with a name, in the interface with a repository id or in none
 abbrev pub Find : Type 0
 Find = List ℕ → Option (List ℕ) → Option ℕ
 
--- the operation of an id: that of the one name, and the one interface or none, that all its entries
--- have
+-- the operation of an id, if all its entries have the same name and the same interface or none
 abbrev pub operation_of : Find → List Entry → ℕ → Option ℕ
 operation_of find es id = option_and_then (λ a. find a.name a.interface) (the_one (asked_of es id))
 
--- ---- what is stored of a list: the ids, each once, with their operations
+-- ---- what is stored of a list: the ids, each once, and their operations
 
 abbrev pub flat : {A : Type 0} → Option (Option A) → Option A
 flat None = None
 flat (Some x) = x
 
--- the operation that is stored with an id
+-- the operation that is stored for an id
 abbrev pub kept_operation : List (ℕ × Option OpId) → ℕ → Option OpId
 kept_operation kept id = flat (lookup (nat_eq id) kept)
 
@@ -134,30 +133,30 @@ abbrev pub ids_of : List Entry → List ℕ
 ids_of [] = []
 ids_of (e ∷ es) = e.id ∷ filter (λ id. not (id == e.id)) (ids_of es)
 
--- a number as an operation
+-- the operation with a number
 abbrev pub as_operation : ℕ → OpId
 as_operation k = record { 0 = k }
 
--- these ids, each with the one that all its entries ask for
+-- the ids, each with what all its entries ask for
 abbrev pub asked_by : List Entry → List (ℕ × Option Asked)
 asked_by es = map (λ id. (id, the_one (asked_of es id))) (ids_of es)
 
--- an id with the operation of what is asked for with it, by find
+-- an id with the operation that is found for what is asked for
 abbrev pub found_of : Find → ℕ × Option Asked → ℕ × Option OpId
 found_of find e =
     (e.0, option_map as_operation (option_and_then (λ a. find a.name a.interface) e.1))
 
--- what is stored of a list, by find: its ids, each with its operation
+-- what is stored of a list: its ids, each with the operation that is found
 abbrev pub kept_of : Find → List Entry → List (ℕ × Option OpId)
 kept_of find es = map (λ id. (id, option_map as_operation (operation_of find es id))) (ids_of es)
 
--- what is stored gives the same operations as the list, by find
+-- what is stored gives the same operations as the list
 pub record IsOf (find : Find) (es : List Entry) (kept : List (ℕ × Option OpId)) : Type 0 where
   pub operation : (id : ℕ) → option_map (λ o. o.0) (kept_operation kept id)
       ≡ operation_of find es id
   pub count : length kept ≡ distinct_count nat_eq (map (λ e. e.id) es)
 
--- the one that all entries of an id ask for, after one more entry
+-- what all entries of an id ask for, after one more entry
 abbrev pub joined : Option (Option Asked) → Asked → Option Asked
 joined None a = Some a
 joined (Some None) a = None

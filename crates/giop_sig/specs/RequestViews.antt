@@ -7,6 +7,6 @@ use Rattle.giop_sig.specs.RequestList.{Asked}
 abbrev pub words_view : Words → Asked
 words_view w = record { name = w.name.now; interface = option_map (λ id. id.now) w.interface }
 
--- an id with what all its entries ask for
+-- an id, with what all its entries ask for
 abbrev pub asked_view : ℕ × Option Words → ℕ × Option Asked
 asked_view e = (e.0, option_map words_view e.1)

@@ -1,23 +1,45 @@
--- The fields of a draft as contracts see them: its scope, and what holds of that (state).
-use Rattle.std.specs.Prelude.{◌≡◌, ℕ, ◌≤◌, List, ◌++◌, length, map, Option, Some, None}
+-- The fields of a draft as contracts see them: its scope, and what is true of it (state).
+use Rattle.std.specs.Prelude.{◌≡◌, ◌⊎◌, ℕ, ◌<◌, ◌≤◌, Bool, true, false, List, ◌++◌, length, map, Option, Some, None}
 use Rattle.std.specs.List.{AllByRecursion}
 use Rattle.std.specs.Option.{option_map}
+use Rattle.std.specs.Str.{bytes_eq}
 use Rattle.arrayvec.specs.ArrayVec.{ArrayVec}
 use Rattle.giop_sig.specs.declared.types.TypeId.{TypeId}
-use Rattle.giop_sig.specs.Table.{Node, Table, IsInner, identified_in}
+use Rattle.giop_sig.specs.declared.announced.Announcement.{Announcement}
+use Rattle.giop_sig.specs.Table.{Node, Table, IsInner, announced, identified_in, node_in}
 use Rattle.giop_sig.specs.AnyTypes.{first_types}
 use Rattle.giop_sig.specs.Trees.{AreFormed}
 use Rattle.giop_sig.specs.HeaderTypes.{TableOf}
-use Rattle.giop_sig.specs.Scopes.{Scope}
+use Rattle.giop_sig.specs.Scopes.{Announced, Scope}
+
+abbrev pub number_of_id : Option TypeId → Option ℕ
+number_of_id t = option_map (λ (x : TypeId). x.0) t
+
+-- whether two keys have the same octets
+abbrev pub key_is : ArrayVec ℕ → ArrayVec ℕ → Bool
+key_is a b = bytes_eq a.items b.items
 
 abbrev pub name_view : ArrayVec ℕ × Option TypeId → List ℕ × Option ℕ
 name_view e = (e.0.items, option_map (λ t. t.0) e.1)
 
-abbrev pub scope_view : ℕ → Table → List (ArrayVec ℕ × Option TypeId) → Scope
-scope_view version t es =
-    record { table = t; names = record { version = version; known = map name_view es } }
+abbrev pub announcement_view : Announcement → Announced
+announcement_view a = record { word = a.word; type = a.type_id.0 }
 
--- a type that others can have for a part
+abbrev pub announced_view : ArrayVec ℕ × Announcement → List ℕ × Announced
+announced_view e = (e.0.items, announcement_view e.1)
+
+abbrev pub scope_view : ℕ → Table → List (ArrayVec ℕ × Option TypeId)
+    → List (ArrayVec ℕ × Announcement) → Scope
+scope_view version t es xs = record {
+  table = t;
+  names = record {
+    version = version;
+    known = map name_view es;
+    announced = map announced_view xs;
+  };
+}
+
+-- a type that other types may have as a part
 abbrev pub IsKnown : List Node → ℕ → Type 0
 IsKnown types i = IsInner types (length types) i
 
@@ -25,22 +47,41 @@ abbrev pub IsKnownType : List Node → Option ℕ → Type 0
 IsKnownType types None = Unit {0}
 IsKnownType types (Some i) = IsKnown types i
 
+-- a type that stands for an announcement, in version 3
+pub record IsAnnounced (version : ℕ) (types : List Node) (i : ℕ) : Type 0 where
+  pub third : version ≡ 3
+  pub below : i < length types
+  pub is : (place : ℕ) × (node_in types i ≡ announced place)
+
+-- a type that the elements of a sequence may have
+abbrev pub IsElement : ℕ → List Node → ℕ → Type 0
+IsElement version types i = IsKnown types i ⊎ IsAnnounced version types i
+
+-- a type that may be in another one, perhaps as that of a sequence's elements
+abbrev pub CanStand : Bool → ℕ → List Node → ℕ → Type 0
+CanStand true version types i = IsElement version types i
+CanStand false version types i = IsKnown types i
+
+-- a name that is announced
+abbrev pub IsAnnouncedName : ℕ → List Node → List ℕ × Announced → Type 0
+IsAnnouncedName version types e = IsAnnounced version types e.1.type
+
 pub record IsDeclaredName (types : List Node) (e : List ℕ × Option ℕ) : Type 0 where
   pub short : length e.0 ≤ 64
   pub type : IsKnownType types e.1
 
--- the types with which a file of the version begins are in the table, and the named types, which
--- can be parts
+-- the table begins with the types of the file's version, and the types of names may be parts
 pub record IsScope (s : Scope) : Type 0 where
   pub begins : (more : List Node) × (s.table.types ≡ first_types s.names.version ++ more)
   pub names : AllByRecursion (IsDeclaredName s.table.types) s.names.known
+  pub announced : AllByRecursion (IsAnnouncedName s.table.version s.table.types) s.names.announced
 
--- a repository id that a type may get, where it gets one
+-- a repository id that a type may get, if it gets one
 abbrev pub IsNewIdentity : Table → Option (List ℕ) → Type 0
 IsNewIdentity t None = Unit {0}
 IsNewIdentity t (Some id) = (length id ≤ 128) × (identified_in t id ≡ None)
 
--- what holds of a draft, in which a type may be too deep until its declaration ends
+-- what is true of a draft, in which a type may be too deep until its declaration ends
 pub record IsDraft (s : Scope) : Type 0 where
   pub scope : IsScope s
   pub table : TableOf AreFormed s.table

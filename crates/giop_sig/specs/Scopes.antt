@@ -1,6 +1,6 @@
 -- What declarations add: the types, operations and exceptions of a table, and the names that later
 -- declarations may use (docs/FORMATS.md, Signature file; meaning).
-use Rattle.std.specs.Prelude.{ℕ, ◌+◌, ◌==◌, ◌-ℤ◌, Bool, true, false, if◌then◌else◌, cond, nat_le, nat_lt, ℤ, pos, List, [], ◌∷◌, ◌++◌, length, Option, Some, None, codes, position}
+use Rattle.std.specs.Prelude.{ℕ, ◌+◌, ◌==◌, ◌-ℤ◌, Bool, true, false, if◌then◌else◌, cond, nat_le, nat_lt, ℤ, pos, List, [], ◌∷◌, ◌++◌, length, map, Option, Some, None, codes, position, slice_get}
 use Rattle.std.specs.Map.{lookup}
 use Rattle.std.specs.Str.{bytes_eq}
 use Rattle.giop_cdr.specs.declared.prim.Primitive.{Primitive}
@@ -8,25 +8,34 @@ use Rattle.giop_cdr.specs.declared.prim.Primitive.TheVariants as prims
 use Rattle.giop_cdr.specs.declared.number.Number.{Number}
 use Rattle.giop_cdr.specs.declared.number.Number.TheVariants as numbers
 use Rattle.giop_sig.specs.declared.numbers.TheConstants.{STRING, IOR, TYPE_CODE, ANY, WIDE_CHAR, WIDE_STRING}
+use Rattle.giop_sig.specs.declared.announced.TypeWord.{TypeWord}
 use Rattle.giop_sig.specs.declared.read_calls.Direction.{Direction}
 use Rattle.giop_sig.specs.declared.read_calls.Direction.TheVariants as directions
 use Rattle.giop_sig.specs.declared.types.Selected.{Selected}
 use Rattle.giop_sig.specs.declared.types.Selected.TheVariants as selecteds
 use Rattle.giop_sig.specs.Heard.{kind_of, with_fronts}
 use Rattle.giop_sig.specs.Trees.{depth_in}
-use Rattle.giop_sig.specs.Table.{Part, Case, Node, Table, node_at, with_type, with_identity, with_declared, with_called, with_listed, with_exception}
+use Rattle.giop_sig.specs.Table.{Part, Case, Node, Table, node_at, node_in, with_type, with_identity, with_declared, with_called, with_listed, with_exception}
 use Rattle.giop_sig.specs.Table as nodes
 use Rattle.giop_sig.specs.Interfaces.{with_key}
 use Rattle.giop_sig.specs.Builtin.{number_in}
 use Rattle.giop_sig.specs.AnyTypes.{first_table}
 use Rattle.giop_sig.specs.RequestList.{flat}
-use Rattle.giop_sig.specs.Grammar.{TypeExpr, Base, Text, Reference, AnyType, CodeType, WideChar, WideText, Named, SequenceOf, EncapsulationOf, Item, Value, Plain, Below, Truth, Enumerator, Label, Default, Of, UnionCase, Param, Declaration, Enumeration, Structure, DeclaredUnion, DeclaredException, Call, KeyOf, SignatureFile}
+use Rattle.giop_sig.specs.Grammar.{TypeExpr, Base, Text, Reference, AnyType, CodeType, WideChar, WideText, Named, SequenceOf, EncapsulationOf, Item, Value, Plain, Below, Truth, Enumerator, Label, Default, Of, UnionCase, Param, Declaration, Enumeration, Structure, DeclaredUnion, Announcement, DeclaredException, Call, KeyOf, SignatureFile}
 
--- The type names of a file: the file's version, and the names of enums, structs and unions, each
--- with its type's number, and of exceptions, with none.
+-- a struct or union that is announced: its first word, and the number of the type that stands for
+-- it
+pub record Announced : Type 0 where
+  pub word : TypeWord
+  pub type : ℕ
+
+-- The type names of a file. `version` is that of the file. `known` are the names of enums, structs
+-- and unions, each with the number of its type, and those of exceptions, without one. `announced`
+-- are the names that are announced.
 pub record Names : Type 0 where
   pub version : ℕ
   pub known : List (List ℕ × Option ℕ)
+  pub announced : List (List ℕ × Announced)
 
 -- encapsulations are types since version 2
 abbrev pub has_encapsulations : Names → Bool
@@ -41,17 +50,31 @@ pub record Scope : Type 0 where
   pub table : Table
   pub names : Names
 
--- the scope in which a file of a version begins
+-- the scope that a file of a version begins with
 abbrev pub first_scope : ℕ → Scope
 first_scope version =
     record {
       table = first_table version;
-      names = record { version = version; known = [] };
+      names = record { version = version; known = []; announced = [] };
     }
 
 -- the type of a name
 abbrev pub named : Names → List ℕ → Option ℕ
 named names w = flat (lookup (bytes_eq w) names.known)
+
+-- how a name is announced
+abbrev pub announced_as : Names → List ℕ → Option Announced
+announced_as names w = lookup (bytes_eq w) names.announced
+
+abbrev pub or_announced : Bool → Option ℕ → Option Announced → Option ℕ
+or_announced element (Some n) a = Some n
+or_announced true None (Some a) = Some a.type
+or_announced element None a = None
+
+-- The type of a name in an expression. A name that is only announced has one as the element of a
+-- sequence alone.
+abbrev pub type_named : Bool → Names → List ℕ → Option ℕ
+type_named element names w = or_announced element (named names w) (announced_as names w)
 
 abbrev pub number_or : Option ℕ → ℕ
 number_or None = 0
@@ -63,7 +86,7 @@ number_or (Some n) = n
 abbrev pub AddedType : Type 0
 AddedType = Scope × ℕ
 
--- one node more, and its number
+-- one more node, and its number
 abbrev pub with_node : Scope → Node → AddedType
 with_node s node = (record s { table = with_type s.table node }, length s.table.types)
 
@@ -81,26 +104,37 @@ base_number prims.ULongLong = 8
 base_number prims.Float = 9
 base_number prims.Double = 10
 
--- only in version 3 the tags of a reference's profiles have names
+-- the tags of a reference's profiles have names in version 3 only
 abbrev pub reference_number : Names → ℕ
 reference_number names = number_in names.version IOR
 
--- a sequence of octets (the type with the number 0) is a kind of its own
-abbrev pub sequence_node : Option ℕ → ℕ → Node
-sequence_node bound element =
-    if element == 0 then nodes.octets bound else nodes.sequence bound element
+-- the place of the announcement, if a node stands for one
+abbrev pub announced_place : Node → Option ℕ
+announced_place (nodes.announced place) = Some place
+announced_place node = None
+
+abbrev pub sequence_by : Option ℕ → ℕ → Option ℕ → Node
+sequence_by bound element None = nodes.sequence bound element
+sequence_by bound element (Some place) = nodes.recursive bound place
+
+-- a sequence of octets (type number 0) has a node of its own, and so has one of a type that is
+-- announced
+abbrev pub sequence_node : List Node → Option ℕ → ℕ → Node
+sequence_node types bound element =
+    if element == 0 then nodes.octets bound
+    else sequence_by bound element (announced_place (node_in types element))
 
 abbrev pub add_text_type : Scope → Option ℕ → AddedType
 add_text_type s None = (s, STRING)
 add_text_type s (Some n) = with_node s (nodes.text (Some n))
 
 abbrev pub add_sequence_type : Option ℕ → AddedType → AddedType
-add_sequence_type bound p = with_node p.0 (sequence_node bound p.1)
+add_sequence_type bound p = with_node p.0 (sequence_node (p.0).table.types bound p.1)
 
 abbrev pub add_encapsulation_type : AddedType → AddedType
 add_encapsulation_type p = with_node p.0 (nodes.encapsulation p.1)
 
--- the types that an expression adds, and its own number
+-- the types that an expression adds, and the number of its own type
 unfoldable pub place : Scope → TypeExpr → AddedType
 place s (Base p) = (s, base_number p)
 place s (Text bound) = add_text_type s bound
@@ -109,7 +143,7 @@ place s AnyType = (s, ANY)
 place s CodeType = (s, TYPE_CODE)
 place s WideChar = (s, WIDE_CHAR)
 place s (WideText bound) = (s, WIDE_STRING)
-place s (Named w) = (s, number_or (named s.names w))
+place s (Named w) = (s, number_or (type_named true s.names w))
 place s (SequenceOf e bound) = add_sequence_type bound (place s e)
 place s (EncapsulationOf e) = add_encapsulation_type (place s e)
 
@@ -118,7 +152,7 @@ place s (EncapsulationOf e) = add_encapsulation_type (place s e)
 abbrev pub add_array : ℕ → AddedType → AddedType
 add_array n p = with_node p.0 (nodes.array n p.1)
 
--- an array of as many elements as the first length, of arrays of the others
+-- an array whose length is the first one, with arrays of the other lengths as elements
 abbrev pub add_arrays : List ℕ → AddedType → AddedType
 add_arrays [] p = p
 add_arrays (n ∷ ns) p = add_array n (add_arrays ns p)
@@ -143,19 +177,19 @@ add_items s (i ∷ is) =
 
 -- ---- the cases of a union
 
--- the number that a signed type has for a label
+-- a negative number of a signed type
 abbrev pub below : ℕ → ℤ
 below n = pos 0 -ℤ pos n
 
 abbrev pub if_at_most : ℕ → ℕ → Number → Option Number
 if_at_most most n number = if nat_le n most then Some number else None
 
--- the enumerator of a name, by its number
+-- the enumerator at a place
 abbrev pub numbered : Option ℕ → Option Number
 numbered None = None
 numbered (Some i) = Some (numbers.Unsigned i)
 
--- the number of a discriminator's type that a label names; none where the type has no such value
+-- the value of a discriminator's type that a label names; none if the type has no such value
 abbrev pub label_number : Node → Value → Option Number
 label_number (nodes.prim prims.Char) (Plain n) = if_at_most 255 n (numbers.Char n)
 label_number (nodes.prim prims.Boolean) (Truth b) = Some (numbers.Truth b)
@@ -178,7 +212,7 @@ abbrev pub onto_some : Option Number → List Number → List Number
 onto_some None ns = ns
 onto_some (Some n) ns = n ∷ ns
 
--- the numbers that labels name; default names none
+-- the values that labels name; the default names none
 abbrev pub label_numbers : Node → List Label → List Number
 label_numbers node [] = []
 label_numbers node (Default ∷ ls) = label_numbers node ls
@@ -206,7 +240,7 @@ add_cases s node (c ∷ cs) =
     with_case (union_case node c (add_item s c.item))
     (add_cases (add_item s c.item).0 node cs)
 
--- what is selected where no label is the number: the case with the default, counted from the first
+-- what is selected if no label is the number: the first case with the default
 abbrev pub default_from : ℕ → List UnionCase → Selected
 default_from i [] = selecteds.Nothing
 default_from i (c ∷ cs) =
@@ -214,7 +248,7 @@ default_from i (c ∷ cs) =
 
 -- ---- the parameters of an operation
 
--- a scope, and the members of an operation's requests and of its replies
+-- a scope, and the members of an operation's requests and replies
 abbrev pub AddedParameters : Type 0
 AddedParameters = Scope × List Part × List Part
 
@@ -237,7 +271,7 @@ add_params s (p ∷ ps) =
     with_param p.direction (item_part p.item (add_item s p.item))
     (add_params (add_item s p.item).0 ps)
 
--- what an operation returns is a member of its replies
+-- what an operation returns, as a member of its replies
 abbrev pub add_return : Scope → Option TypeExpr → Scope × List Part
 add_return s None = (s, [])
 add_return s (Some e) = ((place s e).0, part (codes "return") (place s e).1 ∷ [])
@@ -248,24 +282,37 @@ abbrev pub with_name : Scope → List ℕ → Option ℕ → Scope
 with_name s w number =
     record s { names = record (s.names) { known = s.names.known ++ (w, number) ∷ [] } }
 
--- the fronts of a type's repository id
+-- the table with the fronts of a type's repository id
 abbrev pub with_id_fronts : Table → List ℕ → ℕ → Table
 with_id_fronts t id number =
     record t { fronts = with_fronts (kind_of (node_at t number)) id t.fronts }
 
--- The sequence of a type, which the any of one has. One that is too deep could follow in none.
+-- The table with the sequence of a type, which an any may hold. A sequence that is too deep fits
+-- into no any, and isn't added.
 abbrev pub with_sequence : Table → ℕ → Table
 with_sequence t number =
     cond (nat_lt (depth_in t.types number) 24) (with_type t (nodes.sequence None number)) t
 
--- a type's repository id, if it has one
+-- the table with the repository id of a type, if it has one
 abbrev pub with_identified : Table → Option (List ℕ) → ℕ → Table
 with_identified t None number = t
 with_identified t (Some id) number =
     with_sequence (with_id_fronts
     (with_identity t (record { repository = id; type = number })) id number) number
 
--- an enum, struct or union of a new name, and perhaps of a new repository id
+-- a type that stands for the next announcement
+abbrev pub add_announced_type : Scope → AddedType
+add_announced_type s = with_node s (nodes.announced (length s.names.announced))
+
+-- a name that is announced, with the type that stands for it
+abbrev pub with_announced : TypeWord → List ℕ → AddedType → Scope
+with_announced word w p = record (p.0) {
+  names = record ((p.0).names) {
+    announced = (p.0).names.announced ++ (w, record { word = word; type = p.1 }) ∷ [];
+  };
+}
+
+-- an enum, struct or union with a new name, and with a new repository id if it has one
 abbrev pub with_named : List ℕ → Option (List ℕ) → AddedType → Scope
 with_named w id p = with_name (record (p.0) {
   table = with_declared (with_identified (p.0).table id p.1);
@@ -283,18 +330,18 @@ abbrev pub with_call : List ℕ → List (List ℕ) → ℕ → AddedType → Sc
 with_call w ids request p =
     record (p.0) { table = with_called (with_listed w request p.1 ids (p.0).table) }
 
--- a struct of these members
+-- a struct with these members
 abbrev pub add_struct_type : Scope × List Part → AddedType
 add_struct_type x = with_node x.0 (nodes.members x.1)
 
 abbrev pub add_union_type : ℕ → List UnionCase → Scope × List Case → AddedType
 add_union_type switch cases x = with_node x.0 (nodes.union switch x.1 (default_from 0 cases))
 
--- the cases of a union whose discriminator's type was added
+-- the cases of a union, after the type of its discriminator was added
 abbrev pub add_choice_type : List UnionCase → AddedType → AddedType
 add_choice_type cases p = add_union_type p.1 cases (add_cases p.0 (node_at (p.0).table p.1) cases)
 
--- the two structs of an operation, the request first
+-- the two structs of an operation: first that of requests, then that of replies
 abbrev pub add_call : List ℕ → List (List ℕ) → List Part → AddedParameters → Scope
 add_call w ids returned x =
     with_call w ids (length (x.0).table.types)
@@ -314,6 +361,7 @@ declare s (Enumeration n id names) = with_named n id (with_node s (nodes.enumera
 declare s (Structure n id items) = with_named n id (add_struct_type (add_items s items))
 declare s (DeclaredUnion n id switch cases) =
     with_named n id (add_choice_type cases (place s switch))
+declare s (Announcement word n) = with_announced word n (add_announced_type s)
 declare s (DeclaredException n repository items) =
     with_raised n repository (add_struct_type (add_items s items))
 declare s (Call returned n params ids) = add_call_parts n params ids (add_return s returned)
@@ -327,6 +375,29 @@ scope_after s (d ∷ ds) = scope_after (declare s d) ds
 abbrev pub last_scope : SignatureFile → Scope
 last_scope file = scope_after (first_scope file.version) file.declarations
 
--- the table of a file, the built-in types included
+-- ---- the end of a file
+
+-- the types that were declared for the announced names, in order; none for a name that wasn't
+-- declared
+abbrev pub targets : Names → List (Option ℕ)
+targets names = map (λ e. named names e.0) names.announced
+
+-- the type that was declared for the announcement at a place
+abbrev pub target : List (Option ℕ) → ℕ → ℕ
+target types place = number_or (flat (slice_get types place))
+
+-- a recursive sequence gets the type that was declared for its elements
+abbrev pub settled_node : List (Option ℕ) → Node → Node
+settled_node types (nodes.recursive bound place) = nodes.recursive bound (target types place)
+settled_node types node = node
+
+abbrev pub with_settled : List (Option ℕ) → Table → Table
+with_settled types t = record t { types = map (settled_node types) t.types }
+
+-- the scope after each recursive sequence got its type
+abbrev pub settled : Scope → Scope
+settled s = record s { table = with_settled (targets s.names) s.table }
+
+-- the table of a file, with the built-in types
 abbrev pub table : SignatureFile → Table
-table file = (last_scope file).table
+table file = (settled (last_scope file)).table

@@ -1,5 +1,5 @@
--- The table that a catalogue is: one node for each type, which names the types of its parts by
--- their numbers, and the operations and exceptions by their names (meaning).
+-- The table that a catalogue is: one node for each type, which has the numbers of the types of its
+-- parts; and the operations and exceptions by their names (meaning).
 use Rattle.std.specs.Prelude.{ℕ, zero, suc, nat_lt, ◌+◌, ◌/◌, ◌%◌, ◌<◌, ◌≤◌, ◌==◌, ◌&&◌, Bool, true, false, cond, List, [], ◌∷◌, ◌++◌, length, Option, Some, None, slice_index_or, slice_get, position}
 use Rattle.std.specs.Ordering.{int_eq}
 use mathlib.Core.Bool.{beq}
@@ -41,21 +41,26 @@ pub data Node : Type 0 where
   wide_text : Node
   wide_char : Node
   members : List Part → Node
-  -- the discriminator's type, the cases, and what is selected where no label is the number
+  -- the type of the discriminator, the cases, and what is selected if no label is the number
   union : ℕ → List Case → Selected → Node
   sequence : Option ℕ → ℕ → Node
   array : ℕ → ℕ → Node
-  -- octets with a byte order of their own, that hold a value of a type
+  -- octets with a byte order of their own, which hold a value of a type
   encapsulation : ℕ → Node
-  -- a tag that determines what follows it: the special tag; the part of the tag, the part that
-  -- follows the special tag, and the part that follows every other tag
+  -- a tag that determines what comes after it: the special tag, the part that is the tag, the part
+  -- after the special tag, and the part after any other tag
   tagged : ℕ → Part → Part → Part → Node
   -- a number of four octets with a mark
   marked : ℕ → Node
-  -- an any: the TypeCode that tells the type of its value
+  -- an any: the type of the TypeCode that tells the type of its value
   any : ℕ → Node
-  -- A TypeCode: its kind's type, and what follows each kind. If there is little room, types of the
-  -- first number and greater ones are octets.
+  -- a struct or union that is announced, with its place among these; no type has it as a part
+  announced : ℕ → Node
+  -- A sequence, perhaps with a bound, whose elements have a type that was announced. It has the
+  -- number of that type; until the file ends, it has the place of the announcement.
+  recursive : Option ℕ → ℕ → Node
+  -- A TypeCode: the type of its kind, and what comes after each kind. If there is little room,
+  -- parts whose types have the first number or a greater one are octets.
   typecode : Option ℕ → ℕ → List Case → Node
 
 -- the node of a type
@@ -77,6 +82,8 @@ shape_of (encapsulation held) = shapes.Encapsulation
 shape_of (tagged special tag inner other) = shapes.Tagged
 shape_of (marked mark) = shapes.Marked mark
 shape_of (any code) = shapes.Led
+shape_of (announced place) = shapes.Members 0
+shape_of (recursive bound element) = shapes.Recursive bound
 shape_of (typecode wide kind cases) = shapes.Union (length cases)
 
 abbrev pub case_part : Option Case → Option Part
@@ -86,7 +93,7 @@ case_part (Some c) = Some c.part
 abbrev pub element_part : ℕ → Part
 element_part element = record { name = []; type = element }
 
--- a type, or octets in place of one that needs more room
+-- a type, or octets instead of a type that needs more room
 abbrev pub narrowed : Option ℕ → ℕ → ℕ
 narrowed None type = type
 narrowed (Some wide) type = cond (nat_lt type wide) type OCTETS
@@ -94,12 +101,12 @@ narrowed (Some wide) type = cond (nat_lt type wide) type OCTETS
 abbrev pub narrow_part : Option ℕ → Part → Part
 narrow_part wide p = record { name = p.name; type = narrowed wide p.type }
 
--- an any has its TypeCode, and a type of each number
+-- an any has its TypeCode at place 0, and the type with number n at place n + 1
 abbrev pub any_part : ℕ → ℕ → Part
 any_part code zero = element_part code
 any_part code (suc i) = element_part i
 
--- the part at a place; an element, and what an encapsulation holds, is at every place and has no
+-- the part at a place; an element and the value in an encapsulation are at each place and have no
 -- name
 abbrev pub part_at : Node → ℕ → Option Part
 part_at (members parts) i = slice_get parts i
@@ -109,6 +116,7 @@ part_at (array count element) i = Some (element_part element)
 part_at (encapsulation held) i = Some (element_part held)
 part_at (tagged special tag inner other) i = slice_get (tag ∷ inner ∷ other ∷ []) i
 part_at (any code) i = Some (any_part code i)
+part_at (recursive bound element) i = Some (element_part element)
 part_at (typecode wide kind cases) i =
     option_map (narrow_part wide) (case_part (slice_get cases i))
 part_at node i = None
@@ -121,7 +129,7 @@ abbrev pub name_of : Option Part → List ℕ
 name_of None = []
 name_of (Some p) = p.name
 
--- the name of an enum's number
+-- the name of an enum's number, or the word of a kind
 abbrev pub name_at : Node → ℕ → Option (List ℕ)
 name_at (enumeration names) n = slice_get names n
 name_at (marked mark) n = marked_word mark n
@@ -135,7 +143,7 @@ switch_at node = 0
 
 -- ---- selection
 
--- the same value of one type
+-- whether two numbers are the same value of the same type
 abbrev pub same_number : Number → Number → Bool
 same_number (numbers.Unsigned m) (numbers.Unsigned n) = m == n
 same_number (numbers.Signed m) (numbers.Signed n) = int_eq m n
@@ -144,7 +152,7 @@ same_number (numbers.Truth m) (numbers.Truth n) = beq m n
 same_number (numbers.Char m) (numbers.Char n) = m == n
 same_number _ _ = false
 
--- the first case with the number among its labels
+-- the first case with this number among its labels
 abbrev pub case_with : Number → List Case → Option ℕ
 case_with n cases = position (λ c. list_any (λ label. same_number label n) c.labels) cases
 
@@ -162,12 +170,13 @@ selected node n = selecteds.Nothing
 
 -- ---- the table
 
--- how an operation is found: by the number of its interface, counted from 1, or 0, and by its name
+-- the key of an operation: the number of its interface, from 1, or 0 if it has none; and then its
+-- name
 abbrev pub operation_key : ℕ → List ℕ → List ℕ
 operation_key interface name = interface / 256 ∷ interface % 256 ∷ name
 
--- an operation of an interface, or of none, and the structs of its requests and of its replies; one
--- with a list of interfaces is there for each of them
+-- an operation of one interface or of none, with the structs of its requests and replies; an
+-- operation with a list of interfaces is there for each of them
 pub record Operation : Type 0 where
   pub key : List ℕ
   pub request : ℕ
@@ -178,15 +187,16 @@ pub record Exception : Type 0 where
   pub repository : List ℕ
   pub members : ℕ
 
--- An enum, struct or union that has a repository id: the id, and the number of the type. The
--- sequence of it, without a bound, is the next type.
+-- An enum, struct or union that has a repository id: the id, and the number of the type. The type
+-- after it is the sequence of it without a bound, unless that would be too deep.
 pub record Identity : Type 0 where
   pub repository : List ℕ
   pub type : ℕ
 
--- the version is that of the signature file, 1 where there is none; the built-in types come first;
--- declared is how many enums, structs and unions the file added, and called how many operations; it
--- is narrow if a message of 1.0 or 1.1 is read by it, in which wide text has no room
+-- `version` is that of the signature file, or 1 without one. `types` begin with the built-in ones.
+-- `declared` is how many enums, structs and unions the file adds, and `called` how many operations.
+-- `narrow` says that a message of 1.0 or 1.1 is read, in which anys and recursive sequences can't
+-- hold wide text.
 pub record Table : Type 0 where
   pub version : ℕ
   pub types : List Node
@@ -196,20 +206,21 @@ pub record Table : Type 0 where
   pub called : ℕ
   pub interfaces : Interfaces
   pub identities : List Identity
-  -- the fronts of these ids, each after the octet of its kind: in each kind the empty one, and the
-  -- first 32, 64 and 96 octets of those that have more
+  -- the fronts of these repository ids, each after the octet of its kind: the empty one for each
+  -- kind, and the first 32, 64 and 96 octets of each id that has more
   pub fronts : List (List ℕ)
   pub narrow : Bool
 
--- the table as messages of 1.0 and 1.1 are read by it, or as others are
+-- the table as messages of 1.0 and 1.1 see it, or as others do
 abbrev pub seen : Bool → Table → Table
 seen narrow t = record t { narrow = narrow }
 
--- Whether wide text has no room in messages of a minor version: only tables of version 3 have any.
+-- Whether anys and recursive sequences can't hold wide text in messages of a minor version. Only
+-- tables of version 3 have any.
 abbrev pub is_narrow : ℕ → Table → Bool
 is_narrow minor t = nat_lt minor 2 && t.version == 3
 
--- the table as messages of a minor version are read by it
+-- the table as messages of a minor version see it
 abbrev pub in_version : ℕ → Table → Table
 in_version minor t = seen (is_narrow minor t) t
 
@@ -226,15 +237,15 @@ op_id i = record { 0 = i }
 abbrev pub type_id : ℕ → TypeId
 type_id i = record { 0 = i }
 
--- the place of the operation of a key among the operations
+-- the place of the operation with a key among the operations
 abbrev pub keyed_number : Table → List ℕ → Option ℕ
 keyed_number t key = position (λ o. bytes_eq key o.key) t.operations
 
--- the number of the operation of a name and no interface
+-- the number of the operation of a name in no interface
 abbrev pub operation_number : Table → List ℕ → Option ℕ
 operation_number t name = keyed_number t (operation_key 0 name)
 
--- the operation of a name and no interface
+-- the operation of a name in no interface
 abbrev pub operation_in : Table → List ℕ → Option OpId
 operation_in t name = option_map op_id (operation_number t name)
 
@@ -242,8 +253,8 @@ abbrev pub or_plain : Option ℕ → Option OpId → Option OpId
 or_plain (Some n) plain = Some (op_id n)
 or_plain None plain = plain
 
--- the operation of a name and an interface: that which has it in its list, or else that without a
--- list
+-- the operation of a name in an interface: the one that has the interface in its list, or else the
+-- one without a list
 abbrev pub operation_for : Table → List ℕ → Option InterfaceId → Option OpId
 operation_for t name None = operation_in t name
 operation_for t name (Some i) =
@@ -252,12 +263,12 @@ operation_for t name (Some i) =
 abbrev pub interface_id : ℕ → InterfaceId
 interface_id i = record { 0 = i }
 
--- the interface of a repository id
+-- the interface with a repository id
 abbrev pub named_interface : Table → List ℕ → Option InterfaceId
 named_interface t id = option_map interface_id (position (bytes_eq id) t.interfaces.names)
 
--- the number of the operation of a name and of an interface by its repository id, or of none; an
--- interface that the table doesn't have is none
+-- the number of the operation of a name, in the interface with a repository id or in none; an
+-- interface that the table doesn't have counts as none
 abbrev pub asked_number : Table → List ℕ → Option (List ℕ) → Option ℕ
 asked_number t name id =
     option_map (λ o. o.0) (operation_for t name (option_and_then (named_interface t) id))
@@ -313,28 +324,28 @@ with_operation t o = record t { operations = t.operations ++ o ∷ [] }
 abbrev pub with_exception : Table → Exception → Table
 with_exception t e = record t { exceptions = t.exceptions ++ e ∷ [] }
 
--- one operation more is counted
+-- one more operation is counted
 abbrev pub with_called : Table → Table
 with_called t = record t { called = t.called + 1 }
 
--- an operation of an interface, by its number, counted from 1, or of none
+-- an operation in the interface with this number, from 1, or in no interface if it is 0
 abbrev pub with_entry : ℕ → List ℕ → ℕ → ℕ → Table → Table
 with_entry interface name request reply t = with_operation t
     (record { key = operation_key interface name; request = request; reply = reply })
 
--- an operation of an interface
+-- an operation in one interface
 abbrev pub with_variant : List ℕ → ℕ → ℕ → List ℕ → Table → Table
 with_variant name request reply id t =
     with_entry (number_of t.interfaces id + 1) name request reply
     (record t { interfaces = with_interface t.interfaces id })
 
--- an operation of each interface of a list
+-- an operation in each interface of a list
 abbrev pub with_variants : List ℕ → ℕ → ℕ → List (List ℕ) → Table → Table
 with_variants name request reply [] t = t
 with_variants name request reply (id ∷ ids) t =
     with_variants name request reply ids (with_variant name request reply id t)
 
--- an operation of each interface of its list, or of none where it has no list
+-- an operation in each interface of its list, or in none if it has no list
 abbrev pub with_listed : List ℕ → ℕ → ℕ → List (List ℕ) → Table → Table
 with_listed name request reply [] t = with_entry 0 name request reply t
 with_listed name request reply (id ∷ ids) t = with_variants name request reply (id ∷ ids) t
@@ -342,23 +353,26 @@ with_listed name request reply (id ∷ ids) t = with_variants name request reply
 abbrev pub with_identity : Table → Identity → Table
 with_identity t e = record t { identities = t.identities ++ e ∷ [] }
 
--- one enum, struct or union more is counted
+-- one more enum, struct or union is counted
 abbrev pub with_declared : Table → Table
 with_declared t = record t { declared = t.declared + 1 }
 
--- ---- what holds of a table
+-- ---- what is true of a table
 
--- whether a type takes some octet
+-- whether a type takes an octet
 abbrev pub takes_octet : Node → Bool
 takes_octet (members []) = false
+takes_octet (announced place) = false
 takes_octet node = true
 
--- a type that takes some octet
+-- a type that takes an octet
 abbrev pub TakesOctet : Node → Type 0
 TakesOctet (members []) = ⊥
+TakesOctet (announced place) = ⊥
 TakesOctet node = Unit {0}
 
--- a type that one number has for a part: it has a smaller number, and takes some octet
+-- a type that the type with number n may have as a part: it has a smaller number, and takes an
+-- octet
 pub record IsInner (types : List Node) (n i : ℕ) : Type 0 where
   pub below : i < n
   pub takes : TakesOctet (node_in types i)
@@ -377,12 +391,12 @@ pub record IsPart (types : List Node) (n : ℕ) (p : Part) : Type 0 where
   pub inner : IsInner types n p.type
   pub short : length p.name ≤ 64
 
--- what is selected otherwise is one of so many cases
+-- what is selected otherwise is one of the first `count` cases
 abbrev pub IsCaseBelow : ℕ → Selected → Type 0
 IsCaseBelow count (selecteds.Case i) = i < count
 IsCaseBelow count s = Unit {0}
 
--- a node that can stand at a number
+-- a node that the type with number n may have
 abbrev pub IsFormed : List Node → ℕ → Node → Type 0
 IsFormed types n (prim p) = Unit {0}
 IsFormed types n (enumeration names) = (length names ≤ 1024) × All (λ name. length name ≤ 64) names
@@ -401,6 +415,9 @@ IsFormed types n (tagged special tag inner other) =
     IsSwitch types n tag.type × IsPart types n tag × IsPart types n inner × IsPart types n other
 IsFormed types n (marked mark) = Unit {0}
 IsFormed types n (any code) = IsInner types n code
+IsFormed types n (announced place) = Unit {0}
+-- its announcement comes before it
+IsFormed types n (recursive bound element) = 0 < n
 IsFormed types n (typecode wide kind cases) =
     IsSwitch types n kind × (length cases ≤ 256)
     × All (λ c. IsPart types n (narrow_part wide c.part)) cases

@@ -1,4 +1,4 @@
--- The trees of a table's types, and what holds of a table as a whole (meaning).
+-- The trees of a table's types, and what is true of a whole table (meaning).
 use Rattle.std.specs.Prelude.{ℕ, zero, suc, ◌+◌, ◌^◌, ◌<◌, ◌≤◌, ◌==◌, ◌&&◌, ◌||◌, not, nat_lt, nat_le, cond, Bool, true, false, max, List, [], length, Option, Some, None, slice_index_or, slice_get}
 use Rattle.std.specs.List.{All}
 use Rattle.giop_cdr.specs.declared.prim.Primitive.TheVariants as prims
@@ -7,12 +7,12 @@ use Rattle.giop_sig.specs.declared.types.Shape.{Shape}
 use Rattle.giop_sig.specs.declared.types.Shape.TheVariants as shapes
 use Rattle.giop_sig.specs.declared.types.Selected.{Selected}
 use Rattle.giop_sig.specs.declared.types.Selected.TheVariants.{Nothing}
-use Rattle.giop_sig.specs.Types.{Choice, Cases, Tag, Scalar, Plain, Enum, interpreted_by, Ty, Single, Text, Octets, Raw, WideText, WideChar, Struct, Union, Sequence, Array, Encapsulation, Led, Marked, Hearing, most}
+use Rattle.giop_sig.specs.Types.{Choice, Cases, Tag, Scalar, Plain, Enum, interpreted_by, Ty, Single, Text, Octets, Raw, WideText, WideChar, Struct, Union, Sequence, Array, Encapsulation, Recursive, Led, Marked, Hearing, most}
 use Rattle.giop_sig.specs.Heard.{hears, selects}
 use Rattle.giop_sig.specs.Table.{Part, Node, Table, IsFormed, TakesOctet, takes_octet, name_of, node_at, node_in, part_at, shape_of, switch_at, type_of, selected}
 use Rattle.giop_sig.specs.Table as nodes
 
--- ---- a node, with a tree for each number
+-- ---- a node, from a tree for each number
 
 abbrev pub octet_type : Ty
 octet_type = Single (Plain prims.Octet)
@@ -29,12 +29,12 @@ abbrev pub scalar_of : Ty → Scalar
 scalar_of (Single scalar) = scalar
 scalar_of T = Plain prims.Octet
 
--- what a value selects; what is no value selects nothing
+-- what a value selects; a number that isn't a value selects nothing
 abbrev pub selected_by : (Number → Selected) → Option Number → Selected
 selected_by select None = Nothing
 selected_by select (Some number) = select number
 
--- the union of a node's names and selection, by the types of its discriminator and of its cases
+-- the union with a node's names and selection, from the types of its discriminator and its cases
 abbrev pub union_of : Choice → Node → Ty → (ℕ → Ty) → Ty
 union_of choice node switch cases =
     Union choice (scalar_of switch)
@@ -45,11 +45,19 @@ abbrev pub grown_union : (ℕ → Ty) → Choice → Node → Ty
 grown_union tree choice node =
     union_of choice node (tree (switch_at node)) (λ i. grown_part tree (part_at node i))
 
--- a node with a tree for each number, and with how what follows a TypeCode is heard
-abbrev pub grow : Hearing → (ℕ → Ty) → Node → Ty
+-- What has room as a part: how an any is heard, and which types the elements of a recursive
+-- sequence may have.
+pub record Room : Type 0 where
+  pub hearing : Hearing
+  pub fits : ℕ → Bool
+
+-- the tree of a node, from a tree for each number, in a room
+abbrev pub grow : Room → (ℕ → Ty) → Node → Ty
 grow h tree (nodes.prim p) = Single (Plain p)
 grow h tree (nodes.marked mark) = Single (Marked mark)
-grow h tree (nodes.any code) = Led h (tree code) tree
+grow h tree (nodes.any code) = Led h.hearing (tree code) tree
+grow h tree (nodes.announced place) = Struct 0 (λ i. []) (λ i. octet_type)
+grow h tree (nodes.recursive bound element) = Recursive bound (h.fits element) (tree element)
 grow h tree (nodes.typecode wide kind cases) =
     grown_union tree (Cases (length cases)) (nodes.typecode wide kind cases)
 grow h tree (nodes.enumeration names) =
@@ -71,54 +79,55 @@ grow h tree (nodes.tagged special tag inner other) =
 
 -- ---- depth
 
--- the greatest depth of a type
+-- the greatest depth that a type may have
 abbrev pub greatest_depth : ℕ
 greatest_depth = 24
 
--- the depth of a shape, of the depths of its parts
+-- the depth of a shape, from the depths of its parts
 abbrev pub depth_by : Shape → (ℕ → ℕ) → ℕ
 depth_by (shapes.Members count) f = 1 + most count f
 depth_by (shapes.Union count) f = 1 + max 1 (most count f)
 depth_by (shapes.Sequence bound) f = 1 + f 0
 depth_by (shapes.Array count) f = 1 + f 0
 depth_by shapes.Encapsulation f = 1 + f 0
+depth_by (shapes.Recursive bound) f = 2
 depth_by shapes.Tagged f = 1 + max 1 (most 3 f)
 depth_by shapes.Led f = 1 + f 0
 depth_by s f = 1
 
--- the depth of the type with a number, where the parts that are so far down count as leaves
+-- the depth of the type with a number, if its parts n levels down count as leaves
 unfoldable pub depth_at : List Node → ℕ → ℕ → ℕ
 depth_at types zero i = 1
 depth_at types (suc n) i =
     depth_by (shape_of (node_in types i))
     (λ k. depth_at types n (type_of (part_at (node_in types i) k)))
 
--- The depth of a type, whose parts have smaller numbers. What can follow in an any, and what is
--- octets if there is little room, is counted where it begins.
+-- The depth of a type, whose parts have smaller numbers. What an any holds doesn't count, nor do
+-- the elements of a recursive sequence, nor parts of a TypeCode that are octets in little room.
 abbrev pub depth_in : List Node → ℕ → ℕ
 depth_in types i = depth_at types (i + suc greatest_depth) i
 
--- the depth of the type that a node names in a place
+-- the depth of the part at a place of a node
 abbrev pub part_depth : List Node → Node → ℕ → ℕ
 part_depth types node k = depth_in types (type_of (part_at node k))
 
--- the depth that a node's type would have
+-- the depth that the type of a node would have
 abbrev pub node_depth : List Node → Node → ℕ
 node_depth types node = depth_by (shape_of node) (part_depth types node)
 
--- the greatest depth of some types
+-- the greatest depth of these types
 unfoldable pub depth_of : List Node → ℕ
 depth_of types = most (length types) (depth_in types)
 
 -- ---- wide text
 
--- whether one of the first so many is
+-- whether f is true of one of the first n
 abbrev pub some_of : ℕ → (ℕ → Bool) → Bool
 some_of zero f = false
 some_of (suc n) f = some_of n f || f n
 
--- Whether a shape has wide text: it is one, or one of its parts has it. What an any carries is
--- aside.
+-- Whether a shape has wide text: it is wide text, or one of its parts has some. What an any holds
+-- and the elements of a recursive sequence don't count.
 abbrev pub wide_by : Shape → (ℕ → Bool) → Bool
 wide_by shapes.WideText f = true
 wide_by shapes.WideChar f = true
@@ -130,7 +139,7 @@ wide_by (shapes.Array count) f = f 0
 wide_by shapes.Encapsulation f = f 0
 wide_by s f = false
 
--- whether the type with a number has it, where the parts that are so far down have none
+-- whether the type with a number has wide text, if its parts n levels down have none
 unfoldable pub wide_at : List Node → ℕ → ℕ → Bool
 wide_at types zero i = false
 wide_at types (suc n) i =
@@ -141,37 +150,38 @@ wide_at types (suc n) i =
 abbrev pub wide_in : List Node → ℕ → Bool
 wide_in types i = wide_at types (i + suc greatest_depth) i
 
--- whether the type that a node names in a place has it
+-- whether the part at a place of a node has wide text
 abbrev pub part_wide : List Node → Node → ℕ → Bool
 part_wide types node k = wide_in types (type_of (part_at node k))
 
--- whether a node's type would have it
+-- whether the type of a node would have wide text
 abbrev pub node_wide : List Node → Node → Bool
 node_wide types node = wide_by (shape_of node) (part_wide types node)
 
--- ---- the trees, in so much room
+-- ---- the trees in a room
 
--- how much room the parameters of a TypeCode take: an encapsulation, its struct, the members, a
+-- how much room the parameters of a TypeCode need: an encapsulation, its struct, the members, a
 -- member, and a TypeCode, which has depth 3
 abbrev pub wide_room : ℕ
 wide_room = 7
 
--- a node in so much room for its parts
+-- a node whose parts have this room
 abbrev pub in_room : ℕ → Node → Node
 in_room room (nodes.typecode wide kind cases) =
     nodes.typecode (cond (nat_lt room wide_room) wide None) kind cases
 in_room room node = node
 
--- the number of a part's type, in so much room for it
+-- the number of a part's type, if the part has this room
 abbrev pub part_number_in : Table → ℕ → ℕ → ℕ → ℕ
 part_number_in t room id i = type_of (part_at (in_room room (node_at t id)) i)
 
--- whether there is a type of a number that takes some octet, and has room
+-- whether there is a type with this number that takes an octet and fits into the room
 abbrev pub has_room : Table → ℕ → ℕ → Bool
 has_room t room i =
     nat_lt i (length t.types) && takes_octet (node_at t i) && nat_le (depth_in t.types i) room
 
--- whether it can follow in an any: in a message of 1.0 or 1.1 wide text has no room
+-- whether a type can be that of an any's value or of a recursive sequence's elements; with wide
+-- text it can't in a message of 1.0 or 1.1
 abbrev pub follows : Table → ℕ → ℕ → Bool
 follows t room i = has_room t room i && not (t.narrow && wide_in t.types i)
 
@@ -179,36 +189,39 @@ follows t room i = has_room t room i && not (t.narrow && wide_in t.types i)
 abbrev pub any_hearing : Table → ℕ → Hearing
 any_hearing t room = record { hears = hears t; selects = selects (follows t room) }
 
--- the tree of the type with a number: so many parts may be in each other beyond the type's own, and
--- those without room are octets
-unfoldable pub tree_at : Table → ℕ → ℕ → Ty
-tree_at t zero i = grow (any_hearing t 0) (λ k. octet_type) (in_room 0 (node_at t i))
-tree_at t (suc room) i =
-    grow (any_hearing t room) (tree_at t room) (in_room room (node_at t i))
+-- what has room as a part in this room
+abbrev pub room_of : Table → ℕ → Room
+room_of t room = record { hearing = any_hearing t room; fits = follows t room }
 
--- the tree in the room that each type of a table has
+-- the tree of the type with a number: parts may be nested below it as many levels as there is room,
+-- and deeper ones are octets
+unfoldable pub tree_at : Table → ℕ → ℕ → Ty
+tree_at t zero i = grow (room_of t 0) (λ k. octet_type) (in_room 0 (node_at t i))
+tree_at t (suc room) i = grow (room_of t room) (tree_at t room) (in_room room (node_at t i))
+
+-- the tree of a type in the room that each type of a table has
 abbrev pub tree : Table → ℕ → Ty
 tree t i = tree_at t greatest_depth i
 
 -- ---- tables
 
--- The depth of a catalogue: that of its deepest type. In version 3 it is the greatest there can be.
+-- The depth of a catalogue: that of its deepest type. In version 3 it is the greatest depth.
 abbrev pub catalogue_depth : Table → ℕ
 catalogue_depth t = cond (t.version == 3) 24 (depth_of t.types)
 
--- types of which each part has a smaller number than its whole
+-- each part of a type has a smaller number than the type
 pub record AreFormed (types : List Node) : Type 0 where
   pub few : length types < 2 ^ 32
   pub formed : (i : ℕ) → i < length types
       → IsFormed types i (slice_index_or types i (nodes.prim prims.Octet))
 
--- a type of the table that is no deeper than a TypeCode's parameters, and takes some octet
+-- a type of the table that is no deeper than the parameters of a TypeCode, and takes an octet
 pub record IsWidePart (types : List Node) (i : ℕ) : Type 0 where
   pub known : i < length types
   pub takes : TakesOctet (node_in types i)
   pub shallow : depth_in types i ≤ wide_room
 
--- what follows the kinds of a TypeCode if there is room for it
+-- what comes after the kinds of a TypeCode, if there is room for it
 abbrev pub IsWide : List Node → Node → Type 0
 IsWide types (nodes.typecode wide kind cases) = All (λ c. IsWidePart types c.part.type) cases
 IsWide types node = Unit {0}
@@ -216,7 +229,21 @@ IsWide types node = Unit {0}
 abbrev pub AreWide : List Node → Type 0
 AreWide types = (i : ℕ) → i < length types → IsWide types (node_in types i)
 
--- types that can be in a table: none is deeper than 24
+-- a type of the table that takes an octet
+pub record IsTarget (types : List Node) (i : ℕ) : Type 0 where
+  pub known : i < length types
+  pub takes : TakesOctet (node_in types i)
+
+-- a recursive sequence has the type that was declared for its elements
+abbrev pub IsSettled : List Node → Node → Type 0
+IsSettled types (nodes.recursive bound element) = IsTarget types element
+IsSettled types node = Unit {0}
+
+abbrev pub AreSettled : List Node → Type 0
+AreSettled types = (i : ℕ) → i < length types → IsSettled types (node_in types i)
+
+-- types that a table may have: none is deeper than 24, and all that were announced are declared
 pub record AreTypes (types : List Node) : Type 0 where
   pub placed : AreFormed types
   pub shallow : depth_of types ≤ 24
+  pub settled : AreSettled types

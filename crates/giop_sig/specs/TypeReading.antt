@@ -1,5 +1,5 @@
 -- Reading a type from left to right, and what it adds to the scope (steps).
-use Rattle.std.specs.Prelude.{ℕ, zero, suc, Bool, true, false, ◌&&◌, ◌==◌, if◌then◌else◌, nat_lt, List, [], ◌∷◌, ◌++◌, length, Option, Some, None, Result, Ok, Err, codes}
+use Rattle.std.specs.Prelude.{ℕ, zero, suc, ◌-◌, slice_get, Bool, true, false, ◌&&◌, ◌==◌, if◌then◌else◌, nat_lt, List, [], ◌∷◌, ◌++◌, length, Option, Some, None, Result, Ok, Err, codes}
 use Rattle.std.specs.Str.{bytes_eq}
 use Rattle.giop_tokens.specs.declared.fault.Refusal.{Refusal}
 use Rattle.giop_tokens.specs.declared.fault.SigFaultKind.TheVariants as kinds
@@ -11,7 +11,7 @@ use Rattle.giop_tokens.specs.Names.{is_reserved}
 use Rattle.giop_sig.specs.declared.numbers.TheConstants.{TYPE_CODE, ANY, WIDE_CHAR, WIDE_STRING}
 use Rattle.giop_sig.specs.declared.read_types.Opener.{Opener}
 use Rattle.giop_sig.specs.declared.read_types.Opener.TheVariants as openers
-use Rattle.giop_sig.specs.Scopes.{has_encapsulations, is_third, Scope, AddedType, named, add_text_type, add_sequence_type, add_encapsulation_type, reference_number}
+use Rattle.giop_sig.specs.Scopes.{has_encapsulations, is_third, Scope, AddedType, type_named, add_text_type, add_sequence_type, add_encapsulation_type, reference_number}
 use Rattle.giop_sig.specs.Outcomes.{refused}
 
 -- ---- sizes
@@ -23,7 +23,7 @@ size_at text = do
   if n.0 == 0 then Err (refused kinds.Empty text)
       else (if nat_lt 4294967295 n.0 then Err (refused kinds.Limit text) else Ok (n.0, n.1))
 
--- what was found by looking one token ahead
+-- what was found by looking at the next token
 abbrev pub size_within : Mark → List ℕ → Option (List ℕ) → Result (Option ℕ × List ℕ) Refusal
 size_within close text None = Ok (None, text)
 size_within close text (Some inner) = do
@@ -31,7 +31,7 @@ size_within close text (Some inner) = do
   r ← mark_at close n.1
   Ok (Some n.0, r)
 
--- a size between two marks, where the first mark comes next
+-- a size between two marks, if the first mark comes next
 unfoldable pub enclosed_at : Mark → Mark → List ℕ → Result (Option ℕ × List ℕ) Refusal
 enclosed_at open_mark close text = do
   inner ← mark_if open_mark text
@@ -43,7 +43,7 @@ size_after text (Some inner) = do
   n ← size_at inner
   Ok (Some n.0, n.1)
 
--- a size after a comma, where there is a comma
+-- a size after a comma, if a comma comes next
 unfoldable pub most_at : List ℕ → Result (Option ℕ × List ℕ) Refusal
 most_at text = do
   inner ← mark_if marks.Comma text
@@ -51,7 +51,7 @@ most_at text = do
 
 -- ---- types
 
--- what reading a type gives: a scope, its number, what follows
+-- what reading a type gives: a scope, the number of the type, and the rest of the text
 abbrev pub TypeRead : Type 0
 TypeRead = Scope × ℕ × List ℕ
 
@@ -69,7 +69,7 @@ base_of w =
     (if bytes_eq w (codes "float") then Some 9 else
     (if bytes_eq w (codes "double") then Some 10 else None))))))))))
 
--- what reading a type gives, after a type was added
+-- what reading a type gives that was added
 abbrev pub read_as : AddedType → List ℕ → TypeRead
 read_as p rest = (p.0, p.1, rest)
 
@@ -85,20 +85,20 @@ wide_text_at s rest = do
   b ← enclosed_at marks.OpenAngle marks.CloseAngle rest
   Ok (s, WIDE_STRING, b.1)
 
--- a sequence, after the type of its elements: perhaps a bound, and the closing mark
+-- what comes after the element type of a sequence: perhaps a bound, and the closing mark
 abbrev pub after_element : TypeRead → Result TypeRead Refusal
 after_element e = do
   b ← most_at e.2
   r ← mark_at marks.CloseAngle b.1
   Ok (read_as (add_sequence_type b.0 (e.0, e.1)) r)
 
--- an encapsulation, after the type of what it holds: the closing mark
+-- what comes after the type in an encapsulation: the closing mark
 abbrev pub after_held : TypeRead → Result TypeRead Refusal
 after_held h = do
   r ← mark_at marks.CloseAngle h.2
   Ok (read_as (add_encapsulation_type (h.0, h.1)) r)
 
--- what closes a type that was opened, after the type in it
+-- what closes a type with another one in it, after that one
 unfoldable pub closed_by : Opener → TypeRead → Result TypeRead Refusal
 closed_by openers.Sequence t = after_element t
 closed_by openers.Encapsulation t = after_held t
@@ -107,35 +107,36 @@ abbrev pub found_type : Scope → List ℕ → List ℕ → Option ℕ → Resul
 found_type s text rest None = Err (refused kinds.UnknownType text)
 found_type s text rest (Some n) = Ok (s, n, rest)
 
--- a type by its name, the first word of the text
-unfoldable pub named_type : Scope → List ℕ → List ℕ → List ℕ → Result TypeRead Refusal
-named_type s text w rest =
+-- the type of a name, which is the first word of the text, perhaps as that of a sequence's elements
+unfoldable pub named_type : Bool → Scope → List ℕ → List ℕ → List ℕ → Result TypeRead Refusal
+named_type element s text w rest =
     if is_reserved (is_third s.names) w then Err (misplaced text) else
     (if nat_lt 64 (length w) then Err (refused kinds.Limit text)
-    else found_type s text rest (named s.names w))
+    else found_type s text rest (type_named element s.names w))
 
--- a word that is a type's since version 3
+-- whether a word is this one, which is a type in version 3
 abbrev pub is_later : Scope → List ℕ → List ℕ → Bool
 is_later s w v = is_third s.names && bytes_eq w v
 
-abbrev pub leaf_after : Scope → List ℕ → List ℕ → List ℕ → Option ℕ → Result TypeRead Refusal
-leaf_after s text w rest (Some base) = Ok (s, base, rest)
-leaf_after s text w rest None =
+abbrev pub leaf_after : Bool → Scope → List ℕ → List ℕ → List ℕ → Option ℕ
+    → Result TypeRead Refusal
+leaf_after element s text w rest (Some base) = Ok (s, base, rest)
+leaf_after element s text w rest None =
     if bytes_eq w (codes "string") then text_at s rest else
     (if bytes_eq w (codes "Object") then Ok (s, reference_number s.names, rest) else
     (if is_later s w (codes "any") then Ok (s, ANY, rest) else
     (if is_later s w (codes "TypeCode") then Ok (s, TYPE_CODE, rest) else
     (if is_later s w (codes "wchar") then Ok (s, WIDE_CHAR, rest) else
     (if is_later s w (codes "wstring") then wide_text_at s rest
-    else named_type s text w rest)))))
+    else named_type element s text w rest)))))
 
--- a type that has no other in angle brackets
-unfoldable pub leaf_at : Scope → List ℕ → Result TypeRead Refusal
-leaf_at s text = do
+-- a type without another one in angle brackets, perhaps that of a sequence's elements
+unfoldable pub leaf_at : Bool → Scope → List ℕ → Result TypeRead Refusal
+leaf_at element s text = do
   w ← word_at text
-  leaf_after s text w.0 w.1 (base_of w.0)
+  leaf_after element s text w.0 w.1 (base_of w.0)
 
--- a word that opens a type, and what follows its opening mark
+-- a word that begins a type with another one in it, and the rest after its opening mark
 abbrev pub Opened : Type 0
 Opened = Opener × List ℕ
 
@@ -144,7 +145,8 @@ opened_by o rest = do
   inner ← mark_at marks.OpenAngle rest
   Ok (Some (o, inner))
 
--- the first word of a text where it opens a type; an encapsulation is a type since version 2
+-- the first word of a text, if it begins a type with another one in it; an encapsulation is a type
+-- since version 2
 abbrev pub opener_after : Scope → List ℕ → List ℕ → List ℕ → Result (Option Opened) Refusal
 opener_after s text w rest =
     if bytes_eq w (codes "sequence") then opened_by openers.Sequence rest else
@@ -152,31 +154,37 @@ opener_after s text w rest =
     then (if has_encapsulations s.names then opened_by openers.Encapsulation rest
     else Err (misplaced text)) else Ok None)
 
--- a word that opens a type around another, where one comes first
+-- a word that begins a type with another one in it, if one comes first
 unfoldable pub opener_at : Scope → List ℕ → Result (Option Opened) Refusal
 opener_at s text = do
   w ← word_at text
   opener_after s text w.0 w.1
 
-abbrev pub type_after : (List ℕ → Result TypeRead Refusal) → Scope → List ℕ → Option Opened
-    → Result TypeRead Refusal
-type_after inner s text None = leaf_at s text
-type_after inner s text (Some o) = inner o.1 >>= closed_by o.0
+-- whether a word begins a sequence, so that an element type comes next
+abbrev pub opens_element : Opener → Bool
+opens_element openers.Sequence = true
+opens_element openers.Encapsulation = false
 
--- a type with fewer than so many words that open others in it
-unfoldable pub nested_at : ℕ → Scope → List ℕ → Result TypeRead Refusal
-nested_at zero s text = Err (misplaced text)
-nested_at (suc left) s text = do
+abbrev pub type_after : (Bool → List ℕ → Result TypeRead Refusal) → Bool → Scope → List ℕ
+    → Option Opened → Result TypeRead Refusal
+type_after inner element s text None = leaf_at element s text
+type_after inner element s text (Some o) = inner (opens_element o.0) o.1 >>= closed_by o.0
+
+-- a type with fewer than n words that begin types with others in them, perhaps that of a sequence's
+-- elements
+unfoldable pub nested_at : ℕ → Bool → Scope → List ℕ → Result TypeRead Refusal
+nested_at zero element s text = Err (misplaced text)
+nested_at (suc left) element s text = do
   o ← opener_at s text
-  type_after (nested_at left s) s text o
+  type_after (λ inner. nested_at left inner s) element s text o
 
--- a type; a text has fewer words than octets
+-- a type; there are fewer words than octets in the text
 abbrev pub type_at : Scope → List ℕ → Result TypeRead Refusal
-type_at s text = nested_at (length text) s text
+type_at s text = nested_at (length text) false s text
 
--- ---- a type as the code reads it: all that open, a leaf, and what closes them
+-- ---- a type as the code reads it: all openers, a leaf, and what closes them
 
--- the openers before those that still come, the outermost first, and what follows them
+-- the openers that were read, the outermost first, and the rest of the text
 abbrev pub Openers : Type 0
 Openers = List Opener × List ℕ
 
@@ -184,7 +192,7 @@ abbrev pub opener_or_leaf : Openers → Option Opened → Bool × Openers
 opener_or_leaf os None = (true, os)
 opener_or_leaf os (Some o) = (false, (os.0 ++ o.0 ∷ [], o.1))
 
--- an opener more, where one comes
+-- one more opener, if one comes
 unfoldable pub openers_step : Scope → Openers → Result (Bool × Openers) Refusal
 openers_step s os = do
   o ← opener_at s os.1
@@ -193,7 +201,15 @@ openers_step s os = do
 abbrev pub too_many_openers : Openers → Refusal
 too_many_openers os = misplaced os.1
 
--- what closes openers, the outermost first, around a type
+abbrev pub opens_elements : Option Opener → Bool
+opens_elements None = false
+opens_elements (Some o) = opens_element o
+
+-- whether the type after these openers is that of a sequence's elements
+abbrev pub element_after : List Opener → Bool
+element_after os = opens_elements (slice_get os (length os - 1))
+
+-- what closes these openers, the outermost first, around a type
 unfoldable pub all_closed : List Opener → TypeRead → Result TypeRead Refusal
 all_closed [] t = Ok t
 all_closed (o ∷ os) t = all_closed os t >>= closed_by o

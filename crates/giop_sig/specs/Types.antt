@@ -1,10 +1,8 @@
 -- CDR's types as finite trees (CDR Transfer Syntax, Constructed Types; meaning). The parts of a
--- type are named by their places, from 0.
--- What a union's discriminator selects is determined by the whole number that its octets spell: a
--- label of a signed type is compared
--- with that number taken in two's complement, so that -1 of a short is selected by the octets of
--- 65535.
-use Rattle.std.specs.Prelude.{◌≡◌, ℕ, zero, suc, ◌+◌, ◌<◌, max, cond, nat_lt, Bool, codes, List, [], Option, Some, None}
+-- type are named by their places, from 0 on. What a union's discriminator selects depends on the
+-- whole number that its octets spell. A label of a signed type is compared with that number taken
+-- in two's complement, so that label -1 of a short is selected by the octets of 65535.
+use Rattle.std.specs.Prelude.{◌≡◌, ℕ, zero, suc, ◌+◌, ◌<◌, max, cond, nat_lt, Bool, true, codes, List, [], Option, Some, None}
 use Rattle.giop_cdr.specs.declared.prim.Primitive.{Primitive}
 use Rattle.giop_cdr.specs.declared.number.Number.{Number}
 use Rattle.giop_cdr.specs.declared.number.Number.TheVariants as numbers
@@ -16,32 +14,32 @@ use Rattle.giop_sig.specs.declared.types.Selected.TheVariants.{Nothing}
 use Rattle.giop_sig.specs.declared.types.Shape.{Shape}
 use Rattle.giop_sig.specs.declared.types.Shape.TheVariants as shapes
 
--- A type of one number: a primitive, an enum of so many names, or a number of four octets with a
--- mark, by which it is heard (Kinds).
+-- A type of one number: a primitive, an enum with n names, or a number of four octets with a mark
+-- (Kinds).
 pub data Scalar : Type 0 where
   Plain : Primitive → Scalar
   Enum : ℕ → (ℕ → List ℕ) → Scalar
   Marked : ℕ → Scalar
 
--- how many octets its number takes
+-- how many octets the number takes
 abbrev pub width : Scalar → ℕ
 width (Plain p) = size_of p
 width (Enum count names) = 4
 width (Marked mark) = 4
 
--- what a whole number is as a value of such a type: none for a boolean above 1
+-- the value that a whole number is; none for a boolean above 1
 abbrev pub interpreted_by : Scalar → ℕ → Option Number
 interpreted_by (Plain p) n = interpreted_as p n
 interpreted_by (Enum count names) n = Some (numbers.Unsigned n)
 interpreted_by (Marked mark) n = Some (numbers.Unsigned n)
 
--- what a union's discriminator chooses among: so many cases; or it is a tag, a member itself, part
--- 0 of three
+-- what a union's discriminator selects from: n cases; or the discriminator is a tag, which is a
+-- member itself, part 0 of three
 pub data Choice : Type 0 where
   Cases : ℕ → Choice
   Tag : Choice
 
--- how many parts it has
+-- how many parts there are
 abbrev pub places_of : Choice → ℕ
 places_of (Cases n) = n
 places_of Tag = 3
@@ -53,61 +51,62 @@ tag_of (Cases n) (Marked mark) names = Some (codes "kind")
 tag_of (Cases n) scalar names = None
 tag_of Tag scalar names = Some (names 0)
 
--- ---- what a value tells of what follows it
+-- ---- what a value tells about what comes next in it
 
--- what of a line can tell it: the number of a leaf with a mark, a count of elements, or a piece of
--- a string and whether more follow
+-- something in a line that can tell it: a number with a mark, a count of elements, or a piece of a
+-- string and whether more come
 pub data Sign : Type 0 where
   MarkedNumber : ℕ → ℕ → Sign
   Counted : ℕ → Sign
   Spelt : List ℕ → Bool → Sign
 
--- What was told so far.
+-- What has been told so far.
 pub data Told : Type 0 where
   -- nothing
   Untold : Told
-  -- a kind whose repository id comes, and what has come of it, by the number of both
+  -- the repository id of a kind comes; the number is that of the front of both, as far as they have
+  -- come
   Awaits : ℕ → Told
-  -- a type, whose count of members comes
+  -- this type, if the count that comes next is that of its members
   Offers : ℕ → Told
-  -- a type
+  -- this type
   Is : ℕ → Told
-  -- no octet follows
+  -- no octets come
   Empty : Told
-  -- what follows has no type
+  -- what comes has no known type
   Unknown : Told
 
--- what follows: the part of a number, no part, or octets of no type
+-- what comes next: the part with a number, no part, or octets of no known type
 pub data Sequel : Type 0 where
   Then : ℕ → Sequel
   Ends : Sequel
   Stops : Sequel
 
--- How a value is heard: what a sign changes, and what was told selects.
+-- How a value is heard: what has been told after a sign, and what is selected by that.
 pub record Hearing : Type 0 where
   pub hears : Told → Sign → Told
   pub selects : Told → Sequel
 
--- what follows: no part where nothing was told
+-- what comes next: no part if nothing has been told
 abbrev pub sequel : Hearing → Told → Sequel
 sequel h Untold = Ends
 sequel h told = h.selects told
 
--- Octets with their number in front: those of a sequence, perhaps with a bound, of a wide string, or
--- of a wide character (CDR Transfer Syntax, Strings and Wide Strings, Wide Characters). The bound of
--- a wide string counts characters, and is none of its octets.
+-- Octets after a number that counts them: those of a sequence, perhaps with a bound, of a wide
+-- string, or of a wide character (CDR Transfer Syntax, Strings and Wide Strings, Wide Characters).
+-- The bound of a wide string counts characters, so it is no bound of its octets.
 pub data OctetKind : Type 0 where
   Raw : Option ℕ → OctetKind
   WideText : OctetKind
   WideChar : OctetKind
 
--- how many octets their number takes
+-- how many octets the number before them takes
 abbrev pub size_width : OctetKind → ℕ
 size_width (Raw bound) = 4
 size_width WideText = 4
 size_width WideChar = 1
 
--- how many there may be
+-- how many octets there may be
 abbrev pub bound_of : OctetKind → Option ℕ
 bound_of (Raw bound) = bound
 bound_of kind = None
@@ -116,43 +115,49 @@ pub data Ty : Type 0 where
   Single : Scalar → Ty
   -- a string, perhaps with a bound
   Text : Option ℕ → Ty
-  -- octets of a kind
+  -- counted octets
   Octets : OctetKind → Ty
-  -- how many parts, their names, their types
+  -- how many parts there are, their names and their types
   Struct : ℕ → (ℕ → List ℕ) → (ℕ → Ty) → Ty
-  -- the choice, the discriminator, what each of its numbers selects, the cases' names and types
+  -- the choice, the discriminator, what each number of it selects, and the names and types of the
+  -- cases
   Union : Choice → Scalar → (ℕ → Selected) → (ℕ → List ℕ) → (ℕ → Ty) → Ty
   Sequence : Option ℕ → Ty → Ty
   Array : ℕ → Ty → Ty
-  -- octets with a byte order of their own, that hold a value of a type
+  -- octets with a byte order of their own, which hold a value of a type
   Encapsulation : Ty → Ty
-  -- a part that tells what follows it: how it is heard, its type, and the types of what can follow
+  -- a sequence whose elements have a type that was announced: its bound, whether its elements have
+  -- room, and their type
+  Recursive : Option ℕ → Bool → Ty → Ty
+  -- a part that tells what comes after it: how it is heard, its type, and the types of what may
+  -- come
   Led : Hearing → Ty → (ℕ → Ty) → Ty
 
--- ---- what stands in a type
+-- ---- the parts of a type
 
--- that part is in place 0, and what can follow in the places after it
+-- the part that tells is at place 0, and what may come after it is at the places from 1 on
 abbrev pub led_part : Ty → (ℕ → Ty) → ℕ → Ty
 led_part F parts zero = F
 led_part F parts (suc i) = parts i
 
--- the part in a place; an element's for any place
+-- the part at a place; an element is at each place
 abbrev pub part_of : Ty → ℕ → Ty
 part_of (Struct count names parts) i = parts i
 part_of (Union choice scalar select names cases) i = cases i
 part_of (Array count T) i = T
 part_of (Sequence bound T) i = T
 part_of (Encapsulation T) i = T
+part_of (Recursive bound fits T) i = T
 part_of (Led h F parts) i = led_part F parts i
 part_of T i = T
 
--- the name of the part in a place; an element has none
+-- the name of the part at a place; an element has none
 abbrev pub name_in : Ty → ℕ → List ℕ
 name_in (Struct count names parts) i = names i
 name_in (Union choice scalar select names cases) i = names i
 name_in T i = []
 
--- the name of an enum's number, or the word of one with a mark
+-- the name of an enum's number, or the word of a kind
 abbrev pub enum_name_in : Ty → ℕ → Option (List ℕ)
 enum_name_in (Single (Enum count names)) n = cond (nat_lt n count) (Some (names n)) None
 enum_name_in (Single (Marked mark)) n = marked_word mark n
@@ -168,7 +173,12 @@ abbrev pub select_in : Ty → ℕ → Selected
 select_in (Union choice scalar select names cases) n = select n
 select_in T n = Nothing
 
--- what a discriminator's number is as a value, for a type of one number
+-- whether the elements of a sequence have room; only those of a recursive sequence may have none
+abbrev pub elements_fit : Ty → Bool
+elements_fit (Recursive bound fits T) = fits
+elements_fit T = true
+
+-- the value that a discriminator's number is, in a type of one number
 abbrev pub interpreted_in : Ty → ℕ → Option Number
 interpreted_in (Single scalar) n = interpreted_by scalar n
 interpreted_in T n = None
@@ -184,7 +194,7 @@ octets_shape (Raw bound) = shapes.Octets bound
 octets_shape WideText = shapes.WideText
 octets_shape WideChar = shapes.WideChar
 
--- what a type's outermost form is
+-- the outermost form of a type
 abbrev pub shape_in : Ty → Shape
 shape_in (Single (Plain p)) = shapes.Prim p
 shape_in (Single (Enum count names)) = shapes.Enumeration count
@@ -196,9 +206,10 @@ shape_in (Union choice scalar select names cases) = union_shape choice
 shape_in (Sequence bound T) = shapes.Sequence bound
 shape_in (Array count T) = shapes.Array count
 shape_in (Encapsulation T) = shapes.Encapsulation
+shape_in (Recursive bound fits T) = shapes.Recursive bound
 shape_in (Led h F parts) = shapes.Led
 
--- a type has that outermost form
+-- a type has this outermost form
 abbrev pub HasShape : Ty → Shape → Type 0
 HasShape T (shapes.Prim p) = T ≡ Single (Plain p)
 HasShape T (shapes.Enumeration count) = (names : ℕ → List ℕ) × (T ≡ Single (Enum count names))
@@ -216,32 +227,35 @@ HasShape T (shapes.Union count) =
 HasShape T (shapes.Sequence bound) = (E : Ty) × (T ≡ Sequence bound E)
 HasShape T (shapes.Array count) = (E : Ty) × (T ≡ Array count E)
 HasShape T shapes.Encapsulation = (E : Ty) × (T ≡ Encapsulation E)
+HasShape T (shapes.Recursive bound) = (fits : Bool) × (E : Ty) × (T ≡ Recursive bound fits E)
 HasShape T shapes.Tagged =
     (scalar : Scalar) × (select : ℕ → Selected) × (names : ℕ → List ℕ) × (cases : ℕ → Ty)
     × (T ≡ Union Tag scalar select names cases)
 
--- a shape whose parts have names has a part in that place
+-- a shape whose parts have names has a part at this place
 abbrev pub HasMember : Shape → ℕ → Type 0
 HasMember (shapes.Members count) i = i < count
 HasMember (shapes.Union count) i = i < count
 HasMember shapes.Tagged i = i < 3
 HasMember s i = ⊥
 
--- a shape has a part in that place; elements stand in any place
+-- a shape has a part at this place; elements are at each place
 abbrev pub HasPlace : Shape → ℕ → Type 0
 HasPlace (shapes.Members count) i = i < count
 HasPlace (shapes.Union count) i = i < count
 HasPlace (shapes.Sequence bound) i = Unit {0}
 HasPlace (shapes.Array count) i = Unit {0}
 HasPlace shapes.Encapsulation i = Unit {0}
+HasPlace (shapes.Recursive bound) i = Unit {0}
 HasPlace shapes.Led i = Unit {0}
 HasPlace shapes.Tagged i = i < 3
 HasPlace s i = ⊥
 
--- A part in that place has a smaller number than its whole: all parts have, but for what can follow
--- a part that tells it.
+-- The part at this place has a smaller number than the type. All parts have, apart from what may
+-- come after a part that tells it, and from the elements of a recursive sequence.
 abbrev pub HasInner : Shape → ℕ → Type 0
 HasInner shapes.Led i = i ≡ 0
+HasInner (shapes.Recursive bound) i = ⊥
 HasInner s i = HasPlace s i
 
 abbrev pub IsUnion : Shape → Type 0
@@ -251,12 +265,13 @@ IsUnion s = ⊥
 
 -- ---- depth
 
--- the greatest of the first so many numbers, or 0
+-- the greatest of the first n numbers; 0 if there are none
 abbrev pub most : ℕ → (ℕ → ℕ) → ℕ
 most zero f = 0
 most (suc n) f = max (most n f) (f n)
 
--- 1 for a leaf, and 1 more than the deepest part; a union's discriminator is one of its parts
+-- 1 for a leaf, and otherwise 1 more than the deepest part; a union's discriminator is one of its
+-- parts
 unfoldable pub depth : Ty → ℕ
 depth (Single scalar) = 1
 depth (Text bound) = 1
@@ -267,5 +282,6 @@ depth (Union choice scalar select names cases) =
 depth (Sequence bound T) = 1 + depth T
 depth (Array count T) = 1 + depth T
 depth (Encapsulation T) = 1 + depth T
--- what can follow is counted where it begins
+-- the elements of a recursive sequence and what may come after a part that tells it don't count
+depth (Recursive bound fits T) = 2
 depth (Led h F parts) = 1 + depth F

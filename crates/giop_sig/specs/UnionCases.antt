@@ -1,5 +1,5 @@
--- The cases of a union as contracts see them, and the list of its labels in which a case is
--- searched for (state).
+-- The cases of a union as contracts see them, and the list of labels in which a case is searched
+-- (state).
 use Rattle.std.specs.Prelude.{◌≡◌, ℕ, ◌<◌, Bool, true, List, length, Some, None, slice_index_or}
 use Rattle.std.specs.List.{All, Contains}
 use Rattle.std.specs.Int.{w64, cast_unsigned, from_bool}
@@ -16,7 +16,7 @@ part_view p = record { name = p.name; type = p.type_id.0 }
 abbrev pub case_view : CaseEntry → Case
 case_view c = record { labels = c.labels.items; part = part_view c.part }
 
--- where a number stands in the list: those of one type have different keys
+-- the key by which a number is sorted; different values of one type have different keys
 abbrev pub key_of : Number → ℕ
 key_of (numbers.Unsigned n) = n
 key_of (numbers.Signed n) = cast_unsigned w64 n
@@ -24,7 +24,7 @@ key_of (numbers.Bits n) = n
 key_of (numbers.Truth b) = from_bool b
 key_of (numbers.Char n) = n
 
--- the keys rise along the list
+-- the keys ascend
 abbrev pub Rise : List PlacedLabel → Type 0
 Rise ls = (i j : ℕ) (d : PlacedLabel) → i < j → j < length ls
     → key_of (slice_index_or ls i d).number < key_of (slice_index_or ls j d).number
@@ -32,13 +32,12 @@ Rise ls = (i j : ℕ) (d : PlacedLabel) → i < j → j < length ls
 abbrev pub placed : ℕ → Number → PlacedLabel
 placed i n = record { number = n; place = i }
 
--- each number of the list selects some case, and the case that a number selects is in the list
--- beside it
+-- each number of the list selects a case, and the case that a number selects is with it in the list
 pub record AreLabels (cases : List Case) (ls : List PlacedLabel) : Type 0 where
   pub each : All (λ l. case_with l.number cases ≡ None → ⊥) ls
   pub whole : (n : Number) (i : ℕ) → case_with n cases ≡ Some i → Contains ls (placed i n)
 
--- the labels of the cases; and their keys rise, if that is noted
+-- the labels of the cases; their keys ascend if that is noted
 pub record AreFound (cases : List Case) (ls : List PlacedLabel) (rises : Bool) : Type 0 where
   pub labels : AreLabels cases ls
   pub order : rises ≡ true → Rise ls

@@ -13,18 +13,19 @@ use Rattle.giop_tokens.specs.Readers.{misplaced, mark_at, keyword_at, mark_if, k
 use Rattle.giop_tokens.specs.Names.{is_reserved}
 use Rattle.giop_sig.specs.declared.types.Selected.{Selected}
 use Rattle.giop_sig.specs.declared.types.Selected.TheVariants as selecteds
+use Rattle.giop_sig.specs.declared.announced.TypeWord.TheVariants as type_words
 use Rattle.giop_sig.specs.Table.{Part, Case, Node, node_at, same_number}
 use Rattle.giop_sig.specs.Table as nodes
 use Rattle.giop_sig.specs.Grammar.{Value, Plain, Below, Truth, Enumerator}
 use Rattle.giop_sig.specs.Scopes.{is_third, Scope, label_number}
 use Rattle.giop_sig.specs.Outcomes.{refused}
 use Rattle.giop_sig.specs.TypeReading.{TypeRead, type_at}
-use Rattle.giop_sig.specs.ItemReading.{declared_at, item_at, filled_at, identity_at, Declared, type_end_at}
+use Rattle.giop_sig.specs.ItemReading.{announcement_at, announces_at, declared_at, item_at, filled_at, identity_at, Declared, type_end_at}
 use Rattle.giop_sig.specs.Repeats.{in_steps}
 
 -- ---- a label
 
--- the value that a word is
+-- the value of a word
 abbrev pub word_value : Bool → List ℕ → List ℕ → List ℕ → Result (Value × List ℕ) Refusal
 word_value third text w rest =
     if bytes_eq w (codes "true") then Ok (Truth true, rest) else
@@ -46,7 +47,7 @@ value_at third text = do
   t ← next text
   token_value third text t.0 t.1
 
--- a label that was read: the number that it names, none for the default
+-- a label that was read: the number that it names; None for the default
 abbrev pub Mark : Type 0
 Mark = Option Number
 
@@ -62,13 +63,13 @@ abbrev pub fitting : List ℕ → List ℕ → Option Number → Result LabelRea
 fitting text rest None = Err (refused kinds.Label text)
 fitting text rest (Some n) = Ok (Some n, rest)
 
--- the number that a value of the discriminator's type names
+-- the value of the discriminator's type that the next value names
 unfoldable pub number_of_value : Bool → Node → List ℕ → Result LabelRead Refusal
 number_of_value third node text = do
   v ← value_at third text
   fitting text v.1 (label_number node v.0)
 
--- a label after others of its union
+-- a label that isn't among those of its union
 unfoldable pub unseen_label : List Mark → Mark → List ℕ → Result Mark Refusal
 unseen_label seen m text =
     if list_any (λ s. same_mark s m) seen then Err (refused kinds.Duplicate text)
@@ -87,7 +88,7 @@ label_by third node seen text None = do
   rest ← mark_at marks.Colon inner
   Ok (m, rest)
 
--- a label, with its colon
+-- a label with its colon
 unfoldable pub label_at : Bool → Node → List Mark → List ℕ → Result LabelRead Refusal
 label_at third node seen text = do
   value ← keyword_if (codes "case") text
@@ -95,8 +96,8 @@ label_at third node seen text = do
 
 -- ---- the labels of a case
 
--- all labels of the union so far; of the case, the numbers, and whether it has the default; what
--- follows
+-- all labels of the union so far; the numbers of the case's labels; whether the case has the
+-- default; and the rest of the text
 abbrev pub LabelsRead : Type 0
 LabelsRead = List Mark × List Number × Bool × List ℕ
 
@@ -117,7 +118,7 @@ label_or_end third node ls true = do
   l ← label_at third node ls.0 ls.3
   Ok (false, with_label ls l)
 
--- a label more, where one comes
+-- one more label, if one comes
 unfoldable pub labels_step : Bool → Node → LabelsRead → Result (Bool × LabelsRead) Refusal
 labels_step third node ls = do
   more ← begins_label ls.3
@@ -131,7 +132,7 @@ labels_by third node seen text false = Err (misplaced text)
 labels_by third node seen text true =
     in_steps (labels_step third node) too_many_labels 1025 (seen, [], false, text)
 
--- the labels of a case, one at least
+-- the labels of a case, at least one
 unfoldable pub labels_at : Bool → Node → List Mark → List ℕ → Result LabelsRead Refusal
 labels_at third node seen text = do
   some ← begins_label text
@@ -139,7 +140,7 @@ labels_at third node seen text = do
 
 -- ---- cases
 
--- the labels and names of the cases so far, the cases, and which of them has the default
+-- the labels and names of the cases so far, the cases, and the one with the default
 pub record Cases : Type 0 where
   pub labels : List Mark
   pub names : List (List ℕ)
@@ -149,7 +150,7 @@ pub record Cases : Type 0 where
 abbrev pub no_cases : Cases
 no_cases = record { labels = []; names = []; cases = []; otherwise = selecteds.Nothing }
 
--- the first with the default
+-- the first case with the default
 abbrev pub chosen : Selected → Bool → ℕ → Selected
 chosen selecteds.Nothing true i = selecteds.Case i
 chosen selecteds.Nothing false i = selecteds.Nothing
@@ -167,7 +168,7 @@ with_case cs ls p = record {
 abbrev pub CasesRead : Type 0
 CasesRead = Scope × Cases × List ℕ
 
--- a case of a union whose discriminator has the type of a number
+-- a case of a union whose discriminator has the type with this number
 unfoldable pub case_at : ℕ → CasesRead → Result CasesRead Refusal
 case_at switch x = do
   ls ← labels_at (is_third (x.0).names) (node_at (x.0).table switch) (x.1).labels x.2
@@ -181,7 +182,7 @@ case_or_end switch x None = do
   c ← case_at switch x
   Ok (false, c)
 
--- the closing mark, or a case more
+-- the closing mark, or one more case
 unfoldable pub cases_step : ℕ → CasesRead → Result (Bool × CasesRead) Refusal
 cases_step switch x = do
   closed ← mark_if marks.CloseBrace x.2
@@ -190,7 +191,7 @@ cases_step switch x = do
 abbrev pub too_many_cases : CasesRead → Refusal
 too_many_cases x = refused kinds.Limit x.2
 
--- cases up to the closing mark, one at least
+-- cases up to the closing mark, at least one
 unfoldable pub cases_at : ℕ → Scope → List ℕ → Result CasesRead Refusal
 cases_at switch s text = do
   some ← filled_at text
@@ -198,7 +199,7 @@ cases_at switch s text = do
 
 -- ---- the declaration
 
--- whether values of a type can be a discriminator's
+-- whether a type can be that of a discriminator
 abbrev pub can_switch : Node → Bool
 can_switch (nodes.prim prims.Octet) = false
 can_switch (nodes.prim prims.Float) = false
@@ -217,15 +218,22 @@ switch_at s text = do
   t ← type_at s text
   if can_switch (node_at (t.0).table t.1) then Ok t else Err (refused kinds.Label text)
 
--- a union, after its word
-unfoldable pub union_at : Scope → List ℕ → Result Declared Refusal
-union_at s text = do
-  n ← declared_at s s.table.declared text
-  i ← identity_at s n.1
-  w ← keyword_at (codes "switch") i.1
-  p ← mark_at marks.OpenParenthesis w
+-- a union, after its name, which is at the front of `text`
+unfoldable pub union_after : Scope → List ℕ → List ℕ → List ℕ → Result Declared Refusal
+union_after s text w rest = do
+  i ← identity_at s rest
+  k ← keyword_at (codes "switch") i.1
+  p ← mark_at marks.OpenParenthesis k
   t ← switch_at s p
   q ← mark_at marks.CloseParenthesis t.2
   o ← mark_at marks.OpenBrace q
   cs ← cases_at t.1 t.0 o
-  type_end_at (left_of text) n.0 i.0 cs.0 (union_node t.1 cs) cs.2
+  type_end_at (left_of text) w i.0 cs.0 (union_node t.1 cs) cs.2
+
+-- a union, or its announcement, after its first word
+unfoldable pub union_at : Scope → List ℕ → Result Declared Refusal
+union_at s text = do
+  n ← declared_at s (Some type_words.Union) s.table.declared text
+  a ← announces_at s n.1
+  if a then announcement_at s type_words.Union text n.0 n.1
+      else union_after s text n.0 n.1

@@ -1,9 +1,10 @@
--- When declarations are valid (docs/FORMATS.md, Signature file): one rule for each kind of refusal
--- (meaning). The rule of a kind asks something of the names, sizes, lists and labels of a
--- declaration; where no case below names the kind, it asks nothing.
-use Rattle.std.specs.Prelude.{◌≡◌, ◌⊎◌, ℕ, ◌+◌, ◌^◌, ◌<◌, ◌≤◌, ◌==◌, Bool, true, false, List, [], ◌∷◌, ◌++◌, length, map, Option, Some, None}
+-- When declarations are valid (docs/FORMATS.md, Signature file): there is one rule for each kind of
+-- refusal (meaning). The rule of a kind asks something of the names, sizes, lists and labels of a
+-- declaration. If no case below has the kind, it asks nothing.
+use Rattle.std.specs.Prelude.{◌≡◌, ◌⊎◌, ℕ, ◌+◌, ◌^◌, ◌<◌, ◌≤◌, ◌==◌, Bool, true, false, List, [], ◌∷◌, ◌++◌, length, map, not, ◌||◌, position, Option, Some, None}
 use Rattle.std.specs.List.{list_any}
 use Rattle.std.specs.Map.{lookup}
+use Rattle.std.specs.Option.{is_some}
 use Rattle.std.specs.Str.{bytes_eq}
 use mathlib.Core.Bool.{beq}
 use Rattle.giop_cdr.specs.declared.prim.Primitive.TheVariants as prims
@@ -12,28 +13,30 @@ use Rattle.giop_tokens.specs.declared.fault.SigFaultKind.{SigFaultKind}
 use Rattle.giop_tokens.specs.declared.fault.SigFaultKind.TheVariants as kinds
 use Rattle.giop_tokens.specs.Names.{is_reserved}
 use Rattle.giop_tokens.specs.Tokens.{AreTokens}
+use Rattle.giop_sig.specs.declared.announced.TypeWord.{TypeWord}
+use Rattle.giop_sig.specs.declared.announced.TypeWord.TheVariants as type_words
 use Rattle.giop_sig.specs.Interfaces.{Interfaces, is_key, number_of, of_text}
 use Rattle.giop_sig.specs.Table.{Part, Node, Table, node_at, operation_key, keyed_number, with_variant, exception_in, identified_in}
 use Rattle.giop_sig.specs.Table as nodes
 use Rattle.giop_sig.specs.Trees.{depth_of}
-use Rattle.giop_sig.specs.Grammar.{TypeExpr, Base, Text, Reference, AnyType, CodeType, WideChar, WideText, Named, SequenceOf, EncapsulationOf, Item, Value, Plain, Below, Truth, Enumerator, Label, Default, Of, UnionCase, Param, Declaration, Enumeration, Structure, DeclaredUnion, DeclaredException, Call, KeyOf, SignatureFile, is_version, spell_file}
-use Rattle.giop_sig.specs.Scopes.{Names, has_encapsulations, is_third, Scope, AddedType, first_scope, AddedParameters, add_struct_type, add_params, add_return, named, place, label_number, labels_of, declare, scope_after}
+use Rattle.giop_sig.specs.Grammar.{TypeExpr, Base, Text, Reference, AnyType, CodeType, WideChar, WideText, Named, SequenceOf, EncapsulationOf, Item, Value, Plain, Below, Truth, Enumerator, Label, Default, Of, UnionCase, Param, Declaration, Enumeration, Structure, DeclaredUnion, Announcement, DeclaredException, Call, KeyOf, SignatureFile, is_version, spell_file}
+use Rattle.giop_sig.specs.Scopes.{Names, Announced, announced_as, type_named, last_scope, targets, has_encapsulations, is_third, Scope, AddedType, first_scope, AddedParameters, add_struct_type, add_params, add_return, place, label_number, labels_of, declare, scope_after}
 
 abbrev pub Kind : Type 0
 Kind = SigFaultKind
 
 -- ---- names and sizes
 
--- a name is no reserved word; the flag is whether the file has version 3
+-- a name is no reserved word; `third` says whether the file has version 3
 abbrev pub IsFree : Bool → List ℕ → Type 0
 IsFree third w = is_reserved third w ≡ false
 
--- a name that is used as a type
-abbrev pub OfTypeName : Kind → Names → List ℕ → Type 0
-OfTypeName kinds.Syntax names w = IsFree (is_third names) w
-OfTypeName kinds.Limit names w = length w ≤ 64
-OfTypeName kinds.UnknownType names w = (i : ℕ) × (named names w ≡ Some i)
-OfTypeName k names w = Unit {0}
+-- a name that is used as a type, perhaps as that of a sequence's elements
+abbrev pub OfTypeName : Kind → Bool → Names → List ℕ → Type 0
+OfTypeName kinds.Syntax element names w = IsFree (is_third names) w
+OfTypeName kinds.Limit element names w = length w ≤ 64
+OfTypeName kinds.UnknownType element names w = (i : ℕ) × (type_named element names w ≡ Some i)
+OfTypeName k element names w = Unit {0}
 
 -- a bound, or the length of an array
 abbrev pub OfSize : Kind → ℕ → Type 0
@@ -48,7 +51,7 @@ OfBound k (Some n) = OfSize k n
 abbrev pub is_among : List (List ℕ) → List ℕ → Bool
 is_among seen w = list_any (λ n. bytes_eq n w) seen
 
--- a name after those of its list, which may have so many
+-- a name that isn't in `seen`, which may have `most` names
 abbrev pub OfNewName : Kind → Bool → ℕ → List (List ℕ) → List ℕ → Type 0
 OfNewName kinds.Syntax third most seen w = IsFree third w
 OfNewName kinds.Limit third most seen w = (length w ≤ 64) × (length seen < most)
@@ -62,27 +65,29 @@ OfSome k xs = Unit {0}
 
 -- ---- types and items
 
--- the word of an encapsulation is allowed only in files of its version or a later one
+-- only files of version 2 or later have encapsulations
 abbrev pub OfVersion : Kind → Names → Type 0
 OfVersion kinds.Syntax names = has_encapsulations names ≡ true
 OfVersion k names = Unit {0}
 
--- only a file of version 3 has interfaces, anys, TypeCodes, wide text and arrays of arrays
+-- only files of version 3 have interfaces, anys, TypeCodes, wide text, arrays of arrays and
+-- announcements
 abbrev pub OfThird : Kind → Names → Type 0
 OfThird kinds.Syntax names = is_third names ≡ true
 OfThird k names = Unit {0}
 
-unfoldable pub OfType : Kind → Names → TypeExpr → Type 0
-OfType k names (Base p) = Unit {0}
-OfType k names (Text bound) = OfBound k bound
-OfType k names Reference = Unit {0}
-OfType k names AnyType = OfThird k names
-OfType k names CodeType = OfThird k names
-OfType k names WideChar = OfThird k names
-OfType k names (WideText bound) = OfThird k names × OfBound k bound
-OfType k names (Named w) = OfTypeName k names w
-OfType k names (SequenceOf e bound) = OfType k names e × OfBound k bound
-OfType k names (EncapsulationOf e) = OfVersion k names × OfType k names e
+-- a type, perhaps that of a sequence's elements
+unfoldable pub OfType : Kind → Bool → Names → TypeExpr → Type 0
+OfType k element names (Base p) = Unit {0}
+OfType k element names (Text bound) = OfBound k bound
+OfType k element names Reference = Unit {0}
+OfType k element names AnyType = OfThird k names
+OfType k element names CodeType = OfThird k names
+OfType k element names WideChar = OfThird k names
+OfType k element names (WideText bound) = OfThird k names × OfBound k bound
+OfType k element names (Named w) = OfTypeName k element names w
+OfType k element names (SequenceOf e bound) = OfType k true names e × OfBound k bound
+OfType k element names (EncapsulationOf e) = OfVersion k names × OfType k false names e
 
 abbrev pub OfSizes : Kind → List ℕ → Type 0
 OfSizes k [] = Unit {0}
@@ -93,23 +98,23 @@ abbrev pub OfInner : Kind → Names → List ℕ → Type 0
 OfInner k names [] = Unit {0}
 OfInner k names (n ∷ ns) = OfThird k names
 
--- the lengths of arrays in arrays
+-- the lengths of arrays of arrays
 abbrev pub OfLengths : Kind → Names → List ℕ → Type 0
 OfLengths k names [] = Unit {0}
 OfLengths k names (n ∷ ns) = OfInner k names ns × OfSizes k (n ∷ ns)
 
 abbrev pub OfItem : Kind → Names → ℕ → List (List ℕ) → Item → Type 0
 OfItem k names most seen i =
-    OfType k names i.type × OfNewName k (is_third names) most seen i.name
+    OfType k false names i.type × OfNewName k (is_third names) most seen i.name
     × OfLengths k names i.lengths
 
--- items after others of these names
+-- items whose names aren't in `seen`
 unfoldable pub OfItems : Kind → Names → ℕ → List (List ℕ) → List Item → Type 0
 OfItems k names most seen [] = Unit {0}
 OfItems k names most seen (i ∷ is) =
     OfItem k names most seen i × OfItems k names most (seen ++ i.name ∷ []) is
 
--- enumerators after others
+-- enumerators that aren't in `seen`
 unfoldable pub OfNames : Kind → Bool → List (List ℕ) → List (List ℕ) → Type 0
 OfNames k third seen [] = Unit {0}
 OfNames k third seen (n ∷ ns) =
@@ -117,7 +122,7 @@ OfNames k third seen (n ∷ ns) =
 
 -- ---- unions
 
--- a type that can be a discriminator's
+-- a type that a discriminator may have
 abbrev pub IsDiscriminator : Node → Type 0
 IsDiscriminator (nodes.prim prims.Octet) = ⊥
 IsDiscriminator (nodes.prim prims.Float) = ⊥
@@ -163,7 +168,7 @@ same_label Default Default = true
 same_label (Of v) (Of w) = same_value v w
 same_label _ _ = false
 
--- a label after those of its union
+-- a label that isn't among those of its union
 abbrev pub OfNewLabel : Kind → List Label → Label → Type 0
 OfNewLabel kinds.Limit seen l = length seen < 1024
 OfNewLabel kinds.Duplicate seen l = list_any (same_label l) seen ≡ false
@@ -177,7 +182,7 @@ OfLabels k third node seen [] = Unit {0}
 OfLabels k third node seen (l ∷ ls) =
     OfLabel k third node seen l × OfLabels k third node (seen ++ l ∷ []) ls
 
--- cases after others of these labels and names
+-- cases whose labels and names are new
 unfoldable pub OfCases : Kind → Names → Node → List Label → List (List ℕ) → List UnionCase → Type 0
 OfCases k names node labels seen [] = Unit {0}
 OfCases k names node labels seen (c ∷ cs) =
@@ -190,12 +195,34 @@ placed_node p = node_at (p.0).table p.1
 
 -- ---- declarations
 
--- the name of an enum, struct, union or exception, of which the scope has so many
-abbrev pub OfDeclared : Kind → Scope → ℕ → List ℕ → Type 0
-OfDeclared kinds.Syntax s count w = IsFree (is_third s.names) w
-OfDeclared kinds.Limit s count w = (length w ≤ 64) × (count < 4096)
-OfDeclared kinds.Duplicate s count w = lookup (bytes_eq w) s.names.known ≡ None
-OfDeclared k s count w = Unit {0}
+abbrev pub same_word : Option TypeWord → TypeWord → Bool
+same_word (Some type_words.Struct) type_words.Struct = true
+same_word (Some type_words.Union) type_words.Union = true
+same_word word announced = false
+
+-- whether a declaration can be of a name that is announced like this; `word` is its first word, if
+-- that is a struct's or a union's
+abbrev pub can_declare : Option TypeWord → Option Announced → Bool
+can_declare word None = true
+can_declare word (Some a) = same_word word a.word
+
+-- whether a name is declared, or announced with another word
+abbrev pub is_taken : Names → Option TypeWord → List ℕ → Bool
+is_taken names word w =
+    is_some (lookup (bytes_eq w) names.known) || not (can_declare word (announced_as names w))
+
+-- The new name of an enum, struct, union or exception. The scope has `count` of these, and `word`
+-- is the first word of a struct or union.
+abbrev pub OfDeclared : Kind → Scope → Option TypeWord → ℕ → List ℕ → Type 0
+OfDeclared kinds.Syntax s word count w = IsFree (is_third s.names) w
+OfDeclared kinds.Limit s word count w = (length w ≤ 64) × (count < 4096)
+OfDeclared kinds.Duplicate s word count w = is_taken s.names word w ≡ false
+OfDeclared k s word count w = Unit {0}
+
+-- a name that is not announced yet
+abbrev pub OfAnnounced : Kind → Names → List ℕ → Type 0
+OfAnnounced kinds.Duplicate names w = is_some (announced_as names w) ≡ false
+OfAnnounced k names w = Unit {0}
 
 -- the repository id of an exception
 abbrev pub OfRepository : Kind → Scope → List ℕ → Type 0
@@ -203,7 +230,7 @@ OfRepository kinds.Limit s r = length r ≤ 128
 OfRepository kinds.Duplicate s r = exception_in s.table r ≡ None
 OfRepository k s r = Unit {0}
 
--- the repository id of an enum, struct or union; only those of a file of version 3 have one
+-- the repository id of an enum, struct or union; only those in a file of version 3 have one
 abbrev pub OfTypeId : Kind → Scope → List ℕ → Type 0
 OfTypeId kinds.Syntax s id = is_third s.names ≡ true
 OfTypeId kinds.Limit s id = length id ≤ 128
@@ -214,7 +241,7 @@ abbrev pub OfIdentity : Kind → Scope → Option (List ℕ) → Type 0
 OfIdentity k s None = Unit {0}
 OfIdentity k s (Some id) = OfTypeId k s id
 
--- the name of an operation, which is new in a file without interfaces
+-- the name of an operation, which must be new in a file without interfaces
 abbrev pub OfOperation : Kind → Scope → List ℕ → Type 0
 OfOperation kinds.Limit s w = (length w ≤ 128) × (s.table.called < 4096)
 OfOperation kinds.Duplicate s w =
@@ -227,12 +254,12 @@ OfInterface kinds.Limit i id =
     (length id ≤ 128) × ((list_any (bytes_eq id) i.names ≡ true) ⊎ (length i.names < 1024))
 OfInterface k i id = Unit {0}
 
--- no operation of this key is declared
+-- no operation with this key is declared
 abbrev pub OfNewKey : Kind → Table → List ℕ → Type 0
 OfNewKey kinds.Duplicate t key = keyed_number t key ≡ None
 OfNewKey k t key = Unit {0}
 
--- interfaces of an operation with these structs, after those that are in the table
+-- the interfaces of an operation with these structs; the table has those before them
 unfoldable pub OfVariants : Kind → List ℕ → ℕ → ℕ → List (List ℕ) → Table → Type 0
 OfVariants k w request reply [] t = Unit {0}
 OfVariants k w request reply (id ∷ ids) t =
@@ -246,7 +273,7 @@ OfList k names w request reply [] t = OfNewKey k t (operation_key 0 w)
 OfList k names w request reply (id ∷ ids) t =
     OfThird k names × OfVariants k w request reply (id ∷ ids) t
 
--- the same in the scope behind its structs
+-- the same in the scope after the structs were added
 abbrev pub OfListed : Kind → Names → List ℕ → List (List ℕ) → ℕ → AddedType → Type 0
 OfListed k names w ids request p = OfList k names w request p.1 ids (p.0).table
 
@@ -267,24 +294,27 @@ OfKey k names i text = Unit {0}
 
 abbrev pub OfReturn : Kind → Names → Option TypeExpr → Type 0
 OfReturn k names None = Unit {0}
-OfReturn k names (Some e) = OfType k names e
+OfReturn k names (Some e) = OfType k false names e
 
 abbrev pub items_of : List Param → List Item
 items_of ps = map (λ p. p.item) ps
 
 unfoldable pub OfDeclaration : Kind → Scope → Declaration → Type 0
 OfDeclaration k s (Enumeration n id names) =
-    OfDeclared k s s.table.declared n × OfIdentity k s id × OfSome k names
+    OfDeclared k s None s.table.declared n × OfIdentity k s id × OfSome k names
     × OfNames k (is_third s.names) [] names
 OfDeclaration k s (Structure n id items) =
-    OfDeclared k s s.table.declared n × OfIdentity k s id × OfSome k items
+    OfDeclared k s (Some type_words.Struct) s.table.declared n × OfIdentity k s id × OfSome k items
     × OfItems k s.names 256 [] items
 OfDeclaration k s (DeclaredUnion n id switch cases) =
-    OfDeclared k s s.table.declared n × OfIdentity k s id × OfType k s.names switch
+    OfDeclared k s (Some type_words.Union) s.table.declared n × OfIdentity k s id
+    × OfType k false s.names switch
     × OfSwitch k (placed_node (place s switch)) × OfSome k cases
     × OfCases k s.names (placed_node (place s switch)) [] [] cases
+OfDeclaration k s (Announcement word n) =
+    OfDeclared k s (Some word) s.table.declared n × OfThird k s.names × OfAnnounced k s.names n
 OfDeclaration k s (DeclaredException n r items) =
-    OfDeclared k s (length s.table.exceptions) n × OfRepository k s r
+    OfDeclared k s None (length s.table.exceptions) n × OfRepository k s r
     × OfItems k s.names 256 [] items
 OfDeclaration k s (Call returned n params ids) =
     OfReturn k s.names returned × OfOperation k s n × OfItems k s.names 255 [] (items_of params)
@@ -292,9 +322,10 @@ OfDeclaration k s (Call returned n params ids) =
 OfDeclaration k s (KeyOf text id) =
     OfKey k s.names s.table.interfaces text × OfInterface k s.table.interfaces id
 
--- ---- the rules, of a declaration after those that made the scope
+-- ---- the rules for a declaration, after those that made the scope
 
--- each name that is used as a type is that of an enum, struct or union declared before it
+-- each name that is used as a type is that of an enum, struct or union declared before; as that of
+-- a sequence's elements it may be one that is only announced
 abbrev pub TypesAreKnown : Scope → Declaration → Type 0
 TypesAreKnown s d = OfDeclaration kinds.UnknownType s d
 
@@ -302,11 +333,11 @@ TypesAreKnown s d = OfDeclaration kinds.UnknownType s d
 abbrev pub NamesAreDistinct : Scope → Declaration → Type 0
 NamesAreDistinct s d = OfDeclaration kinds.Duplicate s d
 
--- enums, structs and unions have something in them, and no length or bound is 0
+-- enums, structs and unions aren't empty, and no length or bound is 0
 abbrev pub IsNotEmpty : Scope → Declaration → Type 0
 IsNotEmpty s d = OfDeclaration kinds.Empty s d
 
--- a discriminator is of a type that can be one, and each label is a value of it
+-- the type of a discriminator can be one, and each label is a value of it
 abbrev pub LabelsFit : Scope → Declaration → Type 0
 LabelsFit s d = OfDeclaration kinds.Label s d
 
@@ -314,11 +345,12 @@ LabelsFit s d = OfDeclaration kinds.Label s d
 abbrev pub IsShallow : Scope → Declaration → Type 0
 IsShallow s d = depth_of (declare s d).table.types ≤ 24
 
--- names are short, lengths and bounds fit in 32 bits, and there are not too many of anything
+-- names are short, lengths and bounds are less than 2^32, and there isn't too much of anything
 abbrev pub IsWithinLimits : Scope → Declaration → Type 0
 IsWithinLimits s d = OfDeclaration kinds.Limit s d
 
--- its names are no reserved words, and it has no words of a later version; this is grammar
+-- its names are no reserved words, and it has no words of a later version; this rule belongs to the
+-- grammar
 abbrev pub HasItsWords : Scope → Declaration → Type 0
 HasItsWords s d = OfDeclaration kinds.Syntax s d
 
@@ -329,18 +361,27 @@ Rule k s d = OfDeclaration k s d
 
 -- ---- lists of declarations
 
--- a rule holds of each, in the scope of those before it
+-- a rule is true of each declaration, in the scope of those before it
 unfoldable pub Each : (Scope → Declaration → Type 0) → Scope → List Declaration → Type 0
 Each R s [] = Unit {0}
 Each R s (d ∷ ds) = R s d × Each R (declare s d) ds
 
 -- ---- files
 
--- a rule holds of each declaration of a file
+-- a rule is true of each declaration of a file
 abbrev pub EachOf : (Scope → Declaration → Type 0) → SignatureFile → Type 0
 EachOf R file = Each R (first_scope file.version) file.declarations
 
+-- the place of the first announcement whose name isn't declared
+abbrev pub first_undeclared : Names → Option ℕ
+first_undeclared names = position (λ t. not (is_some t)) (targets names)
+
+-- each name that is announced is declared in the file
+abbrev pub AllAreDeclared : SignatureFile → Type 0
+AllAreDeclared file = first_undeclared (last_scope file).names ≡ None
+
 pub record IsValid (file : SignatureFile) : Type 0 where
+  pub declared : AllAreDeclared file
   pub known : EachOf TypesAreKnown file
   pub distinct : EachOf NamesAreDistinct file
   pub some : EachOf IsNotEmpty file
@@ -348,14 +389,14 @@ pub record IsValid (file : SignatureFile) : Type 0 where
   pub shallow : EachOf IsShallow file
   pub within : EachOf IsWithinLimits file
 
--- the text is this file, of a version up to one
+-- the text is this file, whose version is at most `latest`
 pub record SpellsUpTo (latest : ℕ) (text : List ℕ) (file : SignatureFile) : Type 0 where
   pub short : length text ≤ 1048576
   pub tokens : AreTokens text (spell_file file)
   pub version : is_version latest file.version ≡ true
   pub words : EachOf HasItsWords file
 
--- the text is this file, of version 1 or 2
+-- the text is this file, whose version is 1 or 2
 abbrev pub Spells : List ℕ → SignatureFile → Type 0
 Spells text file = SpellsUpTo 2 text file
 
@@ -367,9 +408,10 @@ pub record IsBroken (k : Kind) (file : SignatureFile) : Type 0 where
   pub all : file.declarations ≡ before ++ broken ∷ after
   pub breaks : Rule k (scope_after (first_scope file.version) before) broken → ⊥
 
--- a refusal of this kind, of a text that spells the file: only memory needs no reason
+-- a text that spells the file is refused with this kind; only memory needs no reason
 abbrev pub Refuses : Kind → SignatureFile → Type 0
 Refuses kinds.OutOfMemory file = Unit {0}
 Refuses kinds.Token file = ⊥
 Refuses kinds.Syntax file = ⊥
+Refuses kinds.UnknownType file = IsBroken kinds.UnknownType file ⊎ (AllAreDeclared file → ⊥)
 Refuses k file = IsBroken k file

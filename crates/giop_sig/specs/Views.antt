@@ -6,7 +6,7 @@ use Rattle.giop_sig.specs.declared.entries.Entry.TheVariants as entries
 use Rattle.giop_sig.specs.declared.entries.EntryWithDepth.{EntryWithDepth}
 use Rattle.giop_sig.specs.declared.entries.TypeCodeEntry.{TypeCodeEntry}
 use Rattle.giop_sig.specs.HeaderTypes.{IsTable}
-use Rattle.giop_sig.specs.Table.{Node, Table, prim, enumeration, text, octets, wide_text, wide_char, members, union, sequence, array, encapsulation, tagged, marked, any, typecode}
+use Rattle.giop_sig.specs.Table.{Node, Table, prim, enumeration, text, octets, wide_text, wide_char, members, union, sequence, array, encapsulation, tagged, marked, any, announced, recursive, typecode}
 use Rattle.giop_sig.specs.Trees.{AreFormed, depth_in, depth_of, wide_in}
 use Rattle.giop_sig.specs.UnionCases.{part_view}
 
@@ -33,8 +33,10 @@ node_view (entries.Sequence bound element) = sequence bound element.0
 node_view (entries.Array count element) = array count element.0
 node_view (entries.Encapsulation held) = encapsulation held.0
 node_view (entries.Tagged t) = tag_view t
+node_view (entries.Announced place) = announced place
+node_view (entries.Recursive bound element) = recursive bound element.0
 
--- an entry whose parts or names are few enough to be counted in a shape
+-- an entry with at most as many parts or names as a shape can count
 abbrev pub IsSized : Entry → Type 0
 IsSized (entries.Enumeration names) = length names.items ≤ 1024
 IsSized (entries.Members parts) = length parts.items ≤ 256
@@ -45,12 +47,13 @@ IsSized entry = Unit {0}
 abbrev pub nodes_view : List EntryWithDepth → List Node
 nodes_view ps = map (λ p. node_view p.entry) ps
 
--- a table as it is seen, and the entries of its types
+-- a table as messages see it, and the entries of its types
 pub record IsSeen (t : Table) (ps : List EntryWithDepth) : Type 0 where
   pub table : IsTable t
   pub entries : nodes_view ps ≡ t.types
 
--- entries with the depths of their types, whether these have wide text, and the greatest depth
+-- the depth of each entry's type, whether it has wide text, and the greatest depth, as they are
+-- kept
 pub record IsKept (ps : List EntryWithDepth) (deepest : ℕ) : Type 0 where
   pub types : AreFormed (nodes_view ps)
   pub each : (i : ℕ) → i < length ps

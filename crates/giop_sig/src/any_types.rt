@@ -1,5 +1,5 @@
-//! The types that every catalogue of a file of version 3 has beside the built-in ones: `any`, `TypeCode`, what these are
-//! made of (CDR, TypeCode and any), and wide text.
+//! The types that each catalogue of a file of version 3 has, apart from the built-in ones: `any`,
+//! `TypeCode`, their parts (CDR, TypeCode and any), and wide text.
 
 ghost use Rattle.std.specs.Prelude.{◌≡◌, ◌-◌, ◌<◌, ◌≤◌};
 ghost use Rattle.giop_sig.specs.AnyTypes.{any_types};
@@ -17,7 +17,7 @@ use crate::numbers::{
     WIDE_CHAR, WIDE_CHARS, WIDE_STRING, WIDE_STRINGS,
 };
 
-/// The name of what follows most kinds.
+/// The name of what comes after most kinds.
 const PARAMETERS: &[u8] = b"parameters";
 
 /// The type of a number that a file of version 3 adds.
@@ -93,7 +93,7 @@ fn coded(number: u32) -> Literal
     }
 }
 
-/// The parameters of kinds with an id, and of the members in them.
+/// The parameters of kinds with an id, and of their members.
 #[tactic(auto, unfolding(crate::specs::AnyTypes::any_types))]
 fn named(number: u32) -> Literal
     requires low { NAMED ≤ number }
@@ -128,7 +128,7 @@ fn named(number: u32) -> Literal
     }
 }
 
-/// The parameters of kinds that hold another type, and of values.
+/// The parameters of kinds that hold another type, and those of values.
 #[tactic(auto, unfolding(crate::specs::AnyTypes::any_types))]
 fn holding(number: u32) -> Literal
     requires low { HEARD_SEQUENCE ≤ number }

@@ -1,4 +1,4 @@
-//! The types that every catalogue begins with, written with the numbers of version 3.
+//! The types that each catalogue begins with, written with the numbers of version 3.
 ghost use Rattle.std.specs.Prelude.{◌≡◌, ◌<◌, ◌≤◌, ◌++◌, length, map, IfOk, IfErr};
 ghost use Rattle.std.specs.Option.{option_map};
 ghost use Rattle.giop_sig.specs.Table.{node_in};
@@ -27,7 +27,7 @@ use crate::types::{Fixed, Selected, TypeId};
 use giop_cdr::{Number, Prim};
 use std::alloc::{AllocError, Global};
 
-/// How many numbers have names, which are types of their own in version 3.
+/// How many numbers have names and are types of their own in version 3.
 const NAMED_NUMBERS: u32 = CODE_SETS - CONTEXT_ID;
 
 /// A type of the built-in table, as a literal.
@@ -40,21 +40,22 @@ pub(crate) enum Literal {
     WideChar,
     Names(&'static [&'static [u8]]),
     Members(&'static [Named]),
-    /// The discriminator's type, and the only cases.
+    /// The type of the discriminator, and all cases.
     Target(u32, &'static [Labelled]),
     Sequence(u32),
     Array(u32, u32),
     Encapsulation(u32),
-    /// The tag that an encapsulation follows; the parts: the tag, the encapsulation, and the octets of other tags.
+    /// The tag before an encapsulation; and the parts: the tag, the encapsulation, and the octets
+    /// after any other tag.
     Tagged(u32, Named, Named, Named),
     Marked(u32),
     /// The TypeCode that tells the type of the value.
     Any(u32),
-    /// The type of the kind, and what follows each kind.
+    /// The type of the kind, and what comes after each kind.
     TypeCode(u32, &'static [Parameters]),
 }
 
-/// What follows some kinds of a TypeCode: the kinds, its name, and the number of its type.
+/// What comes after some kinds of a TypeCode: the kinds, its name, and the number of its type.
 #[derive(Clone, Copy)]
 pub(crate) struct Parameters(
     pub(crate) &'static [u32],
@@ -66,11 +67,12 @@ pub(crate) struct Parameters(
 #[derive(Clone, Copy)]
 pub(crate) struct Named(pub(crate) &'static [u8], pub(crate) u32);
 
-/// A case with its one label, and the number of its type.
+/// A case with one label, and the number of its type.
 #[derive(Clone, Copy)]
 pub(crate) struct Labelled(pub(crate) i64, pub(crate) &'static [u8], pub(crate) u32);
 
-/// The numbers of the header types of each message type, in 1.0, 1.1 and 1.2 (GIOP Message Formats).
+/// The numbers of the header types for each message type, in 1.0, 1.1 and 1.2 (GIOP Message
+/// Formats).
 static HEADER_TYPES: [[Option<u32>; 3]; 8] = [
     // Request, Reply, CancelRequest, LocateRequest, LocateReply
     [Some(REQUEST_1_0), Some(REQUEST_1_1), Some(REQUEST_1_2)],
@@ -93,7 +95,8 @@ static HEADER_TYPES: [[Option<u32>; 3]; 8] = [
     [None, None, Some(ID_ALONE)],
 ];
 
-/// The number of a type in a version of signature files, by its number in version 3. Any version but 3 is as 1.
+/// The number of a type in a version of signature files, from its number in version 3. Each version
+/// other than 3 is like version 1.
 pub(crate) fn number_in(version: u8, number: u32) -> u32
     ensures { result ≡ number_in version number }
 {
@@ -106,7 +109,7 @@ pub(crate) fn number_in(version: u8, number: u32) -> u32
     }
 }
 
-/// The header type, in a version of signature files, of a minor version of GIOP and a message type.
+/// The header type for a minor version of GIOP and a message type, in a version of signature files.
 pub(crate) fn header_id(version: u8, minor: u8, kind: u8) -> Option<TypeId>
     ensures { option_map (λ t. t.0) result ≡ header_number version minor kind }
 {
@@ -118,7 +121,7 @@ pub(crate) fn header_id(version: u8, minor: u8, kind: u8) -> Option<TypeId>
     }
 }
 
-/// The type, in a version of signature files, of a body that none declares.
+/// The type of a body that isn't declared, in a version of signature files.
 pub(crate) fn fixed_id(version: u8, fixed: Fixed) -> TypeId
     ensures { result.0 ≡ fixed_number version fixed }
 {
@@ -131,7 +134,7 @@ pub(crate) fn fixed_id(version: u8, fixed: Fixed) -> TypeId
     TypeId(number_in(version, number))
 }
 
-/// The type of a number in a version, with the numbers of version 3.
+/// The type of a number in a version. The numbers in it are those of version 3.
 #[tactic(auto, using(crate::proofs::Builtins::in_third, crate::proofs::Builtins::in_older, crate::proofs::Builtins::known_older))]
 fn literal_in(version: u8, number: u32) -> Literal
     requires { number < length (first_types version) }
@@ -145,7 +148,7 @@ fn literal_in(version: u8, number: u32) -> Literal
     }
 }
 
-/// The number in version 3 of a type of versions 1 and 2.
+/// The number in version 3, from that in versions 1 and 2.
 #[tactic(auto, using(crate::proofs::Builtins::leaf_older, crate::proofs::Builtins::later_older))]
 fn later_number(number: u32) -> u32
     requires { number < length builtin_types }
@@ -178,7 +181,7 @@ fn literal_of(number: u32) -> Literal
     }
 }
 
-/// The types without parts, but for enums.
+/// The types without parts, apart from enums.
 #[tactic(auto, unfolding(crate::specs::AnyTypes::third_types))]
 fn leaf(number: u32) -> Literal
     requires { number < CODE_SETS }
@@ -206,7 +209,7 @@ fn leaf(number: u32) -> Literal
     }
 }
 
-/// Contexts, profiles and references (a row of a name and a type's number for each member).
+/// Contexts, profiles and references. Each member is a row of its name and the number of its type.
 #[tactic(auto, unfolding(crate::specs::AnyTypes::third_types))]
 fn reference(number: u32) -> Literal
     requires low { CODE_SETS ≤ number }
@@ -261,7 +264,7 @@ fn reference(number: u32) -> Literal
     }
 }
 
-/// How a request ended, and the octets that it reserves.
+/// How a request ended, and its reserved octets.
 #[tactic(auto, unfolding(crate::specs::AnyTypes::third_types))]
 fn status(number: u32) -> Literal
     requires low { COMPLETED ≤ number }
@@ -390,7 +393,7 @@ fn parts_of(alloc: Global, version: u8, parts: &[Named]) -> Result<Vec<PartEntry
     Ok(all)
 }
 
-/// A case, with its one label.
+/// A case with one label.
 fn case_of(alloc: Global, version: u8, case: &Labelled) -> Result<CaseEntry, AllocError>
     ensures { IfOk result (λ c. case_view c
         ≡ renumbered_case (number_in version) (literal_case case.now)) }
@@ -412,7 +415,7 @@ fn cases_of(alloc: Global, version: u8, cases: &[Labelled]) -> Result<Vec<CaseEn
     Ok(all)
 }
 
-/// A member or a case, of a type by its number in version 3.
+/// A member or a case. Its type is given by the number in version 3.
 fn part_of(alloc: Global, version: u8, name: &[u8], number: u32) -> Result<PartEntry, AllocError>
     ensures { IfOk result (λ p. part_view p
         ≡ record { name = name.now; type = number_in version number }) }
@@ -423,7 +426,7 @@ fn part_of(alloc: Global, version: u8, name: &[u8], number: u32) -> Result<PartE
     })
 }
 
-/// Kinds as labels.
+/// Kinds of a TypeCode as labels.
 fn kinds_of(alloc: Global, kinds: &[u32]) -> Result<Vec<Number>, AllocError>
     ensures { IfOk result (λ v. v.items ≡ map Number.Unsigned kinds.now) }
 {
@@ -504,7 +507,7 @@ fn first_len(version: u8) -> u32
     }
 }
 
-/// The table with which a file of a version begins.
+/// The types that a file of a version begins with.
 pub(crate) fn first_list(alloc: Global, version: u8) -> Result<Types, AllocError>
     ensures { IfOk result (λ types. types ≡ first_types version) }
 {

@@ -1,4 +1,4 @@
-//! The cases of a union, and how the case of a label is found: by halves, in a list of all labels.
+//! The cases of a union. The case of a label is found by binary search in a list of all labels.
 ghost use Rattle.std.specs.Prelude.{◌≡◌, ℕ, ◌<◌, ◌≤◌, ◌++◌, List, length, map, true, Some, IfOk, OnOk, slice_get, slice_index_or};
 ghost use Rattle.std.specs.List.{list_any};
 ghost use Rattle.giop_sig.specs.Table.{Case, case_part, case_with, same_number};
@@ -9,20 +9,21 @@ use giop_cdr::Number;
 use std::alloc::{AllocError, Global};
 use std::marker::Model;
 
-/// A label, with the place of the case that it selects.
+/// A label, and the place of the case that it selects.
 #[derive(Clone, Copy)]
 pub(crate) struct PlacedLabel {
     pub(crate) number: Number,
     pub(crate) place: usize,
 }
 
-/// The cases of a union, in their order. A contract sees a list of `Case`.
+/// The cases of a union, in order. A contract sees a list of `Case`.
 #[derive(Drop)]
 pub(crate) struct UnionCases {
     cases: Vec<CaseEntry>,
-    /// The labels of all cases, by their keys.
+    /// The labels of all cases, sorted by their keys.
     labels: Vec<PlacedLabel>,
-    /// Whether no two labels have the same key, as those of one type with different values have not.
+    /// Whether the keys ascend, so that no two are the same. They do for different values of one
+    /// type.
     rises: bool,
 }
 
@@ -39,7 +40,7 @@ impl Model for UnionCases {
 }
 
 impl UnionCases {
-    /// Cases that stand in this order. Refused only for memory.
+    /// Cases in this order. Refused only for memory.
     pub(crate) fn new(alloc: Global, cases: Vec<CaseEntry>) -> Result<UnionCases, AllocError>
         ensures { IfOk result (λ made. made ≡ map case_view cases.items) }
     {
@@ -71,7 +72,7 @@ impl UnionCases {
         &self.cases[place as usize].part
     }
 
-    /// The first case with the number among its labels.
+    /// The first case with this number among its labels.
     #[inline(always)]
     pub(crate) fn find(&self, number: Number) -> Option<u32>
         requires { length self.now ≤ 256 }
@@ -89,7 +90,7 @@ impl UnionCases {
     }
 }
 
-/// Where a label stands in the list of labels: values of one type that differ have different keys.
+/// The key by which labels are sorted. Different values of one type have different keys.
 fn key_of(number: Number) -> u64
     ensures { result ≡ key_of number }
 {
@@ -143,7 +144,7 @@ fn rise(labels: &[PlacedLabel]) -> bool
     true
 }
 
-/// The place of the first label that has no smaller key.
+/// The place of the first label whose key isn't less than `key`.
 fn first_from(labels: &[PlacedLabel], key: u64) -> usize
     requires { Rise labels.now }
     ensures bound { result ≤ length labels.now }
@@ -155,14 +156,14 @@ fn first_from(labels: &[PlacedLabel], key: u64) -> usize
     labels.partition_point(|label| key_of(label.number) < key)
 }
 
-/// Whether two numbers are the same value of one type.
+/// Whether two numbers are the same value of the same type.
 fn is_same(one: Number, other: Number) -> bool
     ensures { result ≡ same_number one other }
 {
     one == other
 }
 
-/// The case that the list of its union's labels has for a number.
+/// The case of a number, found in the list of its union's labels.
 fn searched(labels: &[PlacedLabel], number: Number) -> Option<usize>
     requires { Rise labels.now }
     ensures { (cases : List Case) → AreLabels cases labels.now
@@ -176,14 +177,14 @@ fn searched(labels: &[PlacedLabel], number: Number) -> Option<usize>
     }
 }
 
-/// Whether the number is among the labels.
+/// Whether a number is among these labels.
 fn has_label(labels: &[Number], number: Number) -> bool
     ensures { result ≡ list_any (λ label. same_number label number) labels.now }
 {
     labels.contains(&number)
 }
 
-/// The first case with the number among its labels, whatever their order.
+/// The first case with this number among its labels, in whatever order the labels are.
 fn case_of(cases: &[CaseEntry], number: Number) -> Option<usize>
     ensures { result ≡ case_with number (map case_view cases.now) }
 {

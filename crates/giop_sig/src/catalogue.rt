@@ -1,4 +1,5 @@
-//! The catalogue: the types of a signature file with the built-in ones, and its operations and exceptions by name.
+//! The catalogue: the types of a signature file and the built-in ones, and its operations and
+//! exceptions by name.
 ghost use Rattle.std.specs.Prelude.{◌≡◌, ℕ, suc, ◌+◌, ◌^◌, ◌<◌, ◌≤◌, ◌++◌, ◌↔◌, List, false, codes, drop, nat_le, length, IsTrue, IfSome, IfOk, IfErr, OnOk, OnErr, None, MatchOption};
 ghost use Rattle.std.specs.Option.{option_map};
 ghost use Rattle.giop_sig.specs.Types.{sequel, depth, part_of, name_in, enum_name_in, switch_of, select_in, interpreted_in, shape_in, HasShape, HasMember, HasPlace, HasInner, IsUnion};
@@ -23,7 +24,7 @@ use indexmap::{IndexMap, IndexSet};
 use std::alloc::Global;
 use std::marker::Model;
 
-/// The version of the catalogue of no declarations.
+/// The version of the catalogue without declarations.
 const FIRST_VERSION: u8 = 1;
 /// The greatest depth of a type.
 const DEPTH_MAX: u8 = 24;
@@ -31,18 +32,20 @@ const DEPTH_MAX: u8 = 24;
 /// The octets of an operation's name or of a repository id.
 pub(crate) type Name = ArrayVec<u8, 128>;
 
-/// How an operation is found: the number of its interface in two octets, and its name.
+/// The key of an operation: the number of its interface in two octets, 0 if it has none, and then
+/// its name.
 pub(crate) type CallKey = ArrayVec<u8, 130>;
 
-/// The structs of an operation's requests and of its replies.
+/// The structs of an operation's requests and replies.
 #[derive(Clone, Copy)]
 pub(crate) struct Signature {
     pub(crate) request: TypeId,
     pub(crate) reply: TypeId,
 }
 
-/// A table of types, in which every part has a smaller number than its whole, with the operations and exceptions
-/// of a signature file. A contract sees the whole `Table`.
+/// The types of a signature file, with its operations and exceptions. Each part of a type has a
+/// smaller number than the type, apart from the elements of a recursive sequence and the value of
+/// an any. A contract sees the whole `Table`.
 #[derive(Drop)]
 pub struct Catalogue {
     pub(crate) version: u8,
@@ -51,12 +54,12 @@ pub struct Catalogue {
     pub(crate) exceptions: IndexMap<Name, TypeId>,
     /// How many enums, structs and unions the file has.
     pub(crate) declared: u32,
-    /// How many operations it has.
+    /// How many operations the file has.
     pub(crate) called: u32,
     pub(crate) interfaces: InterfaceTable,
-    /// The enums, structs and unions that have a repository id, by it.
+    /// The enums, structs and unions that have a repository id, by this id.
     pub(crate) identities: IndexMap<Name, TypeId>,
-    /// The fronts of these ids, after the octets of their kinds.
+    /// The fronts of these ids, each after the octet of its kind.
     pub(crate) fronts: IndexSet<Front>,
 }
 
@@ -82,7 +85,7 @@ impl Catalogue {
     ghost use Rattle.giop_tokens.specs.Faults.{no_memory};
     ghost use Rattle.giop_sig.specs.Views.{node_view, IsSized};
 
-    /// The catalogue of no declarations: the built-in types alone. Refused only for memory.
+    /// The catalogue without declarations: the built-in types alone. Refused only for memory.
     pub fn builtin(alloc: Global) -> Result<Catalogue, SigFault>
         ensures ok { IfOk result (λ catalogue. catalogue ≡ builtin_table) }
         ensures err { IfErr result (λ fault. fault ≡ no_memory) }
@@ -102,23 +105,25 @@ impl Catalogue {
         })
     }
 
-    /// What holds of every catalogue: it has no body, and is called for its contract.
+    /// What is true of each catalogue. This function does nothing, and is called for its contract.
     #[inline(always)]
     pub fn laws(&self)
         ensures { IsTable self.now }
     {
-        // What holds of every list of types is known of this one once it is read.
+        // They are read so that the prover knows what is true of each list of types.
         let _types = &self.types;
     }
 
-    /// The version of the signature file: 1, 2 or 3; 1 for the catalogue of no declarations.
+    /// The version of the signature file: 1, 2 or 3. It is 1 for the catalogue without
+    /// declarations.
     pub fn version(&self) -> u8
         ensures { result ≡ self.now.version }
     {
         self.version
     }
 
-    /// The depth of the deepest type, the built-in ones included: 9 to 24. For a file of version 3 it is 24.
+    /// The depth of the deepest type, including the built-in ones, from 9 to 24. It is 24 for a
+    /// file of version 3.
     pub fn depth(&self) -> u8
         ensures depth { result ≡ catalogue_depth self.now }
         ensures least { 9 ≤ result }
@@ -143,7 +148,7 @@ impl Catalogue {
         }
     }
 
-    /// Whether there is a type of this number.
+    /// Whether there is a type with this number.
     pub fn has(&self, t: TypeId) -> bool
         ensures { IsTrue result ↔ (t.0 < length self.now.types) }
     {
@@ -157,7 +162,7 @@ impl Catalogue {
         ensures is { result ≡ shape_of (node_at self.now t.0) }
         ensures tree { result ≡ shape_in (tree self.now t.0) }
         ensures shape { HasShape (tree self.now t.0) result }
-        // The same in each room.
+        // The same in any room.
         ensures rooms { (n : ℕ) → result ≡ shape_in (tree_at self.now n t.0) }
         ensures shapes { (n : ℕ) → HasShape (tree_at self.now n t.0) result }
         ensures root { IsRoot (tree self.now t.0) }
@@ -165,8 +170,10 @@ impl Catalogue {
         self.seen(false).shape(t)
     }
 
-    /// The type of the part at a place: of a member, a case or a tagged type's part by its place from 0; the element of
-    /// a sequence or array and the value in an encapsulation are at every place.
+    /// The type of the part at a place. Members, cases and the parts of a tagged type have their
+    /// places from 0 on. The element of a sequence or array and the value in an encapsulation are
+    /// at each place. An any has its TypeCode at place 0, and the type with number n at place n +
+    /// 1.
     #[inline(always)]
     pub fn part(&self, t: TypeId, place: u32) -> TypeId
         requires known { t.0 < length self.now.types }
@@ -175,14 +182,15 @@ impl Catalogue {
         ensures number { result.0 ≡ part_number self.now t.0 place }
         ensures known { result.0 < length self.now.types }
         ensures below { HasInner (shape_in (tree self.now t.0)) place → result.0 < t.0 }
-        // A part has one level less room than its whole; only those of a union may be others in another room.
+        // A part has one level of room less than its whole. Only the parts of a union may differ
+        // with the room.
         ensures rooms { (IsUnion (shape_in (tree self.now t.0)) → ⊥) → (n : ℕ) →
             tree_at self.now n result.0 ≡ part_of (tree_at self.now (suc n) t.0) place }
     {
         self.seen(false).part(t, place)
     }
 
-    /// The name of the member, case or tagged type's part at a place.
+    /// The name at a place: of a member, a case, or a part of a tagged type.
     pub fn part_name(&self, t: TypeId, place: u32) -> &[u8]
         requires known { t.0 < length self.now.types }
         requires place { HasMember (shape_in (tree self.now t.0)) place }
@@ -194,8 +202,8 @@ impl Catalogue {
         self.seen(false).part_name(t, place)
     }
 
-    /// The same name after a dot, which is the 16th of its octets: those before it say nothing, so that a short name
-    /// with its dot is the end of a block of 16.
+    /// The same name after a dot. The dot is the 16th octet, and the octets before it mean nothing,
+    /// so that a short name with its dot is the end of a block of 16 octets.
     #[inline(always)]
     pub fn dotted_name(&self, t: TypeId, place: u32) -> &[u8]
         requires known { t.0 < length self.now.types }
@@ -209,7 +217,7 @@ impl Catalogue {
         self.seen(false).dotted_name(t, place)
     }
 
-    /// The name of an enum's number; None where the type is no enum, or has fewer names.
+    /// The name of an enum's number, or of a kind. None if the number has no name.
     pub fn enum_name(&self, t: TypeId, number: u32) -> Option<&[u8]>
         requires { t.0 < length self.now.types }
         ensures name { option_map (λ x. x.now) result ≡ name_at (node_at self.now t.0) number }
@@ -236,12 +244,12 @@ impl Catalogue {
         self.seen(false).switch_type(t)
     }
 
-    /// What the value of a discriminator selects, or of a tagged type's tag; Nothing where the type is neither a union
-    /// nor tagged. Only the built-in target of a request refuses one.
+    /// What the value of a discriminator or a tag selects. It is `Nothing` if the type is neither a
+    /// union nor tagged. Only the built-in target of a request refuses a value.
     pub fn select(&self, t: TypeId, number: Number) -> Selected
         requires { t.0 < length self.now.types }
         ensures is { result ≡ selected (node_at self.now t.0) number }
-        // By the whole number that the discriminator's octets spell.
+        // For the whole number that the discriminator's octets spell.
         ensures tree { (n : ℕ) → interpreted_in (switch_of (tree self.now t.0)) n ≡ Some number
             → result ≡ select_in (tree self.now t.0) n }
         ensures rooms { (m n : ℕ) → interpreted_in (switch_of (tree_at self.now m t.0)) n
@@ -252,22 +260,22 @@ impl Catalogue {
         self.seen(false).select(t, number)
     }
 
-    /// The header type of a message: of its minor version, and of the number of its message type. None for a message
-    /// without a header type, and where there is no such version or type.
+    /// The header type for a minor version of GIOP and the number of a message type. None if such a
+    /// message has no header type, or if there is no such version or type.
     pub fn header(&self, minor: u8, kind: u8) -> Option<TypeId>
         ensures number { option_map (λ t. t.0) result ≡ header_number self.now.version minor kind }
         ensures known { IfSome result (λ t. t.0 < length self.now.types) }
         ensures tree { option_map (λ t. tree self.now t.0) result
             ≡ header_type self.now.version minor kind }
         ensures fit { IfSome result (λ t. IsFit 24 (tree self.now t.0)) }
-        // A reader that knows no type finds the request id at the front.
+        // A reader that knows no types finds the request id first.
         ensures id { IdStandsFirst minor kind
             → IfSome result (λ t. BeginsWithId (tree self.now t.0)) }
     {
         self.seen(false).header(minor, kind)
     }
 
-    /// The type of a body that no signature file declares.
+    /// The type of a body that signature files don't declare.
     pub fn fixed(&self, fixed: Fixed) -> TypeId
         ensures number { result.0 ≡ fixed_number self.now.version fixed }
         ensures known { result.0 < length self.now.types }
@@ -277,7 +285,8 @@ impl Catalogue {
         self.seen(false).fixed(fixed)
     }
 
-    /// The operation of a name that has no interface. It takes no memory; a name of more than 128 octets has none.
+    /// The operation of a name that belongs to no interface. It takes no memory. A name of more
+    /// than 128 octets has none.
     pub fn operation(&self, name: &[u8]) -> Option<OpId>
         ensures is { result ≡ operation_in self.now name.now }
         ensures known { IfSome result (λ o. o.0 < length self.now.operations) }
@@ -285,8 +294,8 @@ impl Catalogue {
         self.keyed(0, name)
     }
 
-    /// The operation of a name and an interface: that which has it in its list, or else that without a list. It takes
-    /// no memory.
+    /// The operation of a name in an interface: the one that has the interface in its list, or else
+    /// the one without a list. It takes no memory.
     pub fn operation_for(&self, name: &[u8], interface: Option<InterfaceId>) -> Option<OpId>
         requires { IfSome interface (λ i. i.0 < length self.now.interfaces.names) }
         ensures is { result ≡ operation_for self.now name.now interface }
@@ -302,7 +311,8 @@ impl Catalogue {
         }
     }
 
-    /// The operation of a name, of the interface of a number counted from 1, or of none.
+    /// The operation of a name in the interface with this number, from 1, or in no interface if it
+    /// is 0.
     fn keyed(&self, interface: u32, name: &[u8]) -> Option<OpId>
         requires { interface ≤ 1024 }
         ensures is { result ≡ option_map op_id
@@ -317,8 +327,8 @@ impl Catalogue {
         Some(OpId(place as u32))
     }
 
-    /// The interface of an object key: that of the KEY which it is, or else of the longest KEY with which it begins. It
-    /// takes no memory; a key of more than 128 octets has none.
+    /// The interface of an object key: that of the KEY with just this key, or else of the longest
+    /// KEY that it begins with. It takes no memory. A key of more than 128 octets has none.
     #[tactic(auto, using(crate::proofs::InterfaceLaws::whose))]
     pub fn interface(&self, key: &[u8]) -> Option<InterfaceId>
         ensures is { result ≡ interface_in self.now key.now }
@@ -329,7 +339,8 @@ impl Catalogue {
         self.interfaces.of_key(key)
     }
 
-    /// The interface of a repository id. It takes no memory; an id of more than 128 octets has none.
+    /// The interface of a repository id. It takes no memory. An id of more than 128 octets has
+    /// none.
     pub fn named_interface(&self, id: &[u8]) -> Option<InterfaceId>
         ensures is { result ≡ named_interface self.now id.now }
         ensures known { IfSome result (λ i. i.0 < length self.now.interfaces.names) }
@@ -346,7 +357,7 @@ impl Catalogue {
         self.interfaces.name(interface)
     }
 
-    /// Whether there is a KEY: if not, no object key has an interface.
+    /// Whether there is a KEY. If not, no object key has an interface.
     #[inline(always)]
     pub fn has_keys(&self) -> bool
         ensures is { result ≡ has_keys self.now }
@@ -355,14 +366,15 @@ impl Catalogue {
         0 < self.interfaces.keys_len()
     }
 
-    /// Whether there is an interface of this number.
+    /// Whether there is an interface with this number.
     pub fn has_interface(&self, interface: InterfaceId) -> bool
         ensures { IsTrue result ↔ (interface.0 < length self.now.interfaces.names) }
     {
         (interface.0 as usize) < self.interfaces.len()
     }
 
-    /// The interface of an object key is one of the catalogue's. It has no body, and is called for its contract.
+    /// The interface of an object key is one of the catalogue's. This function does nothing, and is
+    /// called for its contract.
     #[inline(always)]
     pub fn interface_laws(&self)
         ensures { (key : List ℕ) → IfSome (interface_in self.now key)
@@ -371,7 +383,8 @@ impl Catalogue {
         self.interfaces.laws();
     }
 
-    /// The struct of the exception with a repository id. It takes no memory; an id of more than 128 octets has none.
+    /// The struct of the exception with a repository id. It takes no memory. An id of more than 128
+    /// octets has none.
     pub fn exception(&self, repository: &[u8]) -> Option<TypeId>
         ensures is { result ≡ exception_in self.now repository.now }
         ensures known { IfSome result (λ t. t.0 < length self.now.types) }
@@ -382,7 +395,8 @@ impl Catalogue {
         Some(*found.2)
     }
 
-    /// The enum, struct or union with a repository id. It takes no memory; an id of more than 128 octets has none.
+    /// The enum, struct or union with a repository id. It takes no memory. An id of more than 128
+    /// octets has none.
     pub fn identified(&self, repository: &[u8]) -> Option<TypeId>
         ensures is { result ≡ identified_in self.now repository.now }
         ensures known { IfSome result (λ t. t.0 < length self.now.types) }
@@ -393,7 +407,7 @@ impl Catalogue {
         Some(*identity.2)
     }
 
-    /// Whether there is an operation of this number.
+    /// Whether there is an operation with this number.
     pub fn has_operation(&self, operation: OpId) -> bool
         ensures { IsTrue result ↔ (operation.0 < length self.now.operations) }
     {
@@ -418,8 +432,8 @@ impl Catalogue {
         self.signature(operation).reply
     }
 
-    /// Whether a type has wide text: it is a wide character or a wide string, or has a part with one. What an any carries
-    /// is aside.
+    /// Whether a type has wide text: it is a wide character or a wide string, or has a part with
+    /// one. What an any carries doesn't count.
     pub fn has_wide_text(&self, t: TypeId) -> bool
         requires { t.0 < length self.now.types }
         ensures { result ≡ wide_in self.now.types t.0 }
@@ -435,8 +449,8 @@ impl Catalogue {
         self.types.depth_at(t)
     }
 
-    /// The type of the part at a place, in this room for it: it is the one of `part`, but for what follows the kind of a
-    /// TypeCode.
+    /// The type of the part at a place, if it has this room. It is that of `part`, apart from what
+    /// comes after the kind of a TypeCode.
     pub fn part_in(&self, t: TypeId, place: u32, room: u8) -> TypeId
         requires known { t.0 < length self.now.types }
         requires place { HasPlace (shape_in (tree self.now t.0)) place }
@@ -473,7 +487,8 @@ impl Catalogue {
     }
 }
 
-/// How the operation of a name is found: of the interface of a number counted from 1, or of none.
+/// The key of an operation's name in the interface with this number, from 1, or in no interface if
+/// it is 0.
 pub(crate) fn call_key(interface: u32, name: &[u8]) -> CallKey
     requires short { length name.now ≤ 128 }
     requires few { interface ≤ 1024 }
@@ -486,7 +501,7 @@ pub(crate) fn call_key(interface: u32, name: &[u8]) -> CallKey
     key
 }
 
-/// The key of a name; None for one of more than 128 octets.
+/// The key of a name. None if it has more than 128 octets.
 fn key_of(name: &[u8]) -> Option<Name>
     ensures { MatchOption result (128 < length name.now) (λ key. key.items ≡ name.now) }
 {

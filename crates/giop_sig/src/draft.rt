@@ -1,5 +1,6 @@
-//! A draft, made from the declarations so far: a catalogue, and the names that later declarations may use.
-ghost use Rattle.std.specs.Prelude.{◌≡◌, ◌⊎◌, ◌<◌, ◌≤◌, true, length, IfOk, IfErr, IfSome, IfNone, OnOk, None, Ok};
+//! A draft of a catalogue, made from the declarations so far, and the names that later declarations
+//! may use.
+ghost use Rattle.std.specs.Prelude.{◌≡◌, ◌⊎◌, ◌<◌, ◌≤◌, true, length, map, IfOk, IfErr, IfSome, IfNone, OnOk, None, Ok};
 ghost use Rattle.std.specs.Option.{option_map, is_some};
 ghost use Rattle.std.specs.Map.{lookup};
 ghost use Rattle.std.specs.Str.{bytes_eq};
@@ -7,13 +8,17 @@ ghost use Rattle.giop_cdr.specs.declared.prim.Primitive.TheVariants as prims;
 ghost use Rattle.std.specs.List.{list_any};
 ghost use Rattle.giop_sig.specs.Interfaces.{with_interface, of_text};
 ghost use Rattle.giop_sig.specs.Table.{IsFormed, node_at, prim, operation_key, keyed_number, exception_in, identified_in, with_identity, with_called, with_entry, with_exception};
-ghost use Rattle.giop_sig.specs.HeaderTypes.{IsPlain};
-ghost use Rattle.giop_sig.specs.Trees.{depth_in, depth_of};
-ghost use Rattle.giop_sig.specs.Scopes.{first_scope, has_encapsulations, is_third, reference_number, named, with_node, with_name, with_named, with_identified, with_id_fronts, with_sequence, with_raised, with_key_of};
-ghost use Rattle.giop_sig.specs.ScopeViews.{IsDraft, IsKnown, IsKnownType, IsNewIdentity};
+ghost use Rattle.giop_sig.specs.HeaderTypes.{IsAddable};
+ghost use Rattle.giop_sig.specs.Trees.{AreSettled, depth_in, depth_of};
+ghost use Rattle.giop_sig.specs.Scopes.{type_named, add_announced_type, announced_as, announced_place, settled, targets, with_announced, first_scope, has_encapsulations, is_third, reference_number, named, with_node, with_name, with_named, with_identified, with_id_fronts, with_sequence, with_raised, with_key_of};
+ghost use Rattle.giop_sig.specs.FileReading.{announcements};
+ghost use Rattle.giop_sig.specs.RequestList.{flat};
+ghost use Rattle.giop_sig.specs.ScopeViews.{announcement_view, key_is, number_of_id, IsDraft, IsKnown, IsKnownType, IsNewIdentity};
 ghost use Rattle.giop_sig.specs.Outcomes.{Gives};
+ghost use Rattle.giop_sig.specs.Validity.{is_taken};
 ghost use Rattle.giop_sig.specs.Views.{node_view, IsSized};
 
+use crate::announced::{Announcement, TypeWord, can_declare};
 use crate::builtin::{first_list, number_in};
 use crate::catalogue::{CallKey, Catalogue, Name, Signature, call_key};
 use crate::entries::{Entry, Types};
@@ -30,16 +35,16 @@ use std::marker::Model;
 /// The octets of a name.
 pub(crate) type Key = ArrayVec<u8, 64>;
 
-/// The version of a file that may have encapsulations.
+/// The first version of files that may have encapsulations.
 const ENCAPSULATIONS_SINCE: u8 = 2;
 /// The greatest depth of a type.
 const DEPTH_MAX: u32 = 24;
-/// The version that has more reserved words.
+/// The version of files that have more reserved words.
 pub(crate) const THIRD_VERSION: u8 = 3;
 
-/// The types, operations and exceptions of the declarations so far, with the version of their file, the names of enums,
-/// structs and unions, each with its type, and of exceptions. A contract sees the `Scope`. A type may be too deep until
-/// its declaration ends.
+/// The types, operations and exceptions of the declarations so far, and the version of their file.
+/// It has the names of enums, structs and unions, each with its type, and those of exceptions. A
+/// contract sees the `Scope`. A type may be too deep until its declaration ends.
 #[derive(Drop)]
 pub(crate) struct Draft {
     version: u8,
@@ -54,6 +59,8 @@ pub(crate) struct Draft {
     identities: IndexMap<Name, TypeId>,
     fronts: IndexSet<Front>,
     names: IndexMap<Key, Option<TypeId>>,
+    /// The structs and unions that are announced, in order.
+    announced: IndexMap<Key, Announcement>,
 }
 
 impl Model for Draft {
@@ -67,17 +74,41 @@ impl Model for Draft {
         scope_view a.version
         (table_view a.version a.types a.operations.entries a.exceptions.entries a.declared
         a.called a.interfaces a.identities.entries a.fronts.keys)
-        a.names.entries };
+        a.names.entries a.announced.entries };
 
     ghost invariant = { λ a.
         IsDraft (scope_view a.version
         (table_view a.version a.types a.operations.entries a.exceptions.entries a.declared
         a.called a.interfaces a.identities.entries a.fronts.keys)
-        a.names.entries) };
+        a.names.entries a.announced.entries) };
+}
+
+/// The types of these names, if they are declared.
+fn declared_types(
+    alloc: Global,
+    names: &IndexMap<Key, Option<TypeId>>,
+    announced: &IndexMap<Key, Announcement>,
+) -> Result<Vec<Option<TypeId>>, ParseStop>
+    ensures ok { IfOk result (λ ts. ts.items
+        ≡ map (λ e. flat (lookup (key_is e.0) names.now.entries)) announced.now.entries) }
+    ensures err { IfErr result (λ stop. stop ≡ ParseStop.Memory) }
+{
+    let mut types = Vec::new(alloc);
+    for (key, _) in announced.iter() {
+        types.push(declared_type(names, key))?;
+    }
+    Ok(types)
+}
+
+/// The type of a name, if it is declared.
+fn declared_type(names: &IndexMap<Key, Option<TypeId>>, key: &Key) -> Option<TypeId>
+    ensures { result ≡ flat (lookup (key_is key.now) names.now.entries) }
+{
+    *names.get(key)?
 }
 
 impl Draft {
-    /// The draft of no declarations, of a file of a version.
+    /// The draft without declarations, for a file of this version.
     pub(crate) fn new(alloc: Global, version: u8) -> Result<Draft, ParseStop>
         ensures ok { IfOk result (λ draft. draft ≡ first_scope version) }
         ensures err { IfErr result (λ stop. stop ≡ ParseStop.Memory) }
@@ -95,14 +126,15 @@ impl Draft {
             identities: IndexMap::new(alloc),
             fronts,
             names: IndexMap::new(alloc),
+            announced: IndexMap::new(alloc),
         })
     }
 
-    /// What holds of every draft: it has no body, and is called for its contract.
+    /// What is true of each draft. This function does nothing, and is called for its contract.
     pub(crate) fn laws(&self)
         ensures { IsDraft self.now }
     {
-        // What holds of every map of names is known of this one once it is read.
+        // They are read so that the prover knows what is true of each map of names.
         let _names = &self.names;
     }
 
@@ -120,15 +152,15 @@ impl Draft {
         self.version == THIRD_VERSION
     }
 
-    /// The type of an object reference; only in version 3 the tags of its profiles have names.
+    /// The type of an object reference. The tags of its profiles have names in version 3 only.
     pub(crate) fn reference(&self) -> TypeId
         ensures { result.0 ≡ reference_number self.now.names }
     {
         TypeId(number_in(self.version, IOR))
     }
 
-    /// The type of an enum, struct or union, by its name.
-    pub(crate) fn type_named(&self, name: &[u8]) -> Option<TypeId>
+    /// The type of an enum, struct or union of this name.
+    fn declared(&self, name: &[u8]) -> Option<TypeId>
         requires { length name.now ≤ 64 }
         ensures { option_map (λ t. t.0) result ≡ named self.now.names name.now }
     {
@@ -137,8 +169,29 @@ impl Draft {
         *names.get(&key)?
     }
 
-    /// Whether a name is declared, an exception's too.
-    pub(crate) fn is_declared(&self, name: &[u8]) -> bool
+    /// The type of a name in an expression. A name that is only announced has one as the element of
+    /// a sequence alone.
+    pub(crate) fn type_named(&self, element: bool, name: &[u8]) -> Option<TypeId>
+        requires { length name.now ≤ 64 }
+        ensures { option_map (λ t. t.0) result ≡ type_named element self.now.names name.now }
+    {
+        match self.declared(name) {
+            Some(t) => Some(t),
+            None if element => Some(self.announced_as(name)?.type_id),
+            None => None,
+        }
+    }
+
+    /// Whether a name is declared, or is announced with another word.
+    pub(crate) fn is_taken(&self, word: Option<TypeWord>, name: &[u8]) -> bool
+        requires { length name.now ≤ 64 }
+        ensures { result ≡ is_taken self.now.names word name.now }
+    {
+        self.is_declared(name) || !can_declare(word, self.announced_as(name))
+    }
+
+    /// Whether a name is declared, be it that of an exception.
+    fn is_declared(&self, name: &[u8]) -> bool
         requires { length name.now ≤ 64 }
         ensures { result ≡ is_some (lookup (bytes_eq name.now) self.now.names.known) }
     {
@@ -147,14 +200,44 @@ impl Draft {
         names.get(&key).is_some()
     }
 
-    /// Adds a type. Want of numbers is want of memory: no text is long enough for so many types.
+    /// How a name is announced.
+    pub(crate) fn announced_as(&self, name: &[u8]) -> Option<Announcement>
+        requires { length name.now ≤ 64 }
+        ensures { option_map announcement_view result ≡ announced_as self.now.names name.now }
+    {
+        let announced = &self.announced;
+        let key: Key = ArrayVec::try_from(name).unwrap();
+        announced.get(&key).copied()
+    }
+
+    /// How many names are announced.
+    pub(crate) fn announcements(&self) -> usize
+        ensures { result ≡ announcements self.now }
+    {
+        // They are read so that the prover knows what is true of each map of names.
+        let _names = &self.names;
+        self.announced.len()
+    }
+
+    /// The place of the announcement that a type stands for. None for other types.
+    pub(crate) fn announced_place(&self, t: TypeId) -> Option<u32>
+        ensures { result ≡ announced_place (node_at self.now.table t.0) }
+    {
+        match self.entry(t) {
+            Some(Entry::Announced(place)) => Some(*place),
+            _ => None,
+        }
+    }
+
+    /// Adds a type. If no number is left for it, memory is refused: no text is long enough for so
+    /// many types.
     pub(crate) fn add(&mut self, entry: Entry) -> Result<TypeId, ParseStop>
         requires formed { IsFormed self.old.table.types (length self.old.table.types)
             (node_view entry) }
-        requires plain { IsPlain (node_view entry) }
+        requires addable { IsAddable self.old.table.version (node_view entry) }
         ensures { Gives (λ t. (self.new, t.0)) result (Ok (with_node self.old (node_view entry))) }
     {
-        // What holds of every map of names is known of this one once it is read.
+        // They are read so that the prover knows what is true of each map of names.
         let _names = &self.names;
         if self.types.len() == u32::MAX {
             return Err(ParseStop::Memory);
@@ -168,18 +251,18 @@ impl Draft {
     pub(crate) fn depth(&self) -> u32
         ensures { result ≡ depth_of self.now.table.types }
     {
-        // What holds of every map of names is known of this one once it is read.
+        // They are read so that the prover knows what is true of each map of names.
         let _names = &self.names;
         self.types.deepest()
     }
 
-    /// The entry of a type; none where no type has this number.
+    /// The entry of a type. None if no type has this number.
     pub(crate) fn entry(&self, t: TypeId) -> Option<&Entry>
         ensures some { IfSome result (λ entry. node_view entry.now ≡ node_at self.now.table t.0) }
         ensures sized { IfSome result (λ entry. IsSized entry.now) }
         ensures none { IfNone result (node_at self.now.table t.0 ≡ prim prims.Octet) }
     {
-        // What holds of every map of names is known of this one once it is read.
+        // They are read so that the prover knows what is true of each map of names.
         let _names = &self.names;
         if t.0 < self.types.len() {
             Some(self.types.entry(t))
@@ -192,7 +275,7 @@ impl Draft {
     pub(crate) fn types_declared(&self) -> u32
         ensures { result ≡ self.now.table.declared }
     {
-        // What holds of every map of names is known of this one once it is read.
+        // They are read so that the prover knows what is true of each map of names.
         let _names = &self.names;
         self.declared
     }
@@ -201,7 +284,7 @@ impl Draft {
     pub(crate) fn exceptions_declared(&self) -> u32
         ensures { result ≡ length self.now.table.exceptions }
     {
-        // What holds of every map of names is known of this one once it is read.
+        // They are read so that the prover knows what is true of each map of names.
         let _names = &self.names;
         self.exceptions.len() as u32
     }
@@ -210,41 +293,42 @@ impl Draft {
     pub(crate) fn operations_declared(&self) -> u32
         ensures { result ≡ self.now.table.called }
     {
-        // What holds of every map of names is known of this one once it is read.
+        // They are read so that the prover knows what is true of each map of names.
         let _names = &self.names;
         self.called
     }
 
-    /// Whether an exception of this repository id is declared.
+    /// Whether an exception with this repository id is declared.
     pub(crate) fn has_repository(&self, repository: &[u8]) -> bool
         requires { length repository.now ≤ 128 }
         ensures { result ≡ is_some (exception_in self.now.table repository.now) }
     {
-        // What holds of every map of names is known of this one once it is read.
+        // They are read so that the prover knows what is true of each map of names.
         let _names = &self.names;
         let key: Name = ArrayVec::try_from(repository).unwrap();
         self.exceptions.get_index_of(&key).is_some()
     }
 
-    /// Whether an enum, struct or union of this repository id is declared.
+    /// Whether an enum, struct or union with this repository id is declared.
     pub(crate) fn has_identity(&self, id: &[u8]) -> bool
         requires { length id.now ≤ 128 }
         ensures { result ≡ is_some (identified_in self.now.table id.now) }
     {
-        // What holds of every map of names is known of this one once it is read.
+        // They are read so that the prover knows what is true of each map of names.
         let _names = &self.names;
         let key: Name = ArrayVec::try_from(id).unwrap();
         self.identities.get_index_of(&key).is_some()
     }
 
-    /// Whether an operation of this name is declared, of the interface of a number counted from 1, or of none.
+    /// Whether an operation of this name is declared, in the interface with this number, from 1, or
+    /// in no interface if it is 0.
     pub(crate) fn has_operation(&self, interface: u32, name: &[u8]) -> bool
         requires short { length name.now ≤ 128 }
         requires few { interface ≤ 1024 }
         ensures { result ≡ is_some (keyed_number self.now.table
             (operation_key interface name.now)) }
     {
-        // What holds of every map of names is known of this one once it is read.
+        // They are read so that the prover knows what is true of each map of names.
         let _names = &self.names;
         let key = call_key(interface, name);
         self.operations.get_index_of(&key).is_some()
@@ -254,12 +338,12 @@ impl Draft {
     pub(crate) fn interfaces(&self) -> &InterfaceTable
         ensures { result.now ≡ self.now.table.interfaces }
     {
-        // What holds of every map of names is known of this one once it is read.
+        // They are read so that the prover knows what is true of each map of names.
         let _names = &self.names;
         &self.interfaces
     }
 
-    /// Adds a name that is new, perhaps a type's.
+    /// Adds a new name, with its type if it is that of a type.
     fn add_name(&mut self, name: &[u8], t: Option<TypeId>) -> Result<(), ParseStop>
         requires short { length name.now ≤ 64 }
         requires new { lookup (bytes_eq name.now) self.old.names.known ≡ None }
@@ -283,7 +367,7 @@ impl Draft {
         }) }
         ensures err { IfErr result (λ stop. stop ≡ ParseStop.Memory) }
     {
-        // What holds of every map of names is known of this one once it is read.
+        // They are read so that the prover knows what is true of each map of names.
         let _names = &self.names;
         let key: Name = ArrayVec::try_from(id).unwrap();
         self.identities.insert(key, t)?;
@@ -299,7 +383,7 @@ impl Draft {
         }) }
         ensures err { IfErr result (λ stop. stop ≡ ParseStop.Memory) }
     {
-        // What holds of every map of names is known of this one once it is read.
+        // They are read so that the prover knows what is true of each map of names.
         let _names = &self.names;
         let kind = self.types.entry(t).kind();
         add_fronts(&mut self.fronts, kind, id)?;
@@ -311,12 +395,12 @@ impl Draft {
         requires { t.0 < length self.now.table.types }
         ensures { result ≡ depth_in self.now.table.types t.0 }
     {
-        // What holds of every map of names is known of this one once it is read.
+        // They are read so that the prover knows what is true of each map of names.
         let _names = &self.names;
         self.types.depth_at(t)
     }
 
-    /// Adds the sequence of a type, if it is not too deep.
+    /// Adds the sequence of a type, unless it would be too deep.
     fn add_sequence(&mut self, t: TypeId) -> Result<(), ParseStop>
         requires { IsKnown self.old.table.types t.0 }
         ensures added { OnOk result (self.new ≡ record (self.old) {
@@ -349,7 +433,8 @@ impl Draft {
         }
     }
 
-    /// Declares an enum, struct or union by a new name, and perhaps by a new repository id.
+    /// Declares an enum, struct or union with a new name, and with a new repository id if it has
+    /// one.
     pub(crate) fn name_type(
         &mut self,
         name: &[u8],
@@ -371,7 +456,7 @@ impl Draft {
         Ok(())
     }
 
-    /// Adds an exception of a new repository id.
+    /// Adds an exception with a new repository id.
     fn add_exception(&mut self, repository: &[u8], t: TypeId) -> Result<(), ParseStop>
         requires few { length self.old.table.exceptions < 4096 }
         requires identity { length repository.now ≤ 128 }
@@ -383,14 +468,14 @@ impl Draft {
         }) }
         ensures err { IfErr result (λ stop. stop ≡ ParseStop.Memory) }
     {
-        // What holds of every map of names is known of this one once it is read.
+        // They are read so that the prover knows what is true of each map of names.
         let _names = &self.names;
         let key: Name = ArrayVec::try_from(repository).unwrap();
         self.exceptions.insert(key, t)?;
         Ok(())
     }
 
-    /// Declares an exception by a new name and a new repository id.
+    /// Declares an exception with a new name and a new repository id.
     pub(crate) fn raise(
         &mut self,
         name: &[u8],
@@ -411,7 +496,7 @@ impl Draft {
         self.add_exception(repository, t)
     }
 
-    /// Adds an operation of the interface of a number counted from 1, or of none.
+    /// Adds an operation in the interface with this number, from 1, or in no interface if it is 0.
     pub(crate) fn add_operation(
         &mut self,
         interface: u32,
@@ -429,7 +514,7 @@ impl Draft {
         }) }
         ensures err { IfErr result (λ stop. stop ≡ ParseStop.Memory) }
     {
-        // What holds of every map of names is known of this one once it is read.
+        // They are read so that the prover knows what is true of each map of names.
         let _names = &self.names;
         if self.operations.len() >= u32::MAX as usize {
             return Err(ParseStop::Memory);
@@ -451,7 +536,7 @@ impl Draft {
         }) }
         ensures err { IfErr result (λ stop. stop ≡ ParseStop.Memory) }
     {
-        // What holds of every map of names is known of this one once it is read.
+        // They are read so that the prover knows what is true of each map of names.
         let _names = &self.names;
         self.interfaces.add(id)
     }
@@ -466,7 +551,7 @@ impl Draft {
         ensures added { OnOk result (self.new ≡ with_key_of self.old text.now id.now) }
         ensures err { IfErr result (λ stop. stop ≡ ParseStop.Memory) }
     {
-        // What holds of every map of names is known of this one once it is read.
+        // They are read so that the prover knows what is true of each map of names.
         let _names = &self.names;
         self.interfaces.add_key(text, id)
     }
@@ -476,14 +561,55 @@ impl Draft {
         requires { self.old.table.called < 4096 }
         ensures { self.new ≡ record (self.old) { table = with_called self.old.table } }
     {
-        // What holds of every map of names is known of this one once it is read.
+        // They are read so that the prover knows what is true of each map of names.
         let _names = &self.names;
         self.called += 1;
     }
 
-    /// The catalogue, if no type is too deep.
+    /// Announces a struct or union with a new name.
+    pub(crate) fn announce(&mut self, name: &[u8], word: TypeWord) -> Result<(), ParseStop>
+        requires short { length name.now ≤ 64 }
+        requires new { announced_as self.old.names name.now ≡ None }
+        requires third { is_third self.old.names ≡ true }
+        ensures added { OnOk result (self.new
+            ≡ with_announced word name.now (add_announced_type self.old)) }
+        ensures err { IfErr result (λ stop. stop ≡ ParseStop.Memory) }
+    {
+        // They are read so that the prover knows what is true of each map of names.
+        let _names = &self.names;
+        let place = self.announcements();
+        if place >= u32::MAX as usize {
+            return Err(ParseStop::Memory);
+        }
+        let type_id = self.add(Entry::Announced(place as u32))?;
+        let key: Key = ArrayVec::try_from(name).unwrap();
+        self.announced.insert(key, Announcement { word, type_id })?;
+        Ok(())
+    }
+
+    /// The types that were declared for the announced names, in order.
+    pub(crate) fn targets(&self, alloc: Global) -> Result<Vec<Option<TypeId>>, ParseStop>
+        ensures ok { IfOk result (λ ts. map number_of_id ts.items ≡ targets self.now.names) }
+        ensures err { IfErr result (λ stop. stop ≡ ParseStop.Memory) }
+    {
+        declared_types(alloc, &self.names, &self.announced)
+    }
+
+    /// Gives each recursive sequence the type that was declared for its announcement.
+    pub(crate) fn settle(&mut self, types: &[Option<TypeId>])
+        requires { map number_of_id types.now ≡ targets self.old.names }
+        ensures is { self.new ≡ settled self.old }
+        ensures complete { AreSettled self.new.table.types }
+    {
+        // They are read so that the prover knows what is true of each map of names.
+        let _names = &self.names;
+        self.types.settle(types);
+    }
+
+    /// The catalogue. No type is too deep, and each recursive sequence has its type.
     pub(crate) fn into_catalogue(self) -> Catalogue
-        requires { depth_of self.table.types ≤ 24 }
+        requires shallow { depth_of self.table.types ≤ 24 }
+        requires settled { AreSettled self.table.types }
         ensures { result ≡ self.table }
     {
         Catalogue {

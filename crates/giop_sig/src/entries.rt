@@ -1,5 +1,5 @@
 //! The types of a catalogue as they are kept: an entry for each, with its depth.
-ghost use Rattle.std.specs.Prelude.{◌≡◌, ℕ, ◌+◌, ◌^◌, ◌<◌, ◌≤◌, ◌++◌, ◌∷◌, [], length, Some, IfOk, OnOk, OnErr, max};
+ghost use Rattle.std.specs.Prelude.{◌≡◌, ℕ, ◌+◌, ◌^◌, ◌<◌, ◌≤◌, ◌++◌, ◌∷◌, [], length, map, Some, IfOk, OnOk, OnErr, max};
 ghost use Rattle.std.specs.Option.{option_map};
 ghost use Rattle.giop_sig.specs.Types.{most, HasPlace, HasMember, IsUnion};
 ghost use Rattle.giop_sig.specs.Heard.{has_count, is_sequence_of, kind_of, of_kind};
@@ -7,6 +7,9 @@ ghost use Rattle.giop_sig.specs.Hearings.{signal_of};
 ghost use Rattle.giop_sig.specs.Table.{takes_octet, node_in, IsFormed, shape_of, part_at, type_of, name_of, name_at, switch_at, selected};
 ghost use Rattle.giop_sig.specs.Trees.{in_room, depth_in, depth_of, node_depth, part_depth, some_of, wide_in, node_wide, part_wide, AreFormed};
 ghost use Rattle.giop_sig.specs.UnionCases.{part_view};
+ghost use Rattle.giop_sig.specs.Settling.{target_of, settled_entry};
+ghost use Rattle.giop_sig.specs.ScopeViews.{number_of_id};
+ghost use Rattle.giop_sig.specs.Scopes.{settled_node};
 
 use crate::cases::UnionCases;
 use crate::fronts::{ENUM_KIND, STRUCT_KIND, UNION_KIND};
@@ -32,23 +35,25 @@ pub(crate) struct CaseEntry {
     pub(crate) part: PartEntry,
 }
 
-/// A tagged type, such as a service context or a profile: a tag, then an encapsulation or octets.
+/// A tagged type, such as a service context or a profile: a tag, and then an encapsulation or
+/// octets.
 #[derive(Drop)]
 pub(crate) struct TagEntry {
-    /// The tag that an encapsulation follows.
+    /// The tag that comes before an encapsulation.
     pub(crate) special: u32,
-    /// The tag, a member.
+    /// The tag, as a member.
     pub(crate) tag: PartEntry,
-    /// The encapsulation that follows the tag `special`.
+    /// The encapsulation after the tag `special`.
     pub(crate) inner: PartEntry,
-    /// The octets that follow every other tag.
+    /// The octets after any other tag.
     pub(crate) other: PartEntry,
 }
 
 impl TagEntry {
     ghost use Rattle.giop_sig.specs.Views.{tag_view};
 
-    /// The part at a place: 0 the tag, 1 the encapsulation, 2 the octets of every other tag.
+    /// The part at a place: 0 is the tag, 1 the encapsulation, and 2 the octets after any other
+    /// tag.
     fn part(&self, place: u32) -> &PartEntry
         requires { place < 3 }
         ensures { part_at (tag_view self.now) place ≡ Some (part_view result.now) }
@@ -61,7 +66,7 @@ impl TagEntry {
         }
     }
 
-    /// What follows a tag of this number: the encapsulation, or the octets.
+    /// What comes after a tag of this number: the encapsulation or the octets.
     fn select(&self, number: Number) -> Selected
         ensures { result ≡ selected (tag_view self.now) number }
     {
@@ -73,12 +78,12 @@ impl TagEntry {
     }
 }
 
-/// A type, by the numbers of its parts.
+/// A type, with the numbers of its parts.
 #[derive(Drop)]
 pub(crate) enum Entry {
-    /// One number.
+    /// A primitive type.
     Prim(Prim),
-    /// An enum, by its names.
+    /// The names of an enum.
     Enumeration(Vec<Vec<u8>>),
     /// A string, perhaps with a bound.
     Text(Option<u32>),
@@ -90,35 +95,42 @@ pub(crate) enum Entry {
     WideChar,
     /// A struct.
     Members(Vec<PartEntry>),
-    /// A union: its discriminator, its cases, and what is selected where no label is the number.
+    /// A union: the type of its discriminator, its cases, and what is selected if no label is the
+    /// number.
     Union(TypeId, UnionCases, Selected),
-    /// A sequence, perhaps with a bound, of elements.
+    /// A sequence, perhaps with a bound, and the type of its elements.
     Sequence(Option<u32>, TypeId),
-    /// An array of so many elements.
+    /// An array: how many elements it has, and their type.
     Array(u32, TypeId),
-    /// Octets with a byte order of their own that hold a value.
+    /// Octets with a byte order of their own, which hold a value.
     Encapsulation(TypeId),
     /// A tag, and an encapsulation or octets after it.
     Tagged(TagEntry),
     /// A number of four octets with a mark.
     Marked(u32),
-    /// An any: the TypeCode that tells the type of its value.
+    /// An any: the type of the TypeCode that tells the type of its value.
     Any(TypeId),
     /// A TypeCode.
     TypeCode(TypeCodeEntry),
+    /// A struct or union that is announced, with its place among these. No type has it as a part.
+    Announced(u32),
+    /// A sequence, perhaps with a bound, whose elements have a type that was announced. It has the
+    /// number of that type; until the file ends, it has the place of the announcement.
+    Recursive(Option<u32>, TypeId),
 }
 
-/// A TypeCode: its kind, and what follows each kind.
+/// A TypeCode: its kind, and what comes after each kind.
 #[derive(Drop)]
 pub(crate) struct TypeCodeEntry {
-    /// Types of this number and greater ones take so much room that they are octets if there is less.
+    /// A part whose type has this number or a greater one needs `WIDE_ROOM`. In less room it is
+    /// octets.
     pub(crate) wide: TypeId,
     /// The type of the kind.
     pub(crate) kind: TypeId,
     pub(crate) cases: UnionCases,
 }
 
-/// How much room the parameters of a TypeCode take.
+/// How much room the parameters of a TypeCode need.
 const WIDE_ROOM: u8 = 7;
 
 impl TypeCodeEntry {
@@ -137,7 +149,7 @@ impl TypeCodeEntry {
         }
     }
 
-    /// The type of the case at a place, in this room.
+    /// The type of the case at a place, if it has this room.
     fn part_in(&self, place: u32, room: u8) -> TypeId
         requires { place < length self.now.cases }
         ensures { result.0 ≡ type_of (part_at (in_room room (code_view self.now)) place) }
@@ -175,10 +187,13 @@ impl Entry {
             Entry::Marked(mark) => Shape::Marked(*mark),
             Entry::Any(_) => Shape::Led,
             Entry::TypeCode(code) => Shape::Union(code.cases.len()),
+            Entry::Announced(_) => Shape::Members(0),
+            Entry::Recursive(bound, _) => Shape::Recursive(*bound),
         }
     }
 
-    /// The type of the part at a place; an element and the value in an encapsulation are at every place.
+    /// The type of the part at a place. An element and the value in an encapsulation are at each
+    /// place.
     #[inline(always)]
     pub(crate) fn part(&self, place: u32) -> TypeId
         requires { HasPlace (shape_of (node_view self.now)) place }
@@ -188,6 +203,7 @@ impl Entry {
             Entry::Members(parts) => parts[place as usize].type_id,
             Entry::Union(_, cases, _) => cases.part(place).type_id,
             Entry::Sequence(_, element) => *element,
+            Entry::Recursive(_, element) => *element,
             Entry::Array(_, element) => *element,
             Entry::Encapsulation(held) => *held,
             Entry::Tagged(tagged) => tagged.part(place).type_id,
@@ -197,7 +213,7 @@ impl Entry {
         }
     }
 
-    /// The type of the part at a place, in this room for it.
+    /// The type of the part at a place, if it has this room.
     pub(crate) fn part_in(&self, place: u32, room: u8) -> TypeId
         requires { HasPlace (shape_of (node_view self.now)) place }
         ensures { result.0 ≡ type_of (part_at (in_room room (node_view self.now)) place) }
@@ -208,7 +224,7 @@ impl Entry {
         }
     }
 
-    /// What an id of the type tells, after the octet of a kind.
+    /// What a repository id of the type tells after the octet of a kind.
     pub(crate) fn told_as(&self, kind: u8, t: TypeId) -> Signal
         ensures { result ≡ signal_of (of_kind kind t.0 (node_view self.now)) }
     {
@@ -220,7 +236,7 @@ impl Entry {
         }
     }
 
-    /// The kind of a struct, a union or an enum.
+    /// The kind of the type, if it is a struct, a union or an enum.
     pub(crate) fn kind(&self) -> u8
         ensures { result ≡ kind_of (node_view self.now) }
     {
@@ -231,7 +247,7 @@ impl Entry {
         }
     }
 
-    /// Whether a struct has so many members, or an enum so many names.
+    /// Whether the type is a struct with this many members, or an enum with this many names.
     pub(crate) fn has_count(&self, count: u32) -> bool
         ensures { result ≡ has_count count (node_view self.now) }
     {
@@ -242,7 +258,7 @@ impl Entry {
         }
     }
 
-    /// Whether the type is the sequence, without a bound, of another.
+    /// Whether the type is the sequence of this element without a bound.
     pub(crate) fn is_sequence_of(&self, element: TypeId) -> bool
         ensures { result ≡ is_sequence_of element.0 (node_view self.now) }
     {
@@ -258,11 +274,12 @@ impl Entry {
     {
         match self {
             Entry::Members(parts) => !parts.is_empty(),
+            Entry::Announced(_) => false,
             _ => true,
         }
     }
 
-    /// The name of the member or case at a place, or of a tagged type's part.
+    /// The name at a place: of a member, a case, or a part of a tagged type.
     #[inline(always)]
     pub(crate) fn part_name(&self, place: u32) -> &PartName
         requires { HasMember (shape_of (node_view self.now)) place }
@@ -277,7 +294,7 @@ impl Entry {
         }
     }
 
-    /// The name of an enum's number.
+    /// The name of an enum's number, or of a kind.
     pub(crate) fn enum_name(&self, number: u32) -> Option<&[u8]>
         ensures { option_map (λ x. x.now) result ≡ name_at (node_view self.now) number }
     {
@@ -304,7 +321,7 @@ impl Entry {
         }
     }
 
-    /// What the value of a discriminator, or of a tagged type's tag, selects.
+    /// What the value of a discriminator or a tag selects.
     pub(crate) fn select(&self, number: Number) -> Selected
         requires { IsSized self.now }
         ensures { result ≡ selected (node_view self.now) number }
@@ -324,7 +341,7 @@ impl Entry {
     }
 }
 
-/// An entry with the depth of its type, and whether that has wide text.
+/// An entry, the depth of its type, and whether the type has wide text.
 #[derive(Drop)]
 pub(crate) struct EntryWithDepth {
     pub(crate) entry: Entry,
@@ -332,7 +349,8 @@ pub(crate) struct EntryWithDepth {
     pub(crate) wide: bool,
 }
 
-/// Types, each numbered by its index. A part has a smaller number than the type that it is part of.
+/// Types, numbered by their indices. A part has a smaller number than the type that has it, apart
+/// from the elements of a recursive sequence and the value of an any.
 #[derive(Drop)]
 pub(crate) struct Types {
     placed: Vec<EntryWithDepth>,
@@ -351,6 +369,34 @@ impl Model for Types {
     ghost invariant = { λ a. IsKept a.placed.items a.deepest };
 }
 
+/// The type that was declared for the announcement at a place.
+fn target(targets: &[Option<TypeId>], place: TypeId) -> TypeId
+    ensures { result ≡ target_of targets.now place }
+{
+    match targets.get(place.0 as usize) {
+        Some(Some(t)) => *t,
+        _ => TypeId(0),
+    }
+}
+
+/// Gives a recursive sequence the type that was declared for its announcement.
+fn settle_one(placed: &mut EntryWithDepth, targets: &[Option<TypeId>])
+    ensures { placed.new ≡ settled_entry targets.now placed.old }
+{
+    if let Entry::Recursive(_, element) = &mut placed.entry {
+        *element = target(targets, *element);
+    }
+}
+
+/// Gives each recursive sequence of a list its type.
+fn settle_each(placed: &mut Vec<EntryWithDepth>, targets: &[Option<TypeId>])
+    ensures { placed.new.items ≡ map (settled_entry targets.now) placed.old.items }
+{
+    for one in placed.iter_mut() {
+        settle_one(one, targets);
+    }
+}
+
 impl Types {
     ghost use Rattle.giop_sig.specs.Views.{node_view, nodes_view, IsSized};
 
@@ -364,11 +410,12 @@ impl Types {
         }
     }
 
-    /// What holds of every list of types: it has no body, and is called for its contract.
+    /// What is true of each list of types. This function does nothing, and is called for its
+    /// contract.
     pub(crate) fn laws(&self)
         ensures { AreFormed self.now }
     {
-        // What holds of every placed type is known of these once they are read.
+        // They are read so that the prover knows what is true of each entry.
         let _placed = &self.placed;
     }
 
@@ -379,7 +426,7 @@ impl Types {
         self.placed.len() as u32
     }
 
-    /// The entries, each at its type's number.
+    /// The entries. The index of each is the number of its type.
     #[inline(always)]
     pub(crate) fn entries(&self) -> &[EntryWithDepth]
         ensures { nodes_view result.now ≡ self.now }
@@ -414,14 +461,15 @@ impl Types {
         self.placed[t.0 as usize].wide
     }
 
-    /// The greatest depth of a type, 0 where there is none.
+    /// The greatest depth of a type; 0 if there are no types.
     pub(crate) fn deepest(&self) -> u32
         ensures { result ≡ depth_of self.now }
     {
         self.deepest
     }
 
-    /// The depth that an entry's type would have: 1 for a leaf, and 1 more than its deepest part.
+    /// The depth that the type of an entry would have: 1 for a leaf, 2 for a recursive sequence,
+    /// and for any other 1 more than its deepest part.
     fn depth_above(&self, entry: &Entry) -> u32
         requires formed { IsFormed self.now (length self.now) (node_view entry.now) }
         requires few { length self.now + 1 < 2 ^ 32 }
@@ -442,10 +490,11 @@ impl Types {
             Shape::Tagged => 1 + self.deepest_part(entry, 3).max(1),
             Shape::Marked(_) => 1,
             Shape::Led => 1 + self.depth_at(entry.part(0)),
+            Shape::Recursive(_) => 2,
         }
     }
 
-    /// The depth of the deepest of an entry's first so many parts, 0 where there is none.
+    /// The depth of the deepest of an entry's first `count` parts; 0 if there are none.
     fn deepest_part(&self, entry: &Entry, count: u32) -> u32
         requires place { (i : ℕ) → i < count → HasPlace (shape_of (node_view entry.now)) i }
         requires below { (i : ℕ) → i < count
@@ -460,7 +509,7 @@ impl Types {
         deepest
     }
 
-    /// Whether an entry's type would have wide text.
+    /// Whether the type of an entry would have wide text.
     fn wide_above(&self, entry: &Entry) -> bool
         requires formed { IsFormed self.now (length self.now) (node_view entry.now) }
         ensures { result ≡ node_wide self.now (node_view entry.now) }
@@ -478,7 +527,7 @@ impl Types {
         }
     }
 
-    /// Whether one of an entry's first so many parts has wide text.
+    /// Whether one of an entry's first `count` parts has wide text.
     fn some_wide(&self, entry: &Entry, count: u32) -> bool
         requires place { (i : ℕ) → i < count → HasPlace (shape_of (node_view entry.now)) i }
         requires below { (i : ℕ) → i < count
@@ -492,7 +541,14 @@ impl Types {
         wide
     }
 
-    /// Adds a type at the end, if a number is left for it. An `Err` changes nothing: memory was refused.
+    /// Gives each recursive sequence the type that was declared for its announcement.
+    pub(crate) fn settle(&mut self, targets: &[Option<TypeId>])
+        ensures { self.new ≡ map (settled_node (map number_of_id targets.now)) self.old }
+    {
+        settle_each(&mut self.placed, targets);
+    }
+
+    /// Adds a type at the end. An `Err` changes nothing: memory was refused.
     pub(crate) fn add(&mut self, entry: Entry) -> Result<TypeId, AllocError>
         requires formed { IsFormed self.old (length self.old) (node_view entry) }
         requires few { length self.old + 1 < 2 ^ 32 }

@@ -1,4 +1,4 @@
-//! Why a request list is refused (docs/FORMATS.md). Why a signature file is: see `giop_tokens`.
+//! Why a request list is refused (docs/FORMATS.md). `giop_tokens` says why a signature file is.
 
 use std::alloc::AllocFailed;
 use thiserror::Error;
@@ -6,7 +6,7 @@ use thiserror::Error;
 /// The rule that a request list breaks. `Display` is the word that the program prints.
 #[derive(Clone, Copy, Debug, Drop, PartialEq, Eq, Error)]
 pub enum ListFaultKind {
-    /// The line is no entry: an id, a name, and perhaps an interface, a space between two of them.
+    /// The line isn't an entry: an id, a name, and perhaps an interface, with a space between them.
     #[error("syntax")]
     Syntax = 1,
     /// The text has more octets, or more entries, than a list may have.
@@ -17,13 +17,14 @@ pub enum ListFaultKind {
     OutOfMemory = 3,
 }
 
-/// The first refusal of a request list, read from the front; nothing is kept after it.
+/// The first refusal of a request list, read from the front. Nothing is kept after it.
 #[derive(Clone, Copy, Debug, Drop, PartialEq, Eq, Error)]
 #[error("{kind}")]
 pub struct ListFault {
-    /// The line that is refused, from 1; 1 for a text that is too long, 0 for want of memory.
+    /// The line that is refused, from 1. It is 1 for a text that is too long, and 0 if memory was
+    /// refused.
     pub line: u32,
-    /// The rule that it breaks.
+    /// The rule that the line breaks.
     pub kind: ListFaultKind,
 }
 

@@ -1,4 +1,4 @@
-//! The fronts of repository ids, by which an id that comes in pieces is known.
+//! The fronts of repository ids, by which an id that comes in pieces is recognized.
 ghost use Rattle.std.specs.Prelude.{◌≡◌, ℕ, ◌≤◌, List, ◌∷◌, ◌++◌, length, map, IfOk, OnOk, IfSome, IfNone};
 ghost use Rattle.giop_sig.specs.HeaderTypes.{KnowsAnys};
 ghost use Rattle.giop_sig.specs.Table.{Node};
@@ -8,7 +8,7 @@ use arrayvec::ArrayVec;
 use indexmap::IndexSet;
 use std::alloc::{AllocError, Global};
 
-/// The octet of a type's kind, and the octets of its repository id or of the front of it.
+/// The octet of a type's kind, and then the octets of its repository id or of a front of it.
 pub(crate) type Front = ArrayVec<u8, 129>;
 
 /// The kind of a struct.
@@ -18,10 +18,10 @@ pub(crate) const UNION_KIND: u8 = 16;
 /// The kind of an enum.
 pub(crate) const ENUM_KIND: u8 = 17;
 
-/// The most fronts that there may be.
+/// How many fronts there may be.
 const FRONTS_MAX: usize = 65_536;
 
-/// The front of an id of a kind, which has these octets.
+/// The front with these octets, of an id of a type of this kind.
 fn front_of(kind: u8, octets: &[u8]) -> Front
     requires { length octets.now ≤ 128 }
     ensures { result.items ≡ kind ∷ octets.now }
@@ -32,7 +32,7 @@ fn front_of(kind: u8, octets: &[u8]) -> Front
     front
 }
 
-/// Adds a front, if it is new. Want of numbers is want of memory: no file has so many.
+/// Adds a front, if it is new. If no number is left for it, memory is refused: no file has so many.
 fn add_front(fronts: &mut IndexSet<Front>, kind: u8, octets: &[u8]) -> Result<(), AllocError>
     requires { length octets.now ≤ 128 }
     ensures added { OnOk result (map (λ f. f.items) fronts.new.keys
@@ -48,7 +48,7 @@ fn add_front(fronts: &mut IndexSet<Front>, kind: u8, octets: &[u8]) -> Result<()
     Ok(())
 }
 
-/// The fronts before the first octet of an id.
+/// The fronts before the first octet of an id, one for each kind.
 pub(crate) fn first_fronts(alloc: Global) -> Result<IndexSet<Front>, AllocError>
     ensures { IfOk result (λ fronts. map (λ f. f.items) fronts.keys ≡ first_fronts) }
 {
@@ -59,7 +59,7 @@ pub(crate) fn first_fronts(alloc: Global) -> Result<IndexSet<Front>, AllocError>
     Ok(fronts)
 }
 
-/// Adds the front of so many octets of an id, if it has more and the front is new.
+/// Adds the front of `count` octets of an id, if the id has more and the front is new.
 fn add_front_of(
     fronts: &mut IndexSet<Front>,
     kind: u8,
@@ -79,8 +79,8 @@ fn add_front_of(
     Ok(())
 }
 
-/// Adds the fronts of an id that are new: its first 32, 64 and 96 octets, if it has more. Some may have been added when
-/// memory is refused.
+/// Adds the fronts of an id that are new: its first 32, 64 and 96 octets, if it has more. If memory
+/// is refused, some of them may have been added.
 pub(crate) fn add_fronts(
     fronts: &mut IndexSet<Front>,
     kind: u8,
@@ -98,7 +98,8 @@ pub(crate) fn add_fronts(
     add_front_of(fronts, kind, id, 96)
 }
 
-/// The octets of a front and of a piece in two parts after it; None if they are more than a front can have.
+/// A front with the octets of a piece after it, which comes in two parts. None if that is longer
+/// than a front can be.
 pub(crate) fn longer_front(front: &[u8], held: &[u8], rest: &[u8]) -> Option<Front>
     ensures some { IfSome result (λ longer.
         longer.items ≡ front.now ++ (held.now ++ rest.now)) }

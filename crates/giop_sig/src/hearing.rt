@@ -1,4 +1,4 @@
-//! What the TypeCode of an any tells of its value.
+//! What the TypeCode of an any tells about the value of the any.
 
 ghost use Rattle.std.specs.Prelude.{◌≡◌, ℕ, suc, ◌<◌, ◌≤◌, ◌++◌, length, position};
 ghost use Rattle.std.specs.Str.{bytes_eq};
@@ -14,7 +14,8 @@ use crate::told_kinds::{built_in_sequence, told_by};
 use crate::types::{Following, Shape, Sign, Signal, TypeId};
 
 impl Catalogue {
-    /// What a value of a type, which begins with a part that tells what follows, has told after a sign in that part.
+    /// What has been told of a value after a sign in its first part. The value's type begins with a
+    /// part that tells what comes after it.
     pub fn hear(&self, t: TypeId, told: Signal, sign: Sign<'_>) -> Signal
         requires { t.0 < length self.now.types }
         ensures is { result ≡ signal_after self.now t.0 told sign.entry }
@@ -25,7 +26,7 @@ impl Catalogue {
         self.seen(false).hear(t, told, sign)
     }
 
-    /// What an any has told after a sign in its TypeCode.
+    /// What the TypeCode of an any has told after a sign in it.
     pub(crate) fn hear_any(&self, told: Signal, sign: Sign<'_>) -> Signal
         ensures { result
             ≡ signal_of (hears self.now (told_of told) (sign_is sign.entry)) }
@@ -39,7 +40,7 @@ impl Catalogue {
         }
     }
 
-    /// After the bound of a sequence: its type, if that of its elements is known.
+    /// After the bound of a sequence: the type of the sequence, if that of its elements is known.
     fn bounded(&self, told: Signal) -> Signal
         ensures { result ≡ signal_of (bound_told self.now (told_of told)) }
     {
@@ -49,7 +50,7 @@ impl Catalogue {
         }
     }
 
-    /// The sequence of a type.
+    /// The sequence of a type, if there is one.
     fn sequence_of(&self, t: TypeId) -> Signal
         ensures { result ≡ signal_of (sequence_told self.now t.0) }
     {
@@ -59,7 +60,7 @@ impl Catalogue {
         }
     }
 
-    /// The type after a type, if it is the sequence of it.
+    /// The type after a type, if it is the sequence of that.
     fn next_sequence(&self, t: TypeId) -> Signal
         ensures { result ≡ signal_of (next_sequence self.now t.0) }
     {
@@ -74,7 +75,7 @@ impl Catalogue {
         }
     }
 
-    /// After a count: the type that was offered, if it has so many members.
+    /// After a count: the type that was offered, if it has this many members.
     fn counted(&self, told: Signal, count: u32) -> Signal
         ensures { result ≡ signal_of (counted self.now (told_of told) count) }
     {
@@ -84,7 +85,7 @@ impl Catalogue {
         }
     }
 
-    /// A type, if it has so many members.
+    /// A type, if it has this many members.
     fn offered(&self, t: TypeId, count: u32) -> Signal
         ensures { result ≡ signal_of (count_told self.now t.0 count) }
     {
@@ -95,7 +96,7 @@ impl Catalogue {
         }
     }
 
-    /// After a piece of a string in two parts.
+    /// After a piece of a string, which comes in two parts.
     fn spelt(&self, told: Signal, held: &[u8], rest: &[u8], more: bool) -> Signal
         ensures { result ≡ signal_of
             (spelt self.now (told_of told) (held.now ++ rest.now) more) }
@@ -106,7 +107,8 @@ impl Catalogue {
         }
     }
 
-    /// After a piece of a repository id, in two parts, that stands after the front with a number.
+    /// After a piece of a repository id, in two parts. The id's octets before the piece are the
+    /// front with this number.
     fn id_told(&self, front: u32, held: &[u8], rest: &[u8], more: bool) -> Signal
         ensures { result ≡ signal_of (id_told self.now
             (front_at self.now front ++ (held.now ++ rest.now)) more) }
@@ -124,7 +126,7 @@ impl Catalogue {
         }
     }
 
-    /// The front with a number, or no octets.
+    /// The front with this number, or no octets if there is none.
     fn front(&self, number: u32) -> &[u8]
         ensures { result.now ≡ front_at self.now number }
     {
@@ -142,7 +144,7 @@ impl Catalogue {
         Some(number as u32)
     }
 
-    /// After a whole repository id, which stands after the octet of its kind.
+    /// After a whole repository id, which comes after the octet of its kind.
     fn identity_told(&self, octets: &[u8]) -> Signal
         ensures { result ≡ signal_of (identity_told self.now octets.now) }
     {
@@ -155,7 +157,8 @@ impl Catalogue {
         }
     }
 
-    /// What follows in a value of a type, which begins with a part that tells it, in this room for what follows.
+    /// What comes next in a value of a type that begins with a part that tells it, if that has this
+    /// room.
     pub fn following(&self, t: TypeId, told: Signal, room: u8) -> Following
         requires { t.0 < length self.now.types }
         ensures is { sequel (hearing_in (tree_at self.now (suc room) t.0)) (told_of told)
@@ -167,14 +170,14 @@ impl Catalogue {
         self.seen(false).following(t, told, room)
     }
 
-    /// Whether a type can follow in an any, in this room.
+    /// Whether a type can be that of the value in an any, if the value has this room.
     pub fn follows(&self, t: TypeId, room: u8) -> bool
         ensures { result ≡ follows self.now room t.0 }
     {
         self.seen(false).follows(t, room)
     }
 
-    /// Whether a type can follow in an any, in this room, if it has no wide text.
+    /// The same for a type without wide text.
     pub(crate) fn can_follow(&self, t: TypeId, room: u8) -> bool
         ensures { result ≡ has_room self.now room t.0 }
     {
@@ -182,7 +185,7 @@ impl Catalogue {
     }
 }
 
-/// After what tells nothing.
+/// After something that tells nothing.
 fn unless_awaited(told: Signal) -> Signal
     ensures { result ≡ signal_of (unless_awaited (told_of told)) }
 {

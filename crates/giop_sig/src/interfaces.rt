@@ -1,4 +1,4 @@
-//! The interfaces of a signature file, and whose an object key is.
+//! The interfaces of a signature file, and the interface of an object key.
 ghost use Rattle.std.specs.Prelude.{◌≡◌, ℕ, List, ◌⊎◌, ◌<◌, ◌≤◌, ◌++◌, ◌∷◌, [], true, length, slice_index_or, position, IfErr, IfSome, OnOk, None};
 ghost use Rattle.std.specs.List.{list_any};
 ghost use Rattle.std.specs.Option.{option_map, is_some};
@@ -14,21 +14,21 @@ use indexmap::{IndexMap, IndexSet};
 use std::alloc::Global;
 use std::marker::Model;
 
-/// The most octets of an object key that has an interface.
+/// How many octets an object key may have that has an interface.
 const OBJECT_KEY_MAX: usize = 128;
-/// The most octets of a repository id.
+/// How many octets a repository id may have.
 const ID_MAX: usize = 128;
-/// The most octets of a key alone, in a KEY of 128 octets; a front has fewer.
+/// How many octets a key may have whose KEY has at most 128 octets. A front has fewer.
 const WHOLE_MAX: usize = 64;
-/// How many sizes a KEY can have, in octets of a key.
+/// How many sizes the key of a KEY can have, in octets.
 const SIZES: usize = 65;
 
-/// The interfaces by their repository ids, and the KEYs. A contract sees the `Interfaces`.
+/// The repository ids of the interfaces, and the KEYs. A contract sees the `Interfaces`.
 #[derive(Drop)]
 pub(crate) struct InterfaceTable {
     names: IndexSet<Name>,
     keys: IndexMap<Name, InterfaceId>,
-    /// Of how many octets there are fronts.
+    /// For each size in octets, whether there are fronts of it.
     sizes: [bool; SIZES],
 }
 
@@ -51,14 +51,14 @@ fn digit(n: u8) -> u8
     if n < 10 { b'0' + n } else { b'a' + (n - 10) }
 }
 
-/// A hexadecimal digit in lower case.
+/// Whether an octet is a hexadecimal digit in lower case.
 fn is_digit(octet: u8) -> bool
     ensures { result ≡ is_digit octet }
 {
     (octet >= b'0' && octet <= b'9') || (octet >= b'a' && octet <= b'f')
 }
 
-/// The digits of a KEY: all of it, or all but the last octet where that is `*`.
+/// The digits of a KEY: all of it, or all but the last octet if that is `*`.
 fn digits_of(text: &[u8]) -> &[u8]
     ensures { result.now ≡ digits_of text.now }
 {
@@ -69,7 +69,7 @@ fn digits_of(text: &[u8]) -> &[u8]
     }
 }
 
-/// Whether this is how a KEY is spelled.
+/// Whether a text is spelled as a KEY is.
 pub(crate) fn is_key(text: &[u8]) -> bool
     ensures { result ≡ is_key text.now }
 {
@@ -77,7 +77,7 @@ pub(crate) fn is_key(text: &[u8]) -> bool
     digits.iter().all(|octet| is_digit(*octet)) && digits.len() % 2 == 0
 }
 
-/// Octets in hexadecimal digits.
+/// Octets as hexadecimal digits.
 fn hex(octets: &[u8]) -> Name
     requires { length octets.now ≤ 64 }
     ensures { result.items ≡ hex octets.now }
@@ -102,7 +102,7 @@ impl InterfaceTable {
         }
     }
 
-    /// Whether there is an interface of this repository id.
+    /// Whether there is an interface with this repository id.
     pub(crate) fn has(&self, id: &[u8]) -> bool
         requires { length id.now ≤ 128 }
         ensures { result ≡ list_any (bytes_eq id.now) self.now.names }
@@ -111,7 +111,7 @@ impl InterfaceTable {
         self.names.contains(&key)
     }
 
-    /// The number of the interface of a repository id: the next one, if it is new.
+    /// The number of the interface with a repository id. If it is new, that is the next number.
     pub(crate) fn number_of(&self, id: &[u8]) -> u32
         requires { length id.now ≤ 128 }
         ensures { result ≡ number_of self.now id.now }
@@ -123,12 +123,12 @@ impl InterfaceTable {
         }
     }
 
-    /// The interface of a repository id.
+    /// The interface with a repository id.
     pub(crate) fn named(&self, id: &[u8]) -> Option<InterfaceId>
         ensures is { result ≡ option_map interface_id (position (bytes_eq id.now) self.now.names) }
         ensures known { IfSome result (λ i. i.0 < length self.now.names) }
     {
-        // What holds of every table of interfaces is known of this one once it is read.
+        // They are read so that the prover knows what is true of each table of interfaces.
         let names = &self.names;
         if id.len() > ID_MAX {
             return None;
@@ -187,7 +187,7 @@ impl InterfaceTable {
         Ok(())
     }
 
-    /// Adds a KEY that is new, of an interface.
+    /// Adds a new KEY of an interface.
     pub(crate) fn add_key(&mut self, text: &[u8], id: &[u8]) -> Result<(), ParseStop>
         requires short { length text.now ≤ 128 }
         requires new { of_text self.old text.now ≡ None }
@@ -203,7 +203,7 @@ impl InterfaceTable {
         self.put_key(text, interface)
     }
 
-    /// Puts a KEY that is new, of an interface that is known.
+    /// Adds a new KEY of a known interface.
     fn put_key(&mut self, text: &[u8], interface: InterfaceId) -> Result<(), ParseStop>
         requires short { length text.now ≤ 128 }
         requires new { of_text self.old text.now ≡ None }
@@ -221,12 +221,13 @@ impl InterfaceTable {
         Ok(())
     }
 
-    /// The interface of an object key is one of the table's. It has no body, and is called for its contract.
+    /// The interface of an object key is one of the table's. This function does nothing, and is
+    /// called for its contract.
     #[inline(always)]
     pub(crate) fn laws(&self)
         ensures { (key : List ℕ) → IfSome (of_key self.now key) (λ i. i < length self.now.names) }
     {
-        // What holds of every table of interfaces is known of this one once it is read.
+        // They are read so that the prover knows what is true of each table of interfaces.
         let _keys = &self.keys;
     }
 
@@ -237,11 +238,11 @@ impl InterfaceTable {
         Some(*self.keys.get(text)?)
     }
 
-    /// The interface of a key alone.
+    /// The interface of the KEY with just this key.
     fn of_whole(&self, key: &[u8]) -> Option<InterfaceId>
         ensures { option_map (λ i. i.0) result ≡ of_text self.now (whole_text key.now) }
     {
-        // What holds of every table of interfaces is known of this one once it is read.
+        // They are read so that the prover knows what is true of each table of interfaces.
         let _keys = &self.keys;
         if key.len() > WHOLE_MAX {
             return None;
@@ -249,11 +250,11 @@ impl InterfaceTable {
         self.of_text(&hex(key))
     }
 
-    /// The interface of all keys that begin with these octets.
+    /// The interface of the KEY for all keys that begin with these octets.
     fn of_front(&self, octets: &[u8]) -> Option<InterfaceId>
         ensures { option_map (λ i. i.0) result ≡ of_text self.now (front_text octets.now) }
     {
-        // What holds of every table of interfaces is known of this one once it is read.
+        // They are read so that the prover knows what is true of each table of interfaces.
         let _keys = &self.keys;
         if octets.len() >= WHOLE_MAX {
             return None;
@@ -266,7 +267,7 @@ impl InterfaceTable {
         self.of_text(&text)
     }
 
-    /// The interface of the longest front of a key that has one.
+    /// The interface of the longest front of a key, if one has an interface.
     fn of_longest_front(&self, key: &[u8]) -> Option<InterfaceId>
         ensures { option_map (λ i. i.0) result ≡ longest_front self.now key.now (length key.now) }
     {
@@ -282,7 +283,7 @@ impl InterfaceTable {
         ensures is { option_map (λ i. i.0) result ≡ of_key self.now key.now }
         ensures known { IfSome result (λ i. i.0 < length self.now.names) }
     {
-        // What holds of every table of interfaces is known of this one once it is read.
+        // They are read so that the prover knows what is true of each table of interfaces.
         let _keys = &self.keys;
         if self.keys_len() == 0 {
             return None;

@@ -1,13 +1,13 @@
-//! Numbers with a mark: the kinds of a TypeCode, and their words.
+//! Numbers with a mark that are kinds of a TypeCode, and their words.
 
 ghost use Rattle.std.specs.Prelude.{◌≡◌, ◌≤◌, length, map, slice_get, IfSome};
 ghost use Rattle.std.specs.Option.{option_map};
 ghost use Rattle.giop_sig.specs.Kinds.{is_kind, kind_word, marked_word};
 
-/// The kind of a TypeCode that stands for one that came before.
+/// The kind of a TypeCode that refers to an earlier one.
 const INDIRECTION: u32 = u32::MAX;
 
-/// The words of the kinds, from 0 on (CDR Transfer Syntax, TypeCode).
+/// The words of the kinds, from kind 0 on (CDR Transfer Syntax, TypeCode).
 const WORDS: [&[u8]; 37] = [
     b"tk_null",
     b"tk_void",
@@ -48,15 +48,16 @@ const WORDS: [&[u8]; 37] = [
     b"tk_event",
 ];
 
-/// Whether a number with this mark is a kind: with 0 it is one that is heard, with 2 one that isn't. With 1 it is the bound
-/// of a sequence, and with 3 to 6 a number that may have a name.
+/// Whether a number with this mark is a kind. Mark 0 is that of a kind that tells the type of a
+/// value, and mark 2 of any other kind. A number with mark 1 is the bound of a sequence, and one
+/// with mark 3 to 6 may have a name.
 pub fn is_kind(mark: u32) -> bool
     ensures { result ≡ is_kind mark }
 {
     mark == 0 || mark == 2
 }
 
-/// The word of a number with this mark, if it is a kind that has one; None of a number that is no kind.
+/// The word of a number with this mark. None if it isn't a kind, or a kind without a word.
 pub fn kind_word(mark: u32, n: u32) -> Option<&'static [u8]>
     ensures word { option_map (λ x. x.now) result ≡ marked_word mark n }
     ensures short { IfSome result (λ x. length x.now ≤ 64) }
@@ -75,7 +76,7 @@ fn word_of(n: u32) -> Option<&'static [u8]>
     }
 }
 
-/// The word in a place, if there is one.
+/// The word at a place, if there is one.
 fn word_at(words: &[&'static [u8]], place: u32) -> Option<&'static [u8]>
     ensures { option_map (λ x. x.now) result ≡ slice_get (map (λ w. w.now) words.now) place }
 {

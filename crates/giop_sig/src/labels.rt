@@ -1,4 +1,4 @@
-//! The labels of a union: their values, and the numbers that these are of a discriminator's type.
+//! The labels of a union: their values, and the numbers of the discriminator's type that they name.
 ghost use Rattle.std.specs.Prelude.{◌≡◌, ◌^◌, ◌<◌, ◌≤◌, pos, length, map, position};
 ghost use Rattle.std.specs.Str.{bytes_eq};
 ghost use Rattle.giop_sig.specs.Outcomes.{Gives};
@@ -15,7 +15,7 @@ use crate::read_types::refused;
 use giop_cdr::{Number, Prim};
 use giop_tokens::{SigFaultKind, Token, is_reserved, misplaced, next};
 
-/// The most octets of a name.
+/// How many octets a name may have.
 const NAME_MAX: usize = 64;
 
 /// The value of a label.
@@ -23,7 +23,7 @@ const NAME_MAX: usize = 64;
 pub(crate) enum LabelValue<'a> {
     /// A number.
     Plain(u64),
-    /// A number below zero, without its sign.
+    /// A negative number, without its sign.
     Below(u64),
     /// `true` or `false`.
     Truth(bool),
@@ -31,7 +31,7 @@ pub(crate) enum LabelValue<'a> {
     Enumerator(&'a [u8]),
 }
 
-/// The value that a word is, the first of the text, in a file of version 3 or in an older one.
+/// The value of a word, which the text begins with. `third` says whether the file is of version 3.
 fn word_value<'a>(
     third: bool,
     text: &[u8],
@@ -56,7 +56,7 @@ fn word_value<'a>(
     Ok((LabelValue::Enumerator(name), rest))
 }
 
-/// The value of a label, in a file of version 3 or in an older one.
+/// The value of the label that the text begins with. `third` says whether the file is of version 3.
 #[tactic(auto, unfolding(crate::specs::UnionReading::value_at))]
 pub(crate) fn value_at(third: bool, text: &[u8]) -> Result<(LabelValue<'_>, &[u8]), ParseStop>
     ensures { Gives (λ x. (value_view x.0, x.1.now)) result (value_at third text.now) }
@@ -70,7 +70,7 @@ pub(crate) fn value_at(third: bool, text: &[u8]) -> Result<(LabelValue<'_>, &[u8
     }
 }
 
-/// A number that is at most so much, as a signed one.
+/// A number of at most `most`, as a signed one.
 fn signed(most: u64, n: u64) -> Option<Number>
     requires { most < 2 ^ 63 }
     ensures { result ≡ if_at_most most n (Number.Signed (pos n)) }
@@ -82,7 +82,7 @@ fn signed(most: u64, n: u64) -> Option<Number>
     }
 }
 
-/// A number that is at most so much, as an unsigned one.
+/// A number of at most `most`, as an unsigned one.
 fn unsigned(most: u64, n: u64) -> Option<Number>
     ensures { result ≡ if_at_most most n (Number.Unsigned n) }
 {
@@ -93,7 +93,7 @@ fn unsigned(most: u64, n: u64) -> Option<Number>
     }
 }
 
-/// A number below zero, which without its sign is at most so much.
+/// A negative number, which without its sign is at most `most`.
 fn signed_below(most: u64, n: u64) -> Option<Number>
     requires { most ≤ 2 ^ 63 }
     ensures { result ≡ if_at_most most n (Number.Signed (below n)) }
@@ -107,7 +107,7 @@ fn signed_below(most: u64, n: u64) -> Option<Number>
     }
 }
 
-/// The number of a primitive type that a number is.
+/// The value of a primitive type that a number names.
 fn plain_label(prim: Prim, n: u64) -> Option<Number>
     ensures { result ≡ label_number (prim_node prim) (Plain n) }
 {
@@ -129,7 +129,7 @@ fn plain_label(prim: Prim, n: u64) -> Option<Number>
     }
 }
 
-/// The number of a primitive type that a number below zero is.
+/// The value of a primitive type that a negative number names.
 fn below_label(prim: Prim, n: u64) -> Option<Number>
     ensures { result ≡ label_number (prim_node prim) (Below n) }
 {
@@ -141,7 +141,7 @@ fn below_label(prim: Prim, n: u64) -> Option<Number>
     }
 }
 
-/// The number of a primitive type that a value names.
+/// The value of a primitive type that the value of a label names.
 fn prim_label(prim: Prim, value: LabelValue<'_>) -> Option<Number>
     ensures { result ≡ label_number (prim_node prim) (value_view value.entry) }
 {
@@ -156,7 +156,7 @@ fn prim_label(prim: Prim, value: LabelValue<'_>) -> Option<Number>
     }
 }
 
-/// The enumerator of a name.
+/// The enumerator with this name.
 fn enumerator(names: &[Vec<u8>], name: &[u8]) -> Option<Number>
     requires { length names.now ≤ 1024 }
     ensures { result ≡ numbered (position (bytes_eq name.now) (map (λ n. n.items) names.now)) }
@@ -165,7 +165,7 @@ fn enumerator(names: &[Vec<u8>], name: &[u8]) -> Option<Number>
     Some(Number::Unsigned(place as u64))
 }
 
-/// The number of a discriminator's type that a value names.
+/// The value of a discriminator's type that the value of a label names.
 pub(crate) fn label_number(switch: &Entry, value: LabelValue<'_>) -> Option<Number>
     requires { IsSized switch.now }
     ensures { result ≡ label_number (node_view switch.now) (value_view value.entry) }

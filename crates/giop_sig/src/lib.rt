@@ -1,7 +1,8 @@
-//! Signatures: the catalogue of the types of operations and exceptions, with the built-in types of GIOP; and request
-//! lists.
+//! Signatures: the catalogue of the types of operations and exceptions, with the built-in types of
+//! GIOP; and request lists.
 #![tactic(auto)]
 
+mod announced;
 mod any_types;
 mod builtin;
 mod cases;

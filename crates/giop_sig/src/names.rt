@@ -1,4 +1,5 @@
-//! Numbers with a mark that have names: the ids of service contexts, the tags of profiles, code sets and minor codes.
+//! Numbers with a mark that have names: ids of service contexts, tags of profiles, code sets and
+//! minor codes.
 
 ghost use Rattle.std.specs.Prelude.{◌≡◌, ◌≤◌, ◌/◌, length, map, slice_get, IfSome};
 ghost use Rattle.std.specs.Option.{option_map};
@@ -6,16 +7,16 @@ ghost use Rattle.giop_sig.specs.Names.{code_set_name, context_names, marked_name
 
 use crate::numbers::{CODE_SET_MARK, CONTEXT_ID_MARK, MINOR_MARK, PROFILE_TAG_MARK};
 
-/// The name of a number: a word, or the word of a vendor and the code that the vendor gave it.
+/// The name of a number: a word, or the word of a vendor and the vendor's own code.
 #[derive(Clone, Copy, Debug, PartialEq, Eq)]
 pub struct NumberName {
-    /// The word; of a minor code its vendor.
+    /// The word. For a minor code it is the vendor's.
     pub word: &'static [u8],
-    /// The vendor's code, from 0 to 4095; None of another number.
+    /// The vendor's code, from 0 to 4095. None for other numbers.
     pub code: Option<u16>,
 }
 
-/// The names of the ids of service contexts, from 0 on (IOP, Standard Service Contexts).
+/// The names of the ids of service contexts, from id 0 on (IOP, Standard Service Contexts).
 static CONTEXTS: [&[u8]; 18] = [
     b"TransactionService",
     b"CodeSets",
@@ -37,7 +38,7 @@ static CONTEXTS: [&[u8]; 18] = [
     b"RMICustomMaxStreamFormat",
 ];
 
-/// The names of the tags of profiles, from 0 on (IOP, Standard IOR Profiles).
+/// The names of the tags of profiles, from tag 0 on (IOP, Standard IOR Profiles).
 static PROFILES: [&[u8]; 4] = [
     b"TAG_INTERNET_IOP",
     b"TAG_MULTIPLE_COMPONENTS",
@@ -45,8 +46,9 @@ static PROFILES: [&[u8]; 4] = [
     b"TAG_UIPMC",
 ];
 
-/// The name of a number with this mark, if it has one: of 3 it is the id of a service context, of 4 the tag of a profile,
-/// of 5 a code set and of 6 a minor code. Numbers with another mark have none.
+/// The name of a number with this mark, if it has one. A number with mark 3 is the id of a service
+/// context, with 4 the tag of a profile, with 5 a code set, and with 6 a minor code. Numbers with
+/// other marks have no names.
 #[tactic(auto, unfolding(crate::specs::Names::marked_name))]
 pub fn number_name(mark: u32, n: u32) -> Option<NumberName>
     ensures name { option_map name_text result ≡ marked_name mark n }
@@ -61,7 +63,7 @@ pub fn number_name(mark: u32, n: u32) -> Option<NumberName>
     }
 }
 
-/// The name that is this word, if there is one.
+/// The name that has only this word, if there is a word.
 fn without_code(word: Option<&'static [u8]>) -> Option<NumberName>
     ensures name { option_map name_text result ≡ option_map (λ word. word.now) word.entry }
     ensures short { IfSome word.entry (λ word. length word.now ≤ 64) →
@@ -71,7 +73,7 @@ fn without_code(word: Option<&'static [u8]>) -> Option<NumberName>
     Some(NumberName { word, code: None })
 }
 
-/// The name of a minor code: its vendor, and the lower 12 bits.
+/// The name of a minor code: its vendor, and its lower 12 bits.
 fn minor(n: u32) -> Option<NumberName>
     ensures name { option_map name_text result ≡ minor_name n }
     ensures short { IfSome result (λ name. length name.word.now ≤ 64) }
@@ -98,7 +100,7 @@ fn code_set(n: u32) -> Option<&'static [u8]>
     }
 }
 
-/// The vendor that has these upper 20 bits of minor codes.
+/// The vendor with these upper 20 bits of minor codes.
 #[tactic(auto, unfolding(crate::specs::Names::vendor_name))]
 fn vendor(n: u32) -> Option<&'static [u8]>
     ensures word { option_map (λ word. word.now) result ≡ vendor_name n }

@@ -1,13 +1,15 @@
-//! Reading a signature file (docs/FORMATS.md).
-ghost use Rattle.std.specs.Prelude.{◌≡◌, ℕ, List, ◌+◌, ◌<◌, ◌≤◌, ◌↔◌, length, IfOk, IfErr};
+//! Reads a signature file (docs/FORMATS.md).
+ghost use Rattle.std.specs.Prelude.{◌≡◌, ℕ, List, ◌+◌, ◌<◌, ◌≤◌, ◌↔◌, length, not, position, slice_index_or, IfOk, IfErr, OnOk};
+ghost use Rattle.std.specs.Option.{is_some};
 ghost use Rattle.giop_sig.specs.Builtin.{builtin_types};
 ghost use Rattle.giop_sig.specs.AnyTypes.{first_types};
 ghost use Rattle.giop_sig.specs.Grammar.{SignatureFile};
 ghost use Rattle.giop_sig.specs.Scopes.{table};
+ghost use Rattle.giop_sig.specs.Trees.{AreSettled};
 ghost use Rattle.giop_sig.specs.Validity.{IsValid, Spells, SpellsUpTo, Refuses};
 ghost use Rattle.giop_sig.specs.Outcomes.{Gives};
 ghost use Rattle.giop_sig.specs.Repeats.{in_steps};
-ghost use Rattle.giop_sig.specs.FileReading.{declaration_at, declarations_step, misplaced_after, version_at, head_at, file_at, text_too_long, IsFirstRefusal, IsFirstRefusalUpTo};
+ghost use Rattle.giop_sig.specs.FileReading.{announcements, declaration_at, places_after, settled_at, declarations_step, misplaced_after, version_at, head_at, file_at, text_too_long, IsFirstRefusal, IsFirstRefusalUpTo};
 
 use crate::catalogue::Catalogue;
 use crate::draft::{Draft, THIRD_VERSION};
@@ -16,19 +18,21 @@ use crate::read_calls::{key_at, operation_at};
 use crate::read_enums::enumeration;
 use crate::read_items::{exception_at, structure_at};
 use crate::read_unions::union;
+use crate::types::TypeId;
 use giop_tokens::{
-    Mark, SigFault, SigFaultKind, ends, fault_in, keyword, mark, misplaced, number, word,
+    Mark, Refusal, SigFault, SigFaultKind, ends, fault_in, keyword, left_of, mark, misplaced,
+    number, word,
 };
 use std::alloc::Global;
 
-/// The most octets of a text.
+/// How many octets a text may have.
 const TEXT_MAX: usize = 1_048_576;
 /// The versions of the format.
 const FIRST_VERSION: u64 = 1;
 
 const SECOND_VERSION: u8 = 2;
 
-/// A declaration, of the kind that its first word gives.
+/// A declaration, of the kind that its first word says.
 #[tactic(auto, unfolding(crate::specs::FileReading::declaration_at))]
 fn declaration_at<'a>(
     alloc: Global,
@@ -55,35 +59,62 @@ fn declaration_at<'a>(
     }
 }
 
-/// The end of the text, or a declaration more: whether it was the end, and what follows.
+/// Adds the place of the name in the declaration that a text begins with, if the declaration
+/// announced it. `before` names were announced before it.
+#[tactic(auto, unfolding(crate::specs::FileReading::places_after))]
+fn add_place(
+    before: usize,
+    draft: &Draft,
+    places: &mut Vec<usize>,
+    text: &[u8],
+) -> Result<(), ParseStop>
+    ensures { Gives (λ x. places.new.items) result
+        (places_after before (announcements draft.now) places.old.items text.now) }
+{
+    let (_, rest) = word(text)?;
+    if before < draft.announcements() {
+        places.push(left_of(rest))?;
+    }
+    Ok(())
+}
+
+/// The end of the text, or one more declaration. Answers whether it was the end, and what comes
+/// after.
 #[tactic(auto, unfolding(crate::specs::FileReading::declarations_step))]
 fn declarations_step<'a>(
     alloc: Global,
     draft: &mut Draft,
+    places: &mut Vec<usize>,
     text: &'a [u8],
 ) -> Result<(bool, &'a [u8]), ParseStop>
-    ensures { Gives (λ x. (x.0, (draft.new, x.1.now))) result
-        (declarations_step (draft.old, text.now)) }
+    ensures { Gives (λ x. (x.0, (draft.new, places.new.items, x.1.now))) result
+        (declarations_step (draft.old, places.old.items, text.now)) }
 {
     if ends(text)? {
         return Ok((true, text));
     }
-    Ok((false, declaration_at(alloc, draft, text)?))
+    let before = draft.announcements();
+    let rest = declaration_at(alloc, draft, text)?;
+    add_place(before, draft, places, text)?;
+    Ok((false, rest))
 }
 
-/// Declarations up to the end of the text, in so many steps; what follows them.
+/// Declarations up to the end of the text, in at most this many steps. The places of the names that
+/// they announce are added. Answers what comes after them.
 fn declarations<'a>(
     alloc: Global,
     draft: &mut Draft,
+    places: &mut Vec<usize>,
     steps: usize,
     text: &'a [u8],
 ) -> Result<&'a [u8], ParseStop>
-    ensures { Gives (λ x. (draft.new, x.now)) result
-        (in_steps declarations_step misplaced_after steps (draft.old, text.now)) }
+    ensures { Gives (λ x. (draft.new, places.new.items, x.now)) result
+        (in_steps declarations_step misplaced_after steps
+        (draft.old, places.old.items, text.now)) }
 {
     let mut rest = text;
     for _ in 0..steps {
-        let (over, after) = declarations_step(alloc, draft, rest)?;
+        let (over, after) = declarations_step(alloc, draft, places, rest)?;
         if over {
             return Ok(after);
         }
@@ -92,7 +123,7 @@ fn declarations<'a>(
     Err(ParseStop::Refused(misplaced(rest)))
 }
 
-/// The version of the format, up to the latest that is read.
+/// The version of the format, which is at most `latest`.
 #[tactic(auto, unfolding(crate::specs::FileReading::version_at))]
 fn version_at(latest: u8, text: &[u8]) -> Result<(u8, &[u8]), ParseStop>
     ensures { Gives (λ x. (x.0, x.1.now)) result (version_at latest text.now) }
@@ -116,38 +147,79 @@ fn head_at(latest: u8, text: &[u8]) -> Result<(u8, &[u8]), ParseStop>
     Ok((version, rest))
 }
 
-/// The draft of a file, of a version up to the latest that is read.
+/// The draft of a file whose version is at most `latest`.
 #[tactic(auto, unfolding(crate::specs::FileReading::file_at))]
 fn draft_of(alloc: Global, latest: u8, text: &[u8]) -> Result<Draft, ParseStop>
-    ensures { Gives (λ x. x) result (file_at latest text.now) }
+    ensures gives { Gives (λ x. x) result (file_at latest text.now) }
+    ensures settled { IfOk result (λ draft. AreSettled draft.table.types) }
 {
     let (version, rest) = head_at(latest, text)?;
     let mut draft = Draft::new(alloc, version)?;
-    declarations(alloc, &mut draft, text.len(), rest)?;
+    let mut places = Vec::new(alloc);
+    declarations(alloc, &mut draft, &mut places, text.len(), rest)?;
+    settle(alloc, &mut draft, places.as_slice())?;
     Ok(draft)
 }
 
-/// A text has one table at most: whatever files it spells, their tables are that of a valid one.
+/// The end of the text. Each name that is announced, at one of these places, must be declared.
+#[tactic(auto, unfolding(crate::specs::FileReading::settled_at))]
+fn settle(alloc: Global, draft: &mut Draft, places: &[usize]) -> Result<(), ParseStop>
+    ensures gives { Gives (λ x. draft.new) result (settled_at draft.old places.now) }
+    ensures settled { OnOk result (AreSettled draft.new.table.types) }
+{
+    let targets = draft.targets(alloc)?;
+    match first_none(targets.as_slice()) {
+        None => {
+            draft.settle(targets.as_slice());
+            Ok(())
+        }
+        Some(i) => Err(ParseStop::Refused(Refusal {
+            kind: SigFaultKind::UnknownType,
+            left: place_at(places, i),
+        })),
+    }
+}
+
+/// The index of the first type that isn't there.
+fn first_none(types: &[Option<TypeId>]) -> Option<usize>
+    ensures { result ≡ position (λ t. not (is_some t)) types.now }
+{
+    types.iter().position(|t| t.is_none())
+}
+
+/// The place of an announcement.
+fn place_at(places: &[usize], i: usize) -> usize
+    ensures { result ≡ slice_index_or places.now i 0 }
+{
+    match places.get(i) {
+        Some(place) => *place,
+        None => 0,
+    }
+}
+
+/// A text has at most one table: whatever files it spells, if one of them is valid they all have
+/// its table.
 pub fn one_table()
     ensures { (latest : ℕ) (text : List ℕ) (f g : SignatureFile)
         → SpellsUpTo latest text f → IsValid f → SpellsUpTo latest text g → table f ≡ table g }
 {}
 
 impl Catalogue {
-    /// The catalogue of a signature file: the types, operations and exceptions that its text declares, with the
-    /// built-in types. A refusal has the first rule that is broken, and its line; no catalogue is made then.
+    /// The catalogue of a signature file: the types, operations and exceptions that its text
+    /// declares, and the built-in types. A refusal has the first rule that is broken, and its line.
+    /// No catalogue is made then.
     pub fn parse(alloc: Global, text: &[u8]) -> Result<Catalogue, SigFault>
         // The text spells a valid file, and this is its table.
         ensures ok { IfOk result (λ c.
             (file : SignatureFile) × Spells text.now file × IsValid file × (c ≡ table file)) }
-        // It adds no more types than the text has octets.
+        // It has at most as many types more than the built-in ones as the text has octets.
         ensures few { IfOk result (λ c. length c.types ≤ length builtin_types + length text.now) }
-        // Of a text that spells a file, the refusal is that of a rule which one of its declarations breaks, unless
-        // memory was refused.
+        // If the text spells a file, the refusal is that of a rule which one of its declarations
+        // breaks, unless memory was refused.
         ensures err { (file : SignatureFile) → Spells text.now file
             → IfErr result (λ f. Refuses f.kind file) }
-        // A text that is too long isn't read. Another is refused at the first token that is wrong, read from the
-        // front, and at its line; a refusal for memory alone has no line.
+        // A text that is too long isn't read. Any other is refused at the first token that is
+        // wrong, with its line. A refusal for memory alone has no line.
         ensures long { 1048576 < length text.now → result ≡ Err text_too_long }
         ensures first { length text.now ≤ 1048576 → IfErr result (λ f. IsFirstRefusal text.now f) }
         ensures memory { IfErr result (λ f. (f.line ≡ 0) ↔ (f.kind ≡ SigFaultKind.OutOfMemory)) }
@@ -155,8 +227,8 @@ impl Catalogue {
         Catalogue::parse_up_to(alloc, SECOND_VERSION, text)
     }
 
-    /// The same of a file of version 1, 2 or 3. One of version 3 may have what those of version 2 have, and has more
-    /// reserved words.
+    /// The same for a file of version 1, 2 or 3. A file of version 3 may have what one of version 2
+    /// has, and has more reserved words.
     pub fn parse_types(alloc: Global, text: &[u8]) -> Result<Catalogue, SigFault>
         ensures ok { IfOk result (λ c.
             (file : SignatureFile) × SpellsUpTo 3 text.now file × IsValid file
@@ -172,7 +244,7 @@ impl Catalogue {
         Catalogue::parse_up_to(alloc, THIRD_VERSION, text)
     }
 
-    /// The same of a file of a version up to one, 3 at most.
+    /// The same for a file whose version is at most `latest`.
     fn parse_up_to(alloc: Global, latest: u8, text: &[u8]) -> Result<Catalogue, SigFault>
         requires { latest ≤ 3 }
         ensures ok { IfOk result (λ c.

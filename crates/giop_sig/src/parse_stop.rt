@@ -3,7 +3,7 @@
 use giop_tokens::Refusal;
 use std::alloc::{AllocError, AllocFailed};
 
-/// Memory was refused, or the text is refused.
+/// Memory was refused, or the text is.
 #[derive(Clone, Copy, Drop)]
 pub(crate) enum ParseStop {
     Memory,

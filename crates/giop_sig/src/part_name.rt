@@ -1,5 +1,5 @@
-//! The name of a member or a case, kept as a line shows it: after a dot, and after octets that
-//! fill a block, so that a short name with its dot is the end of one.
+//! The name of a member or a case, kept as a line shows it. It has a dot before it, and before that
+//! octets that fill a block, so that a short name with its dot is the end of a block.
 
 ghost use Rattle.std.specs.Prelude.{◌≡◌, ◌+◌, ◌++◌, codes, drop, length, IfOk};
 
@@ -43,7 +43,7 @@ impl PartName {
         &self.octets[BEFORE.len()..]
     }
 
-    /// The name after a dot, which is the 16th of its octets: those before it say nothing.
+    /// The name after a dot. The dot is the 16th octet, and the octets before it mean nothing.
     #[inline(always)]
     pub(crate) fn dotted(&self) -> &[u8]
         ensures size { length result.now ≡ 16 + length self.now }

@@ -1,4 +1,4 @@
-//! Reading operations.
+//! Reads operations and KEYs.
 ghost use Rattle.std.specs.Prelude.{◌≡◌, ◌+◌, ◌<◌, ◌≤◌, length, map, IfOk, OnOk};
 ghost use Rattle.std.specs.Option.{option_map};
 ghost use Rattle.giop_sig.specs.Interfaces.{number_of};
@@ -23,11 +23,11 @@ use giop_tokens::{
 };
 use std::alloc::Global;
 
-/// The most interfaces of a file.
+/// How many interfaces a file may have.
 const INTERFACES_MAX: usize = 1_024;
-/// The most KEYs of a file.
+/// How many KEYs a file may have.
 const KEYS_MAX: usize = 16_384;
-/// The most parameters of an operation.
+/// How many parameters an operation may have.
 const PARAMS_MAX: usize = 255;
 
 /// The direction of a parameter: in, out or inout.
@@ -57,7 +57,7 @@ fn return_at<'a>(
     Ok((returned, rest))
 }
 
-/// The name of an operation; if the file has no interfaces it must be new.
+/// The name of an operation. If the file can't have interfaces, the name must be new.
 #[tactic(auto, unfolding(crate::specs::CallReading::new_operation_at))]
 fn new_operation_at<'a>(draft: &Draft, text: &'a [u8]) -> Result<(&'a [u8], &'a [u8]), ParseStop>
     ensures { Gives (λ x. (x.0.now, x.1.now)) result (new_operation_at draft.now text.now) }
@@ -99,7 +99,7 @@ fn direction_at(text: &[u8]) -> Result<(Direction, &[u8]), ParseStop>
     }
 }
 
-/// Adds a parameter to the members of requests, where it is one.
+/// Adds a parameter to the members of requests, if it is `in` or `inout`.
 fn add_to_request(
     alloc: Global,
     parts: &mut Vec<PartEntry>,
@@ -116,7 +116,7 @@ fn add_to_request(
     }
 }
 
-/// Adds a parameter to the members of replies, where it is one.
+/// Adds a parameter to the members of replies, if it is `out` or `inout`.
 fn add_to_reply(
     alloc: Global,
     parts: &mut Vec<PartEntry>,
@@ -133,7 +133,7 @@ fn add_to_reply(
     }
 }
 
-/// Parameters that were read: their names, and the members of requests and of replies.
+/// The parameters that were read: their names, and the members of requests and replies.
 #[derive(Drop)]
 struct Parameters<'a> {
     seen: Vec<&'a [u8]>,
@@ -141,7 +141,7 @@ struct Parameters<'a> {
     reply: Vec<PartEntry>,
 }
 
-/// Keeps a parameter.
+/// Adds a parameter.
 fn keep_param<'a>(
     alloc: Global,
     parameters: &mut Parameters<'a>,
@@ -157,7 +157,7 @@ fn keep_param<'a>(
     add_to_reply(alloc, &mut parameters.reply, direction, name, t)
 }
 
-/// Reads a parameter and the mark after it: whether that was the closing one, and what follows.
+/// Reads a parameter and the mark after it. Answers whether that was the closing one, and the rest.
 #[tactic(auto, unfolding(crate::specs::CallReading::param_step))]
 fn param_step<'a>(
     alloc: Global,
@@ -178,7 +178,7 @@ fn param_step<'a>(
     Ok((true, rest))
 }
 
-/// Parameters up to the closing mark, added after what the operation returns.
+/// Parameters up to the closing mark. In the replies they come after what the operation returns.
 #[tactic(auto, unfolding(crate::specs::CallReading::params_at))]
 fn params_at<'a>(
     alloc: Global,
@@ -195,7 +195,7 @@ fn params_at<'a>(
     params_run(alloc, draft, returned, text)
 }
 
-/// One parameter or more, and the closing mark.
+/// One or more parameters, and the closing mark.
 fn params_run<'a>(
     alloc: Global,
     draft: &mut Draft,
@@ -242,7 +242,8 @@ struct Called<'a> {
     signature: Signature,
 }
 
-/// An interface for which an operation's name is new: its number, counted from 1, its repository id, and what follows.
+/// An interface in which an operation's name is new. Answers its number, from 1, its repository id,
+/// and the rest.
 #[tactic(auto, unfolding(crate::specs::CallReading::new_variant_at))]
 fn new_variant<'a>(
     draft: &Draft,
@@ -265,7 +266,7 @@ fn new_variant<'a>(
     Ok((interface, id, rest))
 }
 
-/// Whether no comma follows, and what follows.
+/// Whether no comma comes, and the rest.
 fn after_comma<'a>(rest: &'a [u8], comma: Option<&'a [u8]>) -> (bool, &'a [u8])
     ensures { (result.0, result.1.now)
         ≡ after_comma rest.now (option_map (λ x. x.now) comma.entry) }
@@ -276,7 +277,8 @@ fn after_comma<'a>(rest: &'a [u8], comma: Option<&'a [u8]>) -> (bool, &'a [u8])
     }
 }
 
-/// An interface of an operation, and the comma after it: whether there was none, and what follows.
+/// An interface of an operation, and the comma after it. Answers whether there was none, and the
+/// rest.
 #[tactic(auto, unfolding(crate::specs::CallReading::variant_step))]
 fn variant_step<'a>(
     draft: &mut Draft,
@@ -297,7 +299,7 @@ fn variant_step<'a>(
     Ok(after_comma(rest, comma))
 }
 
-/// The interfaces of an operation, one at least; what follows them.
+/// The interfaces of an operation, at least one. Answers the rest.
 fn variants_at<'a>(
     draft: &mut Draft,
     called: Called<'_>,
@@ -322,7 +324,7 @@ fn variants_at<'a>(
     Err(ParseStop::Refused(misplaced(rest)))
 }
 
-/// An operation without interfaces, whose name is at a place.
+/// An operation without interfaces, whose name is at the front of `at`.
 fn plain_by<'a>(
     draft: &mut Draft,
     at: &[u8],
@@ -343,7 +345,8 @@ fn plain_by<'a>(
     Ok(text)
 }
 
-/// The interfaces of an operation, whose name is at a place, if it has some; what follows.
+/// The interfaces of an operation, if it has some. Its name is at the front of `at`. Answers the
+/// rest.
 #[tactic(auto, unfolding(crate::specs::CallReading::listed_at))]
 fn listed_at<'a>(
     draft: &mut Draft,
@@ -366,7 +369,7 @@ fn listed_at<'a>(
     plain_by(draft, at, called, text)
 }
 
-/// A KEY that is new.
+/// A new KEY.
 #[tactic(auto, unfolding(crate::specs::CallReading::new_key_at))]
 fn new_key_at<'a>(draft: &Draft, text: &'a [u8]) -> Result<(&'a [u8], &'a [u8]), ParseStop>
     ensures { Gives (λ x. (x.0.now, x.1.now)) result (new_key_at draft.now text.now) }
@@ -384,7 +387,7 @@ fn new_key_at<'a>(draft: &Draft, text: &'a [u8]) -> Result<(&'a [u8], &'a [u8]),
     Ok((key, rest))
 }
 
-/// A KEY and its interface, after its first word; what follows.
+/// A KEY and its interface, after the first word. Answers the rest.
 #[tactic(auto, unfolding(crate::specs::CallReading::key_at))]
 pub(crate) fn key_at<'a>(draft: &mut Draft, text: &'a [u8]) -> Result<&'a [u8], ParseStop>
     ensures { Gives (λ x. (draft.new, x.now)) result (key_at draft.old text.now) }
@@ -397,7 +400,7 @@ pub(crate) fn key_at<'a>(draft: &mut Draft, text: &'a [u8]) -> Result<&'a [u8], 
     end_of(draft, at, rest)
 }
 
-/// An operation, after its first word.
+/// An operation, after its first word. Answers the rest.
 #[tactic(auto, unfolding(crate::specs::CallReading::operation_at))]
 pub(crate) fn operation_at<'a>(
     alloc: Global,

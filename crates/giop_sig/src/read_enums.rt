@@ -1,4 +1,4 @@
-//! Reading enums.
+//! Reads enums.
 ghost use Rattle.std.specs.Prelude.{◌≡◌, map, []};
 ghost use Rattle.giop_sig.specs.Outcomes.{Gives};
 ghost use Rattle.giop_sig.specs.Repeats.{in_steps};
@@ -13,10 +13,11 @@ use crate::read_types::refused;
 use giop_tokens::{Mark, SigFaultKind, left_of, mark, starts_with_mark};
 use std::alloc::Global;
 
-/// The most names of an enum.
+/// How many names an enum may have.
 const NAMES_MAX: usize = 1024;
 
-/// An enumerator, and the mark after it; whether that is the closing one.
+/// An enumerator, and the mark after it. Answers the rest, and whether the mark was the closing
+/// one.
 #[tactic(auto, unfolding(crate::specs::EnumReading::names_step, crate::specs::EnumReading::enumerator_at))]
 fn names_step<'a>(
     third: bool,
@@ -67,7 +68,7 @@ fn names_at<'a>(
     some_names(alloc, third, filled_at(text)?)
 }
 
-/// An enum, after its word; what follows it.
+/// An enum, after its first word. Answers the rest.
 #[tactic(auto, unfolding(crate::specs::EnumReading::enumeration_at))]
 pub(crate) fn enumeration<'a>(
     alloc: Global,
@@ -78,7 +79,7 @@ pub(crate) fn enumeration<'a>(
 {
     draft.laws();
     let count = draft.types_declared();
-    let (name, rest) = declared_at(draft, count, text)?;
+    let (name, rest) = declared_at(draft, None, count, text)?;
     let (id, rest) = identity_at(draft, rest)?;
     let rest = mark(rest, Mark::OpenBrace)?;
     let (names, rest) = names_at(alloc, draft.is_third(), rest)?;

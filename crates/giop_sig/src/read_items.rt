@@ -1,5 +1,5 @@
-//! Reading members: items, structs and exceptions.
-ghost use Rattle.std.specs.Prelude.{◌≡◌, ◌<◌, ◌≤◌, ◌++◌, ◌∷◌, [], length, map, IfOk, Ok, None};
+//! Reads items, structs and exceptions.
+ghost use Rattle.std.specs.Prelude.{◌≡◌, ◌<◌, ◌≤◌, ◌++◌, ◌∷◌, [], true, length, map, IfOk, Ok, None};
 ghost use Rattle.std.specs.List.{All};
 ghost use Rattle.std.specs.Map.{lookup};
 ghost use Rattle.std.specs.Option.{option_map};
@@ -10,10 +10,11 @@ ghost use Rattle.giop_sig.specs.ScopeViews.{IsKnown, IsNewIdentity};
 ghost use Rattle.giop_sig.specs.Validity.{is_among};
 ghost use Rattle.giop_sig.specs.UnionCases.{part_view};
 ghost use Rattle.giop_sig.specs.Views.{node_view};
-ghost use Rattle.giop_sig.specs.HeaderTypes.{IsPlain};
+ghost use Rattle.giop_sig.specs.HeaderTypes.{IsAddable};
 ghost use Rattle.giop_sig.specs.Table.{IsFormed, TakesOctet};
-ghost use Rattle.giop_sig.specs.ItemReading.{new_name_at, declared_at, lengths_at, most_lengths, item_at, member_step, members_at, filled_at, identity_at, end_of, type_end_at, structure_at, new_repository_at, exception_at};
+ghost use Rattle.giop_sig.specs.ItemReading.{new_name_at, declared_at, lengths_at, most_lengths, item_at, member_step, members_at, filled_at, identity_at, end_of, type_end_at, structure_at, new_repository_at, exception_at, announces_at, announcement_at, structure_after};
 
+use crate::announced::TypeWord;
 use crate::draft::Draft;
 use crate::entries::{Entry, PartEntry};
 use crate::parse_stop::ParseStop;
@@ -28,19 +29,20 @@ use std::alloc::Global;
 
 /// The greatest depth of a type.
 const DEPTH_MAX: u32 = 24;
-/// The most members of a struct.
+/// How many members a struct may have.
 const MEMBERS_MAX: usize = 256;
-/// The most types, exceptions or operations.
+/// How many types, exceptions or operations there may be.
 pub(crate) const DECLARED_MAX: u32 = 4_096;
 
-/// Whether a name stands among those of a list.
+/// Whether a name is in a list.
 pub(crate) fn is_among(seen: &[&[u8]], name: &[u8]) -> bool
     ensures { result ≡ is_among (map (λ n. n.now) seen.now) name.now }
 {
     seen.iter().any(|other| *other == name)
 }
 
-/// A name after those of its list, which may have so many, in a file of version 3 or in an older one.
+/// A name that isn't in `seen`, which may have `most` names. `third` says whether the file is of
+/// version 3.
 #[tactic(auto, unfolding(crate::specs::ItemReading::new_name_at))]
 pub(crate) fn new_name_at<'a>(
     third: bool,
@@ -61,17 +63,20 @@ pub(crate) fn new_name_at<'a>(
     Ok((name, rest))
 }
 
-/// The name of an enum, struct, union or exception, of which there are so many.
+/// The new name of an enum, struct, union or exception. `count` of these are declared. `word` is
+/// the first word of a struct or union.
 #[tactic(auto, unfolding(crate::specs::ItemReading::declared_at))]
 pub(crate) fn declared_at<'a>(
     draft: &Draft,
+    word: Option<TypeWord>,
     count: u32,
     text: &'a [u8],
 ) -> Result<(&'a [u8], &'a [u8]), ParseStop>
-    ensures { Gives (λ x. (x.0.now, x.1.now)) result (declared_at draft.now count text.now) }
+    ensures { Gives (λ x. (x.0.now, x.1.now)) result
+        (declared_at draft.now word count text.now) }
 {
     let (name, rest) = identifier(draft.is_third(), text)?;
-    if draft.is_declared(name) {
+    if draft.is_taken(word, name) {
         return Err(ParseStop::Refused(refused(SigFaultKind::Duplicate, text)));
     }
     if count >= DECLARED_MAX {
@@ -80,14 +85,15 @@ pub(crate) fn declared_at<'a>(
     Ok((name, rest))
 }
 
-/// How many lengths an item may have whose name ends before this text: in a file of version 3 all that come.
+/// How many lengths of arrays an item may have whose name ends before this text: in a file of
+/// version 3 any number, and in an older one a single length.
 fn most_lengths(third: bool, text: &[u8]) -> usize
     ensures { result ≡ most_lengths third text.now }
 {
     if third { text.len() } else { 1 }
 }
 
-/// The lengths of arrays that come next, at most so many, the outermost first, and what follows them.
+/// The lengths of arrays that come next, at most `most`, the outermost first; and the rest.
 fn lengths_at<'a>(
     alloc: Global,
     most: usize,
@@ -109,7 +115,7 @@ fn lengths_at<'a>(
     Ok((lengths, rest))
 }
 
-/// Adds arrays in arrays of these lengths, the innermost first.
+/// Adds arrays of these lengths in each other, the innermost first.
 fn arrays_of(
     draft: &mut Draft,
     lengths: &mut Vec<u32>,
@@ -127,7 +133,7 @@ fn arrays_of(
     Ok(t)
 }
 
-/// An item: a type, a name and perhaps the lengths of arrays, after others of these names.
+/// An item: a type, a name that isn't in `seen`, and perhaps lengths of arrays.
 #[tactic(auto, unfolding(crate::specs::ItemReading::item_at))]
 pub(crate) fn item_at<'a>(
     alloc: Global,
@@ -148,7 +154,7 @@ pub(crate) fn item_at<'a>(
     Ok((name, t, rest))
 }
 
-/// A part of a name.
+/// A part with a name and a type.
 pub(crate) fn part_of(alloc: Global, name: &[u8], type_id: TypeId) -> Result<PartEntry, ParseStop>
     ensures { Gives part_view result (Ok (part name.now type_id.0)) }
 {
@@ -158,7 +164,7 @@ pub(crate) fn part_of(alloc: Global, name: &[u8], type_id: TypeId) -> Result<Par
     })
 }
 
-/// Adds a part of a name after others.
+/// Adds a part after others.
 pub(crate) fn add_part(
     alloc: Global,
     parts: &mut Vec<PartEntry>,
@@ -172,7 +178,7 @@ pub(crate) fn add_part(
     Ok(())
 }
 
-/// Reads the closing mark, or one member more: whether it was the mark, and what follows.
+/// Reads the closing mark, or one more member. Answers whether it was the mark, and the rest.
 #[tactic(auto, unfolding(crate::specs::ItemReading::member_step, crate::specs::ItemReading::member_at))]
 fn member_step<'a>(
     alloc: Global,
@@ -242,7 +248,8 @@ pub(crate) fn filled_at(text: &[u8]) -> Result<&[u8], ParseStop>
     }
 }
 
-/// The repository id of an enum, struct or union, if it has one; only in a file of version 3 it may.
+/// The repository id of an enum, struct or union, if it has one. It may have one in a file of
+/// version 3 only.
 #[tactic(auto, unfolding(crate::specs::ItemReading::identity_at))]
 pub(crate) fn identity_at<'a>(
     draft: &Draft,
@@ -264,8 +271,8 @@ pub(crate) fn identity_at<'a>(
     Ok((Some(id), rest))
 }
 
-/// The end of a declaration whose name is at this place: its mark. The declaration is refused then if it made a type that
-/// is too deep.
+/// The end of a declaration whose name is at this place: a semicolon. The declaration is refused if
+/// it made a type that is too deep.
 #[tactic(auto, unfolding(crate::specs::ItemReading::end_of))]
 pub(crate) fn end_of<'a>(draft: &Draft, at: usize, text: &'a [u8]) -> Result<&'a [u8], ParseStop>
     ensures { Gives (λ x. (draft.now, x.now)) result (end_of at draft.now text.now) }
@@ -280,7 +287,8 @@ pub(crate) fn end_of<'a>(draft: &Draft, at: usize, text: &'a [u8]) -> Result<&'a
     Ok(rest)
 }
 
-/// The end of an enum, struct or union, whose type is added, by its name and perhaps its repository id; what follows it.
+/// The end of an enum, struct or union. Its type is added, with its name, and with its repository
+/// id if it has one. Answers the rest.
 pub(crate) fn type_end_at<'a>(
     draft: &mut Draft,
     at: usize,
@@ -291,7 +299,7 @@ pub(crate) fn type_end_at<'a>(
 ) -> Result<&'a [u8], ParseStop>
     requires formed { IsFormed draft.old.table.types (length draft.old.table.types)
         (node_view entry) }
-    requires plain { IsPlain (node_view entry) }
+    requires addable { IsAddable draft.old.table.version (node_view entry) }
     requires some { TakesOctet (node_view entry) }
     requires short { length name.now ≤ 64 }
     requires new { lookup (bytes_eq name.now) draft.old.names.known ≡ None }
@@ -306,7 +314,60 @@ pub(crate) fn type_end_at<'a>(
     end_of(draft, at, text)
 }
 
-/// A struct, after its first word.
+/// Whether a declaration ends after its name, and so announces it. It may do so in a file of
+/// version 3 only.
+#[tactic(auto, unfolding(crate::specs::ItemReading::announces_at))]
+pub(crate) fn announces_at(draft: &Draft, text: &[u8]) -> Result<bool, ParseStop>
+    ensures { Gives (λ x. x) result (announces_at draft.now text.now) }
+{
+    Ok(draft.is_third() && starts_with_mark(text, Mark::Semicolon)?.is_some())
+}
+
+/// The end of an announcement. Its name is at the front of `text`, and must not be announced yet.
+#[tactic(auto, unfolding(crate::specs::ItemReading::announcement_at))]
+pub(crate) fn announcement_at<'a>(
+    draft: &mut Draft,
+    word: TypeWord,
+    text: &[u8],
+    name: &[u8],
+    rest: &'a [u8],
+) -> Result<&'a [u8], ParseStop>
+    requires short { length name.now ≤ 64 }
+    requires third { is_third draft.old.names ≡ true }
+    ensures { Gives (λ x. (draft.new, x.now)) result
+        (announcement_at draft.old word text.now name.now rest.now) }
+{
+    if draft.announced_as(name).is_some() {
+        return Err(ParseStop::Refused(refused(SigFaultKind::Duplicate, text)));
+    }
+    draft.announce(name, word)?;
+    end_of(draft, left_of(text), rest)
+}
+
+/// A struct, after its name, which is at the front of `text`.
+#[tactic(auto, unfolding(crate::specs::ItemReading::structure_after))]
+fn structure_after<'a>(
+    alloc: Global,
+    draft: &mut Draft,
+    text: &[u8],
+    name: &[u8],
+    rest: &'a [u8],
+) -> Result<&'a [u8], ParseStop>
+    requires short { length name.now ≤ 64 }
+    requires new { lookup (bytes_eq name.now) draft.old.names.known ≡ None }
+    requires few { draft.old.table.declared < 4096 }
+    ensures { Gives (λ x. (draft.new, x.now)) result
+        (structure_after draft.old text.now name.now rest.now) }
+{
+    draft.laws();
+    let (id, rest) = identity_at(draft, rest)?;
+    let rest = mark(rest, Mark::OpenBrace)?;
+    let rest = filled_at(rest)?;
+    let (parts, rest) = members_at(alloc, draft, rest)?;
+    type_end_at(draft, left_of(text), name, id, Entry::Members(parts), rest)
+}
+
+/// A struct, or its announcement, after its first word.
 #[tactic(auto, unfolding(crate::specs::ItemReading::structure_at))]
 pub(crate) fn structure_at<'a>(
     alloc: Global,
@@ -315,18 +376,15 @@ pub(crate) fn structure_at<'a>(
 ) -> Result<&'a [u8], ParseStop>
     ensures { Gives (λ x. (draft.new, x.now)) result (structure_at draft.old text.now) }
 {
-    let at = left_of(text);
-    draft.laws();
     let count = draft.types_declared();
-    let (name, rest) = declared_at(draft, count, text)?;
-    let (id, rest) = identity_at(draft, rest)?;
-    let rest = mark(rest, Mark::OpenBrace)?;
-    let rest = filled_at(rest)?;
-    let (parts, rest) = members_at(alloc, draft, rest)?;
-    type_end_at(draft, at, name, id, Entry::Members(parts), rest)
+    let (name, rest) = declared_at(draft, Some(TypeWord::Struct), count, text)?;
+    if announces_at(draft, rest)? {
+        return announcement_at(draft, TypeWord::Struct, text, name, rest);
+    }
+    structure_after(alloc, draft, text, name, rest)
 }
 
-/// A repository id that is new.
+/// A new repository id of an exception.
 #[tactic(auto, unfolding(crate::specs::ItemReading::new_repository_at))]
 fn new_repository_at<'a>(draft: &Draft, text: &'a [u8]) -> Result<(&'a [u8], &'a [u8]), ParseStop>
     ensures { Gives (λ x. (x.0.now, x.1.now)) result (new_repository_at draft.now text.now) }
@@ -350,7 +408,7 @@ pub(crate) fn exception_at<'a>(
     let at = left_of(text);
     draft.laws();
     let count = draft.exceptions_declared();
-    let (name, rest) = declared_at(draft, count, text)?;
+    let (name, rest) = declared_at(draft, None, count, text)?;
     let (repository, rest) = new_repository_at(draft, rest)?;
     let rest = mark(rest, Mark::OpenBrace)?;
     let (parts, rest) = members_at(alloc, draft, rest)?;

@@ -1,11 +1,11 @@
-//! Reading types.
+//! Reads types.
 ghost use Rattle.std.specs.Prelude.{◌≡◌, ◌<◌, [], length, Ok, IfOk, IfSome};
 ghost use Rattle.std.specs.Option.{option_map};
 ghost use Rattle.giop_sig.specs.Outcomes.{Gives, refused};
 ghost use Rattle.giop_sig.specs.Scopes.{with_node, sequence_node};
-ghost use Rattle.giop_sig.specs.ScopeViews.{IsKnown};
+ghost use Rattle.giop_sig.specs.ScopeViews.{CanStand, IsElement, IsKnown};
 ghost use Rattle.giop_sig.specs.Repeats.{in_steps};
-ghost use Rattle.giop_sig.specs.TypeReading.{size_at, enclosed_at, most_at, base_of, text_at, wide_text_at, after_element, after_held, closed_by, named_type, leaf_at, opener_at, openers_step, too_many_openers, all_closed, type_at};
+ghost use Rattle.giop_sig.specs.TypeReading.{size_at, enclosed_at, most_at, base_of, text_at, wide_text_at, after_element, after_held, closed_by, named_type, leaf_at, opener_at, openers_step, opens_element, element_after, too_many_openers, all_closed, type_at};
 
 use crate::draft::Draft;
 use crate::entries::Entry;
@@ -18,16 +18,16 @@ use giop_tokens::{
 };
 use std::alloc::Global;
 
-/// The most octets of a name.
+/// How many octets a name may have.
 const NAME_MAX: usize = 64;
 /// The greatest length or bound.
 const SIZE_MAX: u64 = 4_294_967_295;
-/// The type of a string without a bound.
+/// The type of strings without a bound.
 const STRING: TypeId = TypeId(numbers::STRING);
-/// The type of a wide string, whatever its bound.
+/// The type of wide strings, whatever their bounds.
 const WIDE_STRING: TypeId = TypeId(numbers::WIDE_STRING);
 
-/// A refusal of the first token of a text.
+/// A refusal at the first token of a text.
 pub(crate) fn refused(kind: SigFaultKind, text: &[u8]) -> Refusal
     ensures { result ≡ refused kind text.now }
 {
@@ -37,7 +37,7 @@ pub(crate) fn refused(kind: SigFaultKind, text: &[u8]) -> Refusal
     }
 }
 
-/// A length or bound: at least 1, and in 32 bits.
+/// A length or bound: at least 1, and less than 2^32.
 #[tactic(auto, unfolding(crate::specs::TypeReading::size_at))]
 pub(crate) fn size_at(text: &[u8]) -> Result<(u32, &[u8]), ParseStop>
     ensures gives { Gives (λ x. (x.0, x.1.now)) result (size_at text.now) }
@@ -53,7 +53,7 @@ pub(crate) fn size_at(text: &[u8]) -> Result<(u32, &[u8]), ParseStop>
     Ok((n as u32, rest))
 }
 
-/// A size between two marks, where the first mark comes next.
+/// A size between two marks, if the first mark comes next.
 #[tactic(auto, unfolding(crate::specs::TypeReading::enclosed_at))]
 pub(crate) fn enclosed_at(
     before: Mark,
@@ -73,7 +73,7 @@ pub(crate) fn enclosed_at(
     }
 }
 
-/// A size after a comma, where there is a comma.
+/// A size after a comma, if a comma comes next.
 #[tactic(auto, unfolding(crate::specs::TypeReading::most_at))]
 fn most_at(text: &[u8]) -> Result<(Option<u32>, &[u8]), ParseStop>
     ensures { Gives (λ x. (x.0, x.1.now)) result (most_at text.now) }
@@ -87,7 +87,7 @@ fn most_at(text: &[u8]) -> Result<(Option<u32>, &[u8]), ParseStop>
     }
 }
 
-/// The primitive of a word.
+/// The primitive type of a word.
 fn base_of(word: &[u8]) -> Option<TypeId>
     ensures { option_map (λ t. t.0) result ≡ base_of word.now }
 {
@@ -130,7 +130,7 @@ fn text_at<'a>(draft: &mut Draft, text: &'a [u8]) -> Result<(TypeId, &'a [u8]), 
     }
 }
 
-/// A wide string, after its word. Its bound counts characters, and is told of no type.
+/// A wide string, after its word. Its bound counts characters, and the type doesn't have it.
 #[tactic(auto, unfolding(crate::specs::TypeReading::wide_text_at))]
 fn wide_text_at<'a>(draft: &Draft, text: &'a [u8]) -> Result<(TypeId, &'a [u8]), ParseStop>
     ensures { Gives (λ x. (draft.now, x.0.0, x.1.now)) result (wide_text_at draft.now text.now) }
@@ -139,16 +139,18 @@ fn wide_text_at<'a>(draft: &Draft, text: &'a [u8]) -> Result<(TypeId, &'a [u8]),
     Ok((WIDE_STRING, rest))
 }
 
-/// A type by its name, the first word of the text.
+/// The type of a name, which is the first word of `text`. `element` says whether it is that of a
+/// sequence's elements.
 #[tactic(auto, unfolding(crate::specs::TypeReading::named_type))]
 fn named_type<'a>(
     draft: &Draft,
+    element: bool,
     text: &[u8],
     name: &[u8],
     rest: &'a [u8],
 ) -> Result<(TypeId, &'a [u8]), ParseStop>
     ensures { Gives (λ x. (draft.now, x.0.0, x.1.now)) result
-        (named_type draft.now text.now name.now rest.now) }
+        (named_type element draft.now text.now name.now rest.now) }
 {
     if is_reserved(draft.is_third(), name) {
         return Err(ParseStop::Refused(misplaced(text)));
@@ -156,32 +158,35 @@ fn named_type<'a>(
     if name.len() > NAME_MAX {
         return Err(ParseStop::Refused(refused(SigFaultKind::Limit, text)));
     }
-    match draft.type_named(name) {
+    match draft.type_named(element, name) {
         None => Err(ParseStop::Refused(refused(SigFaultKind::UnknownType, text))),
         Some(t) => Ok((t, rest)),
     }
 }
 
-/// Adds a sequence of elements of a type; a sequence of octets is a kind of its own.
+/// Adds a sequence of elements of a type. A sequence of octets has an entry of its own, and so has
+/// one of a type that is announced.
 fn sequence_of(draft: &mut Draft, bound: Option<u32>, element: TypeId) -> Result<TypeId, ParseStop>
-    requires { IsKnown draft.old.table.types element.0 }
+    requires { IsElement draft.old.table.version draft.old.table.types element.0 }
     ensures { Gives (λ t. (draft.new, t.0)) result
-        (Ok (with_node draft.old (sequence_node bound element.0))) }
+        (Ok (with_node draft.old (sequence_node draft.old.table.types bound element.0))) }
 {
     if element.0 == 0 {
-        draft.add(Entry::Octets(bound))
-    } else {
-        draft.add(Entry::Sequence(bound, element))
+        return draft.add(Entry::Octets(bound));
+    }
+    match draft.announced_place(element) {
+        None => draft.add(Entry::Sequence(bound, element)),
+        Some(place) => draft.add(Entry::Recursive(bound, TypeId(place))),
     }
 }
 
-/// What follows the element of a sequence: perhaps a bound, and the closing mark.
+/// What comes after the element type of a sequence: perhaps a bound, and the closing mark.
 fn after_element<'a>(
     draft: &mut Draft,
     element: TypeId,
     text: &'a [u8],
 ) -> Result<(TypeId, &'a [u8]), ParseStop>
-    requires { IsKnown draft.old.table.types element.0 }
+    requires { IsElement draft.old.table.version draft.old.table.types element.0 }
     ensures { Gives (λ x. (draft.new, x.0.0, x.1.now)) result
         (after_element (draft.old, element.0, text.now)) }
 {
@@ -191,7 +196,7 @@ fn after_element<'a>(
     Ok((t, rest))
 }
 
-/// What follows the type that an encapsulation holds: the closing mark.
+/// What comes after the type in an encapsulation: the closing mark.
 fn after_held<'a>(
     draft: &mut Draft,
     held: TypeId,
@@ -206,10 +211,16 @@ fn after_held<'a>(
     Ok((t, rest))
 }
 
-/// A type that has no other in angle brackets.
+/// A type without another one in angle brackets. `element` says whether it is that of a sequence's
+/// elements.
 #[tactic(auto, unfolding(crate::specs::TypeReading::leaf_at))]
-fn leaf_at<'a>(draft: &mut Draft, text: &'a [u8]) -> Result<(TypeId, &'a [u8]), ParseStop>
-    ensures { Gives (λ x. (draft.new, x.0.0, x.1.now)) result (leaf_at draft.old text.now) }
+fn leaf_at<'a>(
+    draft: &mut Draft,
+    element: bool,
+    text: &'a [u8],
+) -> Result<(TypeId, &'a [u8]), ParseStop>
+    ensures { Gives (λ x. (draft.new, x.0.0, x.1.now)) result
+        (leaf_at element draft.old text.now) }
 {
     let (name, rest) = word(text)?;
     if let Some(base) = base_of(name) {
@@ -233,17 +244,18 @@ fn leaf_at<'a>(draft: &mut Draft, text: &'a [u8]) -> Result<(TypeId, &'a [u8]), 
     if draft.is_third() && name == b"wstring".as_slice() {
         return wide_text_at(draft, rest);
     }
-    named_type(draft, text, name, rest)
+    named_type(draft, element, text, name, rest)
 }
 
-/// A word that opens a type around another.
+/// A word that begins a type with another one in it.
 #[derive(Clone, Copy, Drop)]
 pub(crate) enum Opener {
     Sequence,
     Encapsulation,
 }
 
-/// The first word of a text, if it opens a type around another, and what follows its opening mark.
+/// The first word of a text, if it begins a type with another one in it, and the rest after its
+/// opening mark.
 #[tactic(auto, unfolding(crate::specs::TypeReading::opener_at))]
 fn opener_at<'a>(draft: &Draft, text: &'a [u8]) -> Result<Option<(Opener, &'a [u8])>, ParseStop>
     ensures { Gives (λ o. option_map (λ x. (x.0, x.1.now)) o) result
@@ -262,7 +274,7 @@ fn opener_at<'a>(draft: &Draft, text: &'a [u8]) -> Result<Option<(Opener, &'a [u
     Ok(None)
 }
 
-/// An opener more, if one comes: whether there was none, and what follows.
+/// One more opener, if one comes. Answers whether there was none, and the rest.
 #[tactic(auto, unfolding(crate::specs::TypeReading::openers_step))]
 fn openers_step<'a>(
     draft: &Draft,
@@ -281,7 +293,7 @@ fn openers_step<'a>(
     }
 }
 
-/// The words that open a type, the outermost first, and what follows them.
+/// The words that begin a type, the outermost first, and the rest.
 fn openers_at<'a>(
     alloc: Global,
     draft: &Draft,
@@ -302,7 +314,17 @@ fn openers_at<'a>(
     Err(ParseStop::Refused(misplaced(rest)))
 }
 
-/// What closes a type that was opened, after the type in it.
+/// Whether the type after these openers is that of a sequence's elements.
+fn element_after(openers: &[Opener]) -> bool
+    ensures { result ≡ element_after openers.now }
+{
+    match openers.last() {
+        Some(Opener::Sequence) => true,
+        _ => false,
+    }
+}
+
+/// What closes a type with another one in it, after that one.
 #[tactic(auto, unfolding(crate::specs::TypeReading::closed_by))]
 fn closed_by<'a>(
     draft: &mut Draft,
@@ -310,7 +332,8 @@ fn closed_by<'a>(
     inner: TypeId,
     text: &'a [u8],
 ) -> Result<(TypeId, &'a [u8]), ParseStop>
-    requires { IsKnown draft.old.table.types inner.0 }
+    requires { CanStand (opens_element opener) draft.old.table.version draft.old.table.types
+        inner.0 }
     ensures { Gives (λ x. (draft.new, x.0.0, x.1.now)) result
         (closed_by opener (draft.old, inner.0, text.now)) }
 {
@@ -320,14 +343,15 @@ fn closed_by<'a>(
     }
 }
 
-/// What closes all types that were opened, after the innermost.
+/// What closes all types that were opened, after the innermost one.
 fn all_closed<'a>(
     draft: &mut Draft,
     openers: &mut Vec<Opener>,
     innermost: TypeId,
     text: &'a [u8],
 ) -> Result<(TypeId, &'a [u8]), ParseStop>
-    requires { IsKnown draft.old.table.types innermost.0 }
+    requires { CanStand (element_after openers.old.items) draft.old.table.version
+        draft.old.table.types innermost.0 }
     ensures { Gives (λ x. (draft.new, x.0.0, x.1.now)) result
         (all_closed openers.old.items (draft.old, innermost.0, text.now)) }
 {
@@ -350,6 +374,6 @@ pub(crate) fn type_at<'a>(
 {
     draft.laws();
     let (mut openers, rest) = openers_at(alloc, draft, text)?;
-    let (innermost, rest) = leaf_at(draft, rest)?;
+    let (innermost, rest) = leaf_at(draft, element_after(openers.as_slice()), rest)?;
     all_closed(draft, &mut openers, innermost, rest)
 }

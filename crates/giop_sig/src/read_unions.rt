@@ -1,20 +1,26 @@
-//! Reading unions.
-ghost use Rattle.std.specs.Prelude.{◌≡◌, ◌+◌, ◌^◌, ◌<◌, ◌≤◌, false, [], length, OnOk, IfOk, IfErr};
+//! Reads unions.
+ghost use Rattle.std.specs.Prelude.{◌≡◌, ◌+◌, ◌^◌, ◌<◌, ◌≤◌, false, [], length, OnOk, IfOk, IfErr, None};
 ghost use Rattle.std.specs.List.{list_any};
+ghost use Rattle.std.specs.Map.{lookup};
+ghost use Rattle.std.specs.Str.{bytes_eq};
 ghost use Rattle.giop_sig.specs.Outcomes.{Gives};
 ghost use Rattle.giop_sig.specs.Table.{node_at, union as union_node};
 ghost use Rattle.giop_sig.specs.Scopes.{is_third, label_number, part};
 ghost use Rattle.giop_sig.specs.Views.{node_view};
 ghost use Rattle.giop_sig.specs.Labels.{value_view, cases_view};
 ghost use Rattle.giop_sig.specs.Repeats.{in_steps};
-ghost use Rattle.giop_sig.specs.UnionReading.{same_mark, number_of_value, unseen_label, label_at, begins_label, labels_step, too_many_labels, labels_at, no_cases, chosen, with_case, case_at, cases_step, too_many_cases, cases_at, can_switch, switch_at, union_at};
+ghost use Rattle.giop_sig.specs.UnionReading.{same_mark, number_of_value, unseen_label, label_at, begins_label, labels_step, too_many_labels, labels_at, no_cases, chosen, with_case, case_at, cases_step, too_many_cases, cases_at, can_switch, switch_at, union_at, union_after};
 
+use crate::announced::TypeWord;
 use crate::cases::UnionCases;
 use crate::draft::Draft;
 use crate::entries::{CaseEntry, Entry};
 use crate::labels::{LabelValue, label_number, value_at};
 use crate::parse_stop::ParseStop;
-use crate::read_items::{declared_at, filled_at, identity_at, item_at, part_of, type_end_at};
+use crate::read_items::{
+    announcement_at, announces_at, declared_at, filled_at, identity_at, item_at, part_of,
+    type_end_at,
+};
 use crate::read_types::{refused, type_at};
 use crate::types::{Selected, TypeId};
 use giop_cdr::{Number, Prim};
@@ -23,24 +29,24 @@ use giop_tokens::{
 };
 use std::alloc::Global;
 
-/// The most labels of a union.
+/// How many labels a union may have.
 const LABELS_MAX: usize = 1024;
-/// The most cases of a union.
+/// How many cases a union may have.
 const CASES_MAX: usize = 256;
 
 /// The cases of a union that is being read.
 #[derive(Drop)]
 struct Cases<'a> {
-    /// The numbers of all labels, none for the default.
+    /// The numbers of all labels. None stands for the default.
     labels: Vec<Option<Number>>,
     /// The names of the cases.
     names: Vec<&'a [u8]>,
     cases: Vec<CaseEntry>,
-    /// The case with the default.
+    /// The case with the default, or `Nothing`.
     otherwise: Selected,
 }
 
-/// The number of the discriminator's type that a value names.
+/// The value of the discriminator's type that the value of a label names.
 fn number_in(draft: &Draft, switch: TypeId, value: LabelValue<'_>) -> Option<Number>
     ensures { result ≡ label_number (node_at draft.now.table switch.0) (value_view value.entry) }
 {
@@ -50,7 +56,7 @@ fn number_in(draft: &Draft, switch: TypeId, value: LabelValue<'_>) -> Option<Num
     }
 }
 
-/// The number that the value of a label names.
+/// The value of the discriminator's type that the value at the front of the text names.
 #[tactic(auto, unfolding(crate::specs::UnionReading::number_of_value))]
 fn number_of_value<'a>(
     draft: &Draft,
@@ -67,14 +73,14 @@ fn number_of_value<'a>(
     }
 }
 
-/// Whether a label stands among others.
+/// Whether a label is in a list.
 fn is_seen(seen: &[Option<Number>], label: Option<Number>) -> bool
     ensures { result ≡ list_any (λ s. same_mark s label) seen.now }
 {
     seen.contains(&label)
 }
 
-/// A label after others of its union: its value or its word is at the front of the text.
+/// A label that isn't in `seen`. Its value or its word is at the front of `text`.
 #[tactic(auto, unfolding(crate::specs::UnionReading::unseen_label))]
 fn unseen_label(
     seen: &[Option<Number>],
@@ -92,7 +98,7 @@ fn unseen_label(
     Ok(label)
 }
 
-/// A label, with its colon.
+/// A label with its colon.
 #[tactic(auto, unfolding(crate::specs::UnionReading::label_at))]
 fn label_at<'a>(
     draft: &Draft,
@@ -127,7 +133,8 @@ fn begins_label(text: &[u8]) -> Result<bool, ParseStop>
     Ok(value.is_some() || default.is_some())
 }
 
-/// A label more, where one comes: whether there was none, whether the case has the default, and what follows.
+/// One more label, if one comes. Answers whether there was none, whether the case has the default,
+/// and the rest.
 #[tactic(auto, unfolding(crate::specs::UnionReading::labels_step))]
 fn labels_step<'a>(
     draft: &Draft,
@@ -155,7 +162,8 @@ fn labels_step<'a>(
     }
 }
 
-/// Labels, up to what is none: the numbers of them, and whether the default is among them.
+/// Labels, as long as they come. Answers their numbers, whether the default is among them, and the
+/// rest.
 fn some_labels<'a>(
     alloc: Global,
     draft: &Draft,
@@ -183,7 +191,7 @@ fn some_labels<'a>(
     Err(ParseStop::Refused(refused(SigFaultKind::Limit, rest)))
 }
 
-/// The labels of a case, one at least.
+/// The labels of a case, at least one.
 #[tactic(auto, unfolding(crate::specs::UnionReading::labels_at))]
 fn labels_at<'a>(
     alloc: Global,
@@ -202,7 +210,8 @@ fn labels_at<'a>(
     some_labels(alloc, draft, switch, seen, text)
 }
 
-/// What is selected where no label is the number: the first case with the default.
+/// What is selected if no label is the number, after the case at a place: the first case with the
+/// default.
 fn chosen(otherwise: Selected, default: bool, place: usize) -> Selected
     requires { place < 2 ^ 32 }
     ensures { result ≡ chosen otherwise default place }
@@ -213,7 +222,7 @@ fn chosen(otherwise: Selected, default: bool, place: usize) -> Selected
     }
 }
 
-/// Whether values of a type can be a discriminator's.
+/// Whether a type can be that of a discriminator.
 fn can_switch(draft: &Draft, t: TypeId) -> bool
     ensures { result ≡ can_switch (node_at draft.now.table t.0) }
 {
@@ -244,7 +253,7 @@ fn switch_at<'a>(
     }
 }
 
-/// Adds a case after others: its labels, whether the default is among them, and its name and type.
+/// Adds a case. It has these labels and perhaps the default, a name and a type.
 fn add_case<'a>(
     alloc: Global,
     cases: &mut Cases<'a>,
@@ -265,7 +274,7 @@ fn add_case<'a>(
     Ok(())
 }
 
-/// A case of a union after others; what follows it.
+/// One more case of a union. Answers the rest.
 #[tactic(auto, unfolding(crate::specs::UnionReading::case_at))]
 fn case_at<'a>(
     alloc: Global,
@@ -286,7 +295,7 @@ fn case_at<'a>(
     Ok(rest)
 }
 
-/// The closing mark, or a case more: whether it was the mark, and what follows.
+/// The closing mark, or one more case. Answers whether it was the mark, and the rest.
 #[tactic(auto, unfolding(crate::specs::UnionReading::cases_step))]
 fn cases_step<'a>(
     alloc: Global,
@@ -333,7 +342,7 @@ fn some_cases<'a>(
     Err(ParseStop::Refused(refused(SigFaultKind::Limit, rest)))
 }
 
-/// Cases up to the closing mark, one at least.
+/// Cases up to the closing mark, at least one.
 #[tactic(auto, unfolding(crate::specs::UnionReading::cases_at))]
 fn cases_at<'a>(
     alloc: Global,
@@ -357,19 +366,22 @@ fn entry_of(alloc: Global, switch: TypeId, cases: Cases<'_>) -> Result<Entry, Pa
     Ok(Entry::Union(switch, made, cases.otherwise))
 }
 
-/// A union, after its word; what follows it.
-#[tactic(auto, unfolding(crate::specs::UnionReading::union_at))]
-pub(crate) fn union<'a>(
+/// A union, after its name, which is at the front of `text`.
+#[tactic(auto, unfolding(crate::specs::UnionReading::union_after))]
+fn union_after<'a>(
     alloc: Global,
     draft: &mut Draft,
-    text: &'a [u8],
+    text: &[u8],
+    name: &[u8],
+    rest: &'a [u8],
 ) -> Result<&'a [u8], ParseStop>
-    ensures { Gives (λ x. (draft.new, x.now)) result (union_at draft.old text.now) }
+    requires short { length name.now ≤ 64 }
+    requires new { lookup (bytes_eq name.now) draft.old.names.known ≡ None }
+    requires few { draft.old.table.declared < 4096 }
+    ensures { Gives (λ x. (draft.new, x.now)) result
+        (union_after draft.old text.now name.now rest.now) }
 {
     draft.laws();
-    let at = left_of(text);
-    let count = draft.types_declared();
-    let (name, rest) = declared_at(draft, count, text)?;
     let (id, rest) = identity_at(draft, rest)?;
     let rest = keyword(rest, b"switch")?;
     let rest = mark(rest, Mark::OpenParenthesis)?;
@@ -378,5 +390,22 @@ pub(crate) fn union<'a>(
     let rest = mark(rest, Mark::OpenBrace)?;
     let (cases, rest) = cases_at(alloc, draft, switch, rest)?;
     let entry = entry_of(alloc, switch, cases)?;
-    type_end_at(draft, at, name, id, entry, rest)
+    type_end_at(draft, left_of(text), name, id, entry, rest)
+}
+
+/// A union, or its announcement, after its first word. Answers the rest.
+#[tactic(auto, unfolding(crate::specs::UnionReading::union_at))]
+pub(crate) fn union<'a>(
+    alloc: Global,
+    draft: &mut Draft,
+    text: &'a [u8],
+) -> Result<&'a [u8], ParseStop>
+    ensures { Gives (λ x. (draft.new, x.now)) result (union_at draft.old text.now) }
+{
+    let count = draft.types_declared();
+    let (name, rest) = declared_at(draft, Some(TypeWord::Union), count, text)?;
+    if announces_at(draft, rest)? {
+        return announcement_at(draft, TypeWord::Union, text, name, rest);
+    }
+    union_after(alloc, draft, text, name, rest)
 }

@@ -1,4 +1,4 @@
-//! Request lists: which operation the replies of an id answer (docs/FORMATS.md).
+//! Request lists: which operation the replies with an id answer (docs/FORMATS.md).
 ghost use Rattle.std.specs.Prelude.{◌≡◌, ℕ, Bool, ◌<◌, ◌≤◌, ◌^◌, List, length, map, Option, IsTrue, ◌↔◌, MatchOption, option_and_then, IfOk, IfErr, IfSome, ◌∷◌, [], nat_eq};
 ghost use Rattle.std.specs.HashMap.{IsUnique};
 ghost use Rattle.std.specs.Option.{option_copied, option_map};
@@ -15,14 +15,14 @@ use indexmap::IndexMap;
 use std::alloc::Global;
 use std::marker::Model;
 
-/// The most octets of a name.
+/// How many octets a name may have.
 const NAME_MAX: usize = 128;
-/// The most octets of a text.
+/// How many octets a text may have.
 const TEXT_MAX: usize = 16_777_216;
-/// The most entries of a list.
+/// How many entries a list may have.
 const ENTRIES_MAX: u32 = 65_536;
 
-/// The first line, and what follows it.
+/// The first line, and the rest.
 fn first_line(text: &[u8]) -> Option<(&[u8], &[u8])>
     ensures lines { MatchOption result (text.now ≡ [])
         (λ x. lines text.now ≡ x.0.now ∷ lines x.1.now) }
@@ -37,7 +37,7 @@ fn first_line(text: &[u8]) -> Option<(&[u8], &[u8])>
     }
 }
 
-/// The number below 2 ^ 32 whose decimal spelling this is.
+/// The number below 2^32 that is spelled like this in decimal.
 fn number(digits: &[u8]) -> Option<u32>
     ensures { MatchOption result
         ((n : ℕ) → n < 2 ^ 32 → digits.now ≡ decimal n → ⊥)
@@ -59,21 +59,23 @@ fn number(digits: &[u8]) -> Option<u32>
     u32::try_from(n).ok()
 }
 
-/// Whether this can be a name or a repository id: 1 to 128 printed octets of ASCII, none of them a space.
+/// Whether this can be a name or a repository id: 1 to 128 printable octets of ASCII without a
+/// space.
 fn is_name(name: &[u8]) -> bool
     ensures { IsTrue result ↔ IsName name.now }
 {
     !name.is_empty() && name.len() <= NAME_MAX && name.iter().all(|b| *b >= 33 && *b <= 126)
 }
 
-/// The words of an entry after its id: the name of an operation, and perhaps the repository id of an interface.
+/// The words of an entry after its id: the name of an operation, and perhaps the repository id of
+/// an interface.
 #[derive(Clone, Copy)]
 struct Words<'a> {
     name: &'a [u8],
     interface: Option<&'a [u8]>,
 }
 
-/// The words that a text is, with a space between two; `third` says whether there may be two.
+/// The words of a text, with a space between two of them. `third` says whether there may be two.
 fn words_of(text: &[u8], third: bool) -> Option<Words<'_>>
     ensures { MatchOption result
         ((name : List ℕ) (id : Option (List ℕ)) → text.now ≡ words name id
@@ -104,7 +106,7 @@ fn words_of(text: &[u8], third: bool) -> Option<Words<'_>>
     }
 }
 
-/// The id and the words of the entry that a line is.
+/// The id and the words of the entry in a line. `third` says whether there may be an interface.
 fn entry(line: &[u8], third: bool) -> Option<(u32, Words<'_>)>
     ensures { MatchOption result
         (¬ (IsEntryLine third line.now))
@@ -127,7 +129,7 @@ fn is_same(a: &Words<'_>, b: &Words<'_>) -> bool
     }
 }
 
-/// The words that all entries of an id have, after one more of them.
+/// The words that all entries of an id have, after one more entry. None if they differ.
 fn joined<'a>(kept: Option<&Option<Words<'a>>>, words: Words<'a>) -> Option<Words<'a>>
     ensures { option_map words_view result
         ≡ joined (option_map (option_map words_view) (option_copied kept.entry))
@@ -146,13 +148,13 @@ fn joined<'a>(kept: Option<&Option<Words<'a>>>, words: Words<'a>) -> Option<Word
     }
 }
 
-/// A text is one list at most.
+/// A text is at most one list.
 pub fn one_list()
     ensures { (third : Bool) (text : List ℕ) (es fs : List Entry)
         → Lists third text es → Lists third text fs → es ≡ fs }
 {}
 
-/// Which operation the replies of an id answer.
+/// Which operation the replies with an id answer.
 #[derive(Drop)]
 pub struct Requests {
     table: IndexMap<u32, Option<OpId>>,
@@ -172,27 +174,29 @@ impl Model for Requests {
 }
 
 impl Requests {
-    /// Reads a list. `catalogue` knows the operations and interfaces; the list may name others. If its version is 3, a line
-    /// may have a third word.
+    /// Reads a list. The operations and interfaces are looked up in `catalogue`; the list may name
+    /// others. A line may have a third word if the version of the catalogue is 3.
     pub fn parse(alloc: Global, text: &[u8], catalogue: &Catalogue) -> Result<Requests, ListFault>
-        // The stored operations are those of the list that the text is.
+        // The operations are those of the list in the text.
         ensures ok { IfOk result (λ kept.
             (es : List Entry) × Lists (third_in catalogue.now) text.now es
             × IsOf (asked_number catalogue.now) es kept) }
-        // A refusal, unless for memory, is at the first line that is wrong.
+        // A refusal is at the first line that is wrong, unless memory was refused.
         ensures err { IfErr result (λ f.
             IsRefusedAs (third_in catalogue.now) text.now f.line f.kind) }
-        // They are a function of its entries, so that a list that is read once more gives the same.
+        // The operations depend on the entries alone, so that a list that is read again gives the
+        // same.
         ensures same { (es : List Entry) → Lists (third_in catalogue.now) text.now es
             → IfOk result (λ kept. kept ≡ kept_of (asked_number catalogue.now) es) }
-        // A list is refused for want of memory alone.
+        // A list is refused only if memory is.
         ensures only { (es : List Entry) → Lists (third_in catalogue.now) text.now es
             → IfErr result (λ f. f.kind ≡ ListFaultKind.OutOfMemory) }
     {
         read(alloc, text, catalogue)
     }
 
-    /// The catalogue's operation of the one name, and the one interface or none, that all entries of the id have.
+    /// The operation of an id: all entries of the id have the same name and the same interface or
+    /// none, and the catalogue has this operation.
     pub fn operation(&self, id: u32) -> Option<OpId>
         ensures { result ≡ kept_operation self.now id }
     {
@@ -220,7 +224,7 @@ fn read(alloc: Global, text: &[u8], catalogue: &Catalogue) -> Result<Requests, L
     Ok(Requests { table })
 }
 
-/// Reads a list, line by line: what is asked for with each id.
+/// Reads a list line by line. Answers the words for each id.
 fn read_lines(
     alloc: Global,
     text: &[u8],
@@ -261,7 +265,7 @@ fn read_lines(
     Ok(asked)
 }
 
-/// The operation that is asked for by these words, if there are any.
+/// The operation with these words, if there are words.
 fn found(catalogue: &Catalogue, words: Option<Words<'_>>) -> Option<OpId>
     ensures { option_map (λ o. o.0) result
         ≡ option_and_then (λ a. asked_number catalogue.now a.name a.interface)

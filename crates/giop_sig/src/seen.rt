@@ -1,7 +1,8 @@
-//! A catalogue as the messages of a version are read by it: in 1.0 and 1.1 wide text has no room.
+//! A catalogue as messages of a version see it. In messages of 1.0 and 1.1 neither the value of an
+//! any nor the elements of a recursive sequence can have wide text.
 ghost use Rattle.std.specs.Prelude.{◌≡◌, ℕ, suc, ◌<◌, ◌≤◌, ◌++◌, ◌↔◌, List, false, codes, drop, length, IsTrue, IfSome, None};
 ghost use Rattle.std.specs.Option.{option_map};
-ghost use Rattle.giop_sig.specs.Types.{sequel, part_of, name_in, enum_name_in, switch_of, select_in, interpreted_in, shape_in, HasShape, HasMember, HasPlace, HasInner, IsUnion};
+ghost use Rattle.giop_sig.specs.Types.{sequel, part_of, name_in, enum_name_in, switch_of, elements_fit, select_in, interpreted_in, shape_in, HasShape, HasMember, HasPlace, HasInner, IsUnion};
 ghost use Rattle.giop_sig.specs.Fits.{IsFit, IsRoot};
 ghost use Rattle.giop_sig.specs.Interfaces.{IsInterfaceOf};
 ghost use Rattle.giop_sig.specs.Hearings.{HasPart, hearing_in, sequel_of, sign_is, signal_after, told_of};
@@ -18,12 +19,12 @@ use crate::types::{Fixed, Following, InterfaceId, Selected, Shape, Sign, Signal,
 use giop_cdr::Number;
 use std::marker::Model;
 
-/// A catalogue as it is seen by messages of 1.0 and 1.1, or by others. Its methods are those of `Catalogue` by which a
+/// A catalogue as messages of a version see it. It has the methods of `Catalogue` with which a
 /// value is read. A contract sees the whole `Table`.
 #[derive(Drop)]
 pub struct SeenCatalogue<'a> {
     catalogue: &'a Catalogue,
-    /// The entries of its types, which a value is read by.
+    /// The entries of its types.
     entries: &'a [EntryWithDepth],
     narrow: bool,
 }
@@ -40,13 +41,14 @@ impl<'a> Model for SeenCatalogue<'a> {
 }
 
 impl Catalogue {
-    /// The catalogue as messages see it in which wide text has no room, those of 1.0 and 1.1, or as others do.
+    /// The catalogue as messages see it. `narrow` says that anys and recursive sequences can't hold
+    /// wide text, as in messages of 1.0 and 1.1.
     #[inline(always)]
     pub fn seen(&self, narrow: bool) -> SeenCatalogue<'_>
         ensures is { result ≡ seen narrow self.now }
         ensures own { narrow ≡ false → result ≡ self.now }
     {
-        // What holds of every catalogue is known of this one once it is read.
+        // They are read so that the prover knows what is true of each catalogue.
         let _types = &self.types;
         self.laws();
         SeenCatalogue {
@@ -56,7 +58,7 @@ impl Catalogue {
         }
     }
 
-    /// Whether wide text has no room in messages of a minor version.
+    /// Whether anys and recursive sequences can't hold wide text in messages of a minor version.
     #[inline(always)]
     pub fn is_narrow(&self, minor: u8) -> bool
         ensures { result ≡ is_narrow minor self.now }
@@ -76,12 +78,12 @@ impl Catalogue {
 impl<'a> SeenCatalogue<'a> {
     ghost use Rattle.giop_sig.specs.Views.{node_view, IsSized};
 
-    /// What holds of every catalogue: it has no body, and is called for its contract.
+    /// What is true of each catalogue. This function does nothing, and is called for its contract.
     #[inline(always)]
     pub fn laws(&self)
         ensures { IsTable self.now }
     {
-        // What holds of every seen catalogue is known of this one once it is read.
+        // It is read so that the prover knows what is true of each catalogue as it is seen.
         let _catalogue = self.catalogue;
     }
 
@@ -103,7 +105,7 @@ impl<'a> SeenCatalogue<'a> {
         &self.entries[t.0 as usize].entry
     }
 
-    /// As `Catalogue::has`.
+    /// Like `Catalogue::has`.
     #[inline(always)]
     pub fn has(&self, t: TypeId) -> bool
         ensures { IsTrue result ↔ (t.0 < length self.now.types) }
@@ -111,14 +113,14 @@ impl<'a> SeenCatalogue<'a> {
         self.catalogue.has(t)
     }
 
-    /// As `Catalogue::shape`.
+    /// Like `Catalogue::shape`.
     #[inline(always)]
     pub fn shape(&self, t: TypeId) -> Shape
         requires { t.0 < length self.now.types }
         ensures is { result ≡ shape_of (node_at self.now t.0) }
         ensures tree { result ≡ shape_in (tree self.now t.0) }
         ensures shape { HasShape (tree self.now t.0) result }
-        // The same in each room.
+        // The same in any room.
         ensures rooms { (n : ℕ) → result ≡ shape_in (tree_at self.now n t.0) }
         ensures shapes { (n : ℕ) → HasShape (tree_at self.now n t.0) result }
         ensures root { IsRoot (tree self.now t.0) }
@@ -127,7 +129,7 @@ impl<'a> SeenCatalogue<'a> {
         self.entry(t).shape()
     }
 
-    /// As `Catalogue::part`.
+    /// Like `Catalogue::part`.
     #[inline(always)]
     pub fn part(&self, t: TypeId, place: u32) -> TypeId
         requires known { t.0 < length self.now.types }
@@ -136,7 +138,8 @@ impl<'a> SeenCatalogue<'a> {
         ensures number { result.0 ≡ part_number self.now t.0 place }
         ensures known { result.0 < length self.now.types }
         ensures below { HasInner (shape_in (tree self.now t.0)) place → result.0 < t.0 }
-        // A part has one level less room than its whole; only those of a union may be others in another room.
+        // A part has one level of room less than its whole. Only the parts of a union may differ
+        // with the room.
         ensures rooms { (IsUnion (shape_in (tree self.now t.0)) → ⊥) → (n : ℕ) →
             tree_at self.now n result.0 ≡ part_of (tree_at self.now (suc n) t.0) place }
     {
@@ -144,7 +147,20 @@ impl<'a> SeenCatalogue<'a> {
         self.entry(t).part(place)
     }
 
-    /// As `Catalogue::part_in`.
+    /// Whether the elements of a sequence fit into this room. Only those of a recursive sequence
+    /// may not fit.
+    #[inline(always)]
+    pub fn elements_fit(&self, t: TypeId, room: u8) -> bool
+        requires { t.0 < length self.now.types }
+        ensures { result ≡ elements_fit (tree_at self.now (suc room) t.0) }
+    {
+        match self.entry(t) {
+            Entry::Recursive(_, element) => self.follows(*element, room),
+            _ => true,
+        }
+    }
+
+    /// Like `Catalogue::part_in`.
     #[inline(always)]
     pub fn part_in(&self, t: TypeId, place: u32, room: u8) -> TypeId
         requires known { t.0 < length self.now.types }
@@ -159,7 +175,7 @@ impl<'a> SeenCatalogue<'a> {
         self.entry(t).part_in(place, room)
     }
 
-    /// As `Catalogue::part_name`.
+    /// Like `Catalogue::part_name`.
     #[inline(always)]
     pub fn part_name(&self, t: TypeId, place: u32) -> &'a [u8]
         requires known { t.0 < length self.now.types }
@@ -172,7 +188,7 @@ impl<'a> SeenCatalogue<'a> {
         self.kept_name(t, place).octets()
     }
 
-    /// As `Catalogue::dotted_name`.
+    /// Like `Catalogue::dotted_name`.
     #[inline(always)]
     pub fn dotted_name(&self, t: TypeId, place: u32) -> &'a [u8]
         requires known { t.0 < length self.now.types }
@@ -186,7 +202,7 @@ impl<'a> SeenCatalogue<'a> {
         self.kept_name(t, place).dotted()
     }
 
-    /// The name of a part, as it is kept.
+    /// The name of a part as it is kept, with what comes before it.
     #[inline(always)]
     fn kept_name(&self, t: TypeId, place: u32) -> &'a PartName
         requires known { t.0 < length self.now.types }
@@ -200,7 +216,7 @@ impl<'a> SeenCatalogue<'a> {
         self.entry(t).part_name(place)
     }
 
-    /// As `Catalogue::enum_name`.
+    /// Like `Catalogue::enum_name`.
     #[inline(always)]
     pub fn enum_name(&self, t: TypeId, number: u32) -> Option<&'a [u8]>
         requires { t.0 < length self.now.types }
@@ -214,7 +230,7 @@ impl<'a> SeenCatalogue<'a> {
         self.entry(t).enum_name(number)
     }
 
-    /// As `Catalogue::switch_type`.
+    /// Like `Catalogue::switch_type`.
     #[inline(always)]
     pub fn switch_type(&self, t: TypeId) -> TypeId
         requires known { t.0 < length self.now.types }
@@ -230,12 +246,12 @@ impl<'a> SeenCatalogue<'a> {
         self.entry(t).switch_type()
     }
 
-    /// As `Catalogue::select`.
+    /// Like `Catalogue::select`.
     #[inline(always)]
     pub fn select(&self, t: TypeId, number: Number) -> Selected
         requires { t.0 < length self.now.types }
         ensures is { result ≡ selected (node_at self.now t.0) number }
-        // By the whole number that the discriminator's octets spell.
+        // For the whole number that the discriminator's octets spell.
         ensures tree { (n : ℕ) → interpreted_in (switch_of (tree self.now t.0)) n ≡ Some number
             → result ≡ select_in (tree self.now t.0) n }
         ensures rooms { (m n : ℕ) → interpreted_in (switch_of (tree_at self.now m t.0)) n
@@ -247,7 +263,7 @@ impl<'a> SeenCatalogue<'a> {
         self.entry(t).select(number)
     }
 
-    /// As `Catalogue::header`.
+    /// Like `Catalogue::header`.
     #[inline(always)]
     pub fn header(&self, minor: u8, kind: u8) -> Option<TypeId>
         ensures number { option_map (λ t. t.0) result ≡ header_number self.now.version minor kind }
@@ -255,7 +271,7 @@ impl<'a> SeenCatalogue<'a> {
         ensures tree { option_map (λ t. tree self.now t.0) result
             ≡ header_type self.now.version minor kind }
         ensures fit { IfSome result (λ t. IsFit 24 (tree self.now t.0)) }
-        // A reader that knows no type finds the request id at the front.
+        // A reader that knows no types finds the request id first.
         ensures id { IdStandsFirst minor kind
             → IfSome result (λ t. BeginsWithId (tree self.now t.0)) }
     {
@@ -263,7 +279,7 @@ impl<'a> SeenCatalogue<'a> {
         header_id(self.version(), minor, kind)
     }
 
-    /// As `Catalogue::fixed`.
+    /// Like `Catalogue::fixed`.
     #[inline(always)]
     pub fn fixed(&self, fixed: Fixed) -> TypeId
         ensures number { result.0 ≡ fixed_number self.now.version fixed }
@@ -275,7 +291,7 @@ impl<'a> SeenCatalogue<'a> {
         fixed_id(self.version(), fixed)
     }
 
-    /// As `Catalogue::interface`.
+    /// Like `Catalogue::interface`.
     pub fn interface(&self, key: &[u8]) -> Option<InterfaceId>
         ensures is { result ≡ interface_in self.now key.now }
         ensures whose { IsInterfaceOf self.now.interfaces key.now
@@ -285,7 +301,7 @@ impl<'a> SeenCatalogue<'a> {
         self.catalogue.interface(key)
     }
 
-    /// As `Catalogue::has_keys`.
+    /// Like `Catalogue::has_keys`.
     #[inline(always)]
     pub fn has_keys(&self) -> bool
         ensures is { result ≡ has_keys self.now }
@@ -294,14 +310,14 @@ impl<'a> SeenCatalogue<'a> {
         self.catalogue.has_keys()
     }
 
-    /// As `Catalogue::has_interface`.
+    /// Like `Catalogue::has_interface`.
     pub fn has_interface(&self, interface: InterfaceId) -> bool
         ensures { IsTrue result ↔ (interface.0 < length self.now.interfaces.names) }
     {
         self.catalogue.has_interface(interface)
     }
 
-    /// As `Catalogue::interface_laws`.
+    /// Like `Catalogue::interface_laws`.
     #[inline(always)]
     pub fn interface_laws(&self)
         ensures { (key : List ℕ) → IfSome (interface_in self.now key)
@@ -310,7 +326,7 @@ impl<'a> SeenCatalogue<'a> {
         self.catalogue.interface_laws();
     }
 
-    /// As `Catalogue::hear`.
+    /// Like `Catalogue::hear`.
     pub fn hear(&self, t: TypeId, told: Signal, sign: Sign<'_>) -> Signal
         requires { t.0 < length self.now.types }
         ensures is { result ≡ signal_after self.now t.0 told sign.entry }
@@ -324,7 +340,7 @@ impl<'a> SeenCatalogue<'a> {
         }
     }
 
-    /// As `Catalogue::following`.
+    /// Like `Catalogue::following`.
     pub fn following(&self, t: TypeId, told: Signal, room: u8) -> Following
         requires { t.0 < length self.now.types }
         ensures is { sequel (hearing_in (tree_at self.now (suc room) t.0)) (told_of told)
@@ -339,7 +355,7 @@ impl<'a> SeenCatalogue<'a> {
         }
     }
 
-    /// What follows the TypeCode of an any, in this room.
+    /// What comes after the TypeCode of an any, if that has this room.
     fn following_any(&self, told: Signal, room: u8) -> Following
         ensures is { sequel (any_hearing self.now room) (told_of told) ≡ sequel_of result }
         ensures place { HasPart result }
@@ -355,7 +371,7 @@ impl<'a> SeenCatalogue<'a> {
         }
     }
 
-    /// As `Catalogue::follows`.
+    /// Like `Catalogue::follows`.
     pub fn follows(&self, t: TypeId, room: u8) -> bool
         ensures { result ≡ follows self.now room t.0 }
     {

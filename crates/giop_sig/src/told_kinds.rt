@@ -1,4 +1,4 @@
-//! What the kind of a TypeCode, and what it holds, tell of the value after it.
+//! What the kind of a TypeCode, and the type in it, tell about the value.
 
 ghost use Rattle.std.specs.Prelude.{◌≡◌, IfSome, IfNone};
 ghost use Rattle.giop_sig.specs.Types.{Told};
@@ -15,7 +15,8 @@ use crate::types::{Signal, TypeId};
 /// How many kinds, from 0 on, tell something.
 const KINDS: u32 = 28;
 
-/// What each kind tells, from 0 on: 15, 16 and 17 that an id comes, whose front is the first, second or third of all.
+/// What each kind tells, from 0 on. After kinds 15, 16 and 17 a repository id comes, whose front is
+/// the first, second or third of all fronts.
 static TOLD: [Signal; KINDS as usize] = [
     Signal::Empty,
     Signal::Empty,
@@ -47,7 +48,7 @@ static TOLD: [Signal; KINDS as usize] = [
     Signal::Is(WIDE_STRING),
 ];
 
-/// What a kind tells of the value after it.
+/// What a kind tells about the value.
 pub(crate) fn told_by(kind: u32) -> Signal
     ensures { result ≡ signal_of (told_by kind) }
 {
@@ -58,7 +59,8 @@ pub(crate) fn told_by(kind: u32) -> Signal
     }
 }
 
-/// The sequence of a type that has no repository id, unless it is the next type; None for any other type.
+/// The sequence of a type, if the two are among the first types and the sequence isn't the next
+/// type. None for any other type.
 pub(crate) fn built_in_sequence(t: TypeId) -> Option<TypeId>
     ensures some { IfSome result (λ s. (C : Table) → sequence_told C t.0 ≡ Told.Is s.0) }
     ensures none { IfNone result ((C : Table) → sequence_told C t.0 ≡ next_sequence C t.0) }

@@ -114,13 +114,34 @@ request put/1/0|array of 2
 request put/1/0/0|string
 request put/2/0|short";
 
+// A struct of itself by a sequence, and a union that is announced and declared later.
+static TREE: &[u8] = b"signatures 3; struct C; union U;\n\
+    struct C { octet name; sequence<C> children; };\n\
+    operation void put(in C c, in sequence<U,3> u, in sequence<C> s);\n\
+    union U switch (long) { case 1: wstring a; };";
+
+/// The elements of both sequences, and in how much room these are: as much as the elements are deep.
+static GENERATIONS: &str = "\
+request put|c struct, u recursive sequence of at most 3, s sequence
+request put/0|name octet, children recursive sequence
+request put/0/1/0|name octet, children recursive sequence
+request put/0/1/0/1/0/0|octet
+request put/1/0|a wide string
+request put/2/0|name octet, children recursive sequence
+left 2 request put/0/1|none
+left 3 request put/0/1|room
+left 1 request put/1|none
+left 2 request put/1|room
+left 0 request put/2|room";
+
 #[test]
 fn a_file_declares_its_types_and_operations(rt: HostRuntime) -> Result<(), Fail> {
     declares(&rt, MARK, MARKED)?;
     declares(&rt, ASK, ASKED)?;
     declares(&rt, HELD, HOLDS)?;
     declares(&rt, WIDE, WIDER)?;
-    declares(&rt, GRID, ROWS)
+    declares(&rt, GRID, ROWS)?;
+    declares(&rt, TREE, GENERATIONS)
 }
 
 /// Expects of the catalogue of a file what the rows say.

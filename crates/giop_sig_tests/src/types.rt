@@ -78,6 +78,8 @@ fn add_kind(catalogue: &Catalogue, t: TypeId, row: &mut Sheet) -> Result<(), Out
         Shape::Tagged => b"tagged",
         Shape::Marked(mark) => mark_word(mark),
         Shape::Led => b"led",
+        Shape::Recursive(Some(3)) => b"recursive sequence of at most 3",
+        Shape::Recursive(_) => b"recursive sequence",
         Shape::WideText => b"string",
         Shape::WideChar => b"char",
     };
@@ -181,6 +183,7 @@ fn part_of(catalogue: &Catalogue, t: TypeId, place: u32) -> Option<TypeId>
         Shape::Union(count) => place < count,
         Shape::Tagged => place < 3,
         Shape::Sequence(_) => true,
+        Shape::Recursive(_) => true,
         Shape::Array(_) => true,
         Shape::Encapsulation => true,
         _ => false,
@@ -261,6 +264,16 @@ fn has_room(catalogue: &Catalogue, words: &str, minor: u32, want: &str) -> bool 
     }
 }
 
+/// Whether the elements of a sequence have room, if so much is left for them.
+fn elements_fit(catalogue: &Catalogue, words: &str, left: u32, want: &str) -> bool {
+    match type_of(catalogue, words) {
+        Some(t) if catalogue.has(t) => {
+            catalogue.seen(false).elements_fit(t, left.min(24) as u8) == (want == "room")
+        }
+        _ => false,
+    }
+}
+
 /// Whether a catalogue tells this of what is asked with a number in front of a type.
 fn is_told_by_number(catalogue: &Catalogue, form: &str, asked: &str, want: &str) -> Option<bool> {
     let (number, words) = asked.split_once(' ')?;
@@ -280,6 +293,10 @@ fn is_told_by_number(catalogue: &Catalogue, form: &str, asked: &str, want: &str)
         "minor" => {
             let minor = u32::from_str_radix(number, 10).ok()?;
             Some(has_room(catalogue, words, minor, want))
+        }
+        "left" => {
+            let left = u32::from_str_radix(number, 10).ok()?;
+            Some(elements_fit(catalogue, words, left, want))
         }
         _ => None,
     }

@@ -21,14 +21,15 @@ pub added_both : (C : Table) (kept : RequestTable) (most : ℕ) (p q r : List �
     added (rules C kept most) p (q ++ r) ≡ added (rules C kept most) p q
     ++ added (rules C kept most) (p ++ q) r
 added_both C kept most p q r = further.added_both (rules C kept most)
-    (is_causal (λ number. signatures_of C (by_list kept number))) (in_turn C (by_list kept)) p q r
+    (is_causal (λ phase number. signatures_of C (by_list kept number) phase))
+    (in_turn C (by_list kept)) p q r
 
 -- the same, if these answers give the operations of the ids of each message
 pub added_both_by : (C : Table) (a : Answers) (most : ℕ) (p q r : List ℕ) →
     added (rules_by C a most) p (q ++ r) ≡ added (rules_by C a most) p q
     ++ added (rules_by C a most) (p ++ q) r
 added_both_by C a most p q r = further.added_both (rules_by C a most)
-    (is_causal (λ number. signatures_of C (a number))) (in_turn C a) p q r
+    (is_causal (λ phase number. signatures_of C (a number) phase)) (in_turn C a) p q r
 
 -- the headers that end in q and then in r, after the stream p, are those that end in q, and then
 -- those that end in r

@@ -2,6 +2,7 @@
 -- ends after the message is over. And answers that agree with a correspondent (meaning).
 use Rattle.std.specs.Prelude.{◌≡◌, ◌⊎◌, ℕ, List, [], None}
 use Rattle.std.specs.List.{AllByRecursion as Each}
+use Rattle.giop_message.specs.Phases.{unbroken}
 use Rattle.giop_message.specs.Signatures.{Answer, Answers}
 use Rattle.giop_message.specs.HeaderEnds.{CallEvent, HeaderEnd, Header_end, Exception_end, AgreesAtEnds, header_noted}
 use Rattle.giop_sig.specs.Table.{Table}
@@ -15,7 +16,7 @@ use Rattle.giop_stream.specs.HeaderEndsOfStream.{header_ends_from}
 abbrev pub AnswersAgree : ℕ → List ℕ → Answers → Answers → Type 0
 AnswersAgree most p a b =
     Each (λ e. (a e.subject.number ≡ b e.subject.number)
-    ⊎ (header_noted e.subject.header (joined e.subject.number (events most p)) ≡ None))
+    ⊎ (header_noted unbroken e.subject.header (joined e.subject.number (events most p)) ≡ None))
     (events most p)
 
 -- a and b give the same answer at the end of a header

@@ -2,6 +2,7 @@
 -- which they end (meaning). At the end of a header the correspondent is asked; at the end of either
 -- it is told (giop_message, HeaderEnds).
 use Rattle.std.specs.Prelude.{ℕ, List, [], ◌∷◌, ◌++◌, length, Option, Some, None, is_none, ◌&&◌, nat_lt, if◌then◌else◌}
+use Rattle.giop_message.specs.Phases.{unbroken}
 use Rattle.giop_message.specs.HeaderEnds.{HeaderEnd, header_ends}
 use Rattle.giop_stream.specs.Rules.{Rules}
 use Rattle.giop_stream.specs.Framing.{Message, limit, cut}
@@ -13,7 +14,7 @@ use Rattle.giop_stream.specs.EngineState.{owner_of_next}
 -- none if the message is over
 abbrev pub run_header_ends : MessageKey → Option (List ℕ) → List ℕ → List HeaderEnd
 run_header_ends w None octets = []
-run_header_ends w (Some s) octets = header_ends w.number w.header s octets
+run_header_ends w (Some s) octets = header_ends unbroken w.number w.header s octets
 
 -- the same for the message that the octets belong to
 abbrev pub owner_header_ends : Tracked → Option MessageKey → List ℕ → List HeaderEnd

@@ -4,6 +4,7 @@ use Rattle.std.specs.Prelude.{ℕ, zero, suc, Bool, true, false, ◌&&◌, ◌||
 use Rattle.giop_checkpoint.specs.declared.fault.StreamFault.{StreamFault}
 use Rattle.giop_stream.specs.declared.fault.FramingFault.{FramingFault}
 use Rattle.giop_stream.specs.Framing.{cut}
+use Rattle.giop_message.specs.Phases.{unbroken}
 use Rattle.giop_message.specs.MessageReader.{LineClass, Value, Call, Rest, Fault, End, MessageReader, is_last}
 use Rattle.giop_stream.specs.Rules.{Rules}
 use Rattle.giop_stream.specs.Events.{Event, EventKind, Begins, Takes, Opens, Continues, Cancelled, Faults, Closes, events, joined}
@@ -72,13 +73,14 @@ unfoldable pub lines_of_event : MessageReader → Event → List ℕ → List �
 lines_of_event R e so_far all Begins = line e (Started e.subject.header) ∷ []
 lines_of_event R e so_far all (Takes x) =
     map (λ r. line e (Said r.line_class r.text))
-    (filter (λ r. r.at == suc (length so_far)) (R.reads e.subject.number e.subject.header all))
+    (filter (λ r. r.at == suc (length so_far))
+    (R.reads unbroken e.subject.number e.subject.header all))
 lines_of_event R e so_far all (Opens id) = []
 lines_of_event R e so_far all (Continues i) = line e (ContinuesMessage i) ∷ []
 lines_of_event R e so_far all (Cancelled j) = line e (CancelledBy j) ∷ []
 lines_of_event R e so_far all (Faults fault) = line e (Faulted fault) ∷ []
 lines_of_event R e so_far all Closes = map (λ l. line e (Said l.0 l.1))
-    (R.closes e.subject.number e.subject.header so_far)
+    (R.closes unbroken e.subject.number e.subject.header so_far)
 
 -- The lines of these events. The events before them are `past`, and those of the whole stream are
 -- `all`.

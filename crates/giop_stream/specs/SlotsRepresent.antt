@@ -2,6 +2,7 @@
 use Rattle.std.specs.Prelude.{◌≡◌, ◌<◌, ℕ, cond, List, [], ◌∷◌, Option, Some, None, slice_get}
 use Rattle.std.specs.List.{AllByRecursion as Each}
 use Rattle.giop_sig.specs.Table.{Table}
+use Rattle.giop_message.specs.Phases.{unbroken}
 use Rattle.giop_message.specs.declared.message.Message.{Message as CodeMessage}
 use Rattle.giop_message.specs.Signatures.{Answers}
 use Rattle.giop_message.specs.MessageState.{Follows, Fits, reach}
@@ -29,7 +30,7 @@ with_message slot message = open_entry slot.key slot.value.number slot.value.hea
 -- The code's message has read these octets. If the message is over, there is none.
 abbrev pub RepresentsMessage : Table → Answers → Option CodeMessage → MessageKey → Option (List ℕ) →
     Type 0
-RepresentsMessage C l (Some m) w (Some xs) = Follows C l w.number w.header m xs
+RepresentsMessage C l (Some m) w (Some xs) = Follows C l unbroken w.number w.header m xs
 RepresentsMessage C l None w None = Unit {0}
 RepresentsMessage C l (Some m) w None = ⊥
 RepresentsMessage C l None w (Some xs) = ⊥

@@ -3,6 +3,7 @@
 
 ghost use Rattle.std.specs.Prelude.{◌≡◌, ℕ, List, ◌+◌, ◌<◌, ◌≤◌, ◌^◌, ◌*◌, length, drop, true, false, Option, Some, None, IfOk, IfErr, IfSome, IsSome, IsSomeAnd, [], ◌∷◌, ◌++◌, flat_map, replicate};
 ghost use Rattle.giop_sig.specs.Table.{Table};
+ghost use Rattle.giop_message.specs.Phases.{unbroken};
 ghost use Rattle.giop_message.specs.MessageState.{Follows};
 ghost use Rattle.giop_message.specs.Signatures.{RequestTable, Answers, by_list};
 ghost use Rattle.giop_message.specs.Stored.{Stored};
@@ -347,8 +348,9 @@ fn message_of(catalogue: &Catalogue, octets: u64, first: &FirstRecord<'_>) -> Op
     ensures again { (m : CodeMessage) (l : Answers) (n : ℕ) (h xs : List ℕ) →
         IsReady catalogue.now (octets + 1) (Some m) →
         m.number ≡ first.now.record.number → m.header ≡ first.now.record.header →
-        Stored m first.now.message first.now.frames.now → Follows catalogue.now l n h m xs →
-        IsSomeAnd result (λ e. Follows catalogue.now l n h e xs) }
+        Stored m first.now.message first.now.frames.now → Follows catalogue.now l unbroken n h m xs
+        →
+        IsSomeAnd result (λ e. Follows catalogue.now l unbroken n h e xs) }
 {
     let Some(message) = Message::restore(
         catalogue,
@@ -359,6 +361,9 @@ fn message_of(catalogue: &Catalogue, octets: u64, first: &FirstRecord<'_>) -> Op
     ) else {
         return None;
     };
+    if !message.is_unbroken() {
+        return None;
+    }
     if message.reach() <= octets {
         Some(message)
     } else {

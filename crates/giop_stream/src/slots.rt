@@ -3,6 +3,7 @@
 ghost use Rattle.std.specs.Prelude.{◌≡◌, ◌+◌, ◌<◌, ◌≤◌, ◌^◌, ℕ, [], length, take, true, Bool, Option, Some, None, OnOk, IfOk, if◌then◌else◌};
 ghost use Rattle.giop_print.specs.Output.{Writes};
 ghost use Rattle.giop_sig.specs.Table.{Table};
+ghost use Rattle.giop_message.specs.Phases.{unbroken};
 ghost use Rattle.giop_message.specs.Signatures.{Answers};
 ghost use Rattle.giop_message.specs.MessageState.{AreKnown};
 ghost use Rattle.giop_stream.specs.Events.{MessageKey, Faults, Closes};
@@ -380,7 +381,8 @@ impl Slots {
     pub fn request_id(&self) -> u32
         ensures { (C : Table) (l : Answers) (w : MessageKey) (xs : List ℕ) (i : ℕ) →
             RepresentsMessage C l (current_of self.now.owner) w (Some xs) →
-            first_request_id (message_lines (message (signatures_of C (l w.number)) w.header xs))
+            first_request_id (message_lines (message (signatures_of C (l w.number) unbroken)
+            w.header xs))
             ≡ Some i → result ≡ i }
     {
         match self.current() {

@@ -1,7 +1,7 @@
 -- If one part of a value has begun, the value fits its type.
 use Rattle.std.proofs.Common.{ℕ, zero, suc, ◌<◌, [], ◌∷◌, None, arith, refl}
 use Rattle.giop_sig.specs.Fits.{IsFit}
-use Rattle.giop_sig.specs.Types.{Ty, Struct, Sequence, Array, part_of}
+use Rattle.giop_sig.specs.Types.{Ty, Struct, Sequence, Array, Recursive, part_of}
 use Rattle.giop_decode.specs.ReadResult.{Leaf}
 use Rattle.giop_decode.specs.Fits.{FitsIn, HasParts}
 use Rattle.giop_decode.specs.Transitions.{part_in, IsWithin}
@@ -27,6 +27,11 @@ one_part d (Array n T) leaf kind fit fits = (
 )
 one_part d (Sequence bound T) leaf kind fit fits = (
   fit,
+  (record { same = refl; kind = kind; below = omega arith }, fits),
+  (tt, (λ is. is), λ is. absurd is),
+)
+one_part d (Recursive bound room T) leaf kind fit fits = (
+  (λ is. fit),
   (record { same = refl; kind = kind; below = omega arith }, fits),
   (tt, (λ is. is), λ is. absurd is),
 )

@@ -16,12 +16,13 @@ use Rattle.giop_decode.specs.declared.leaf.Leaf.{Leaf as Innermost}
 use Rattle.giop_decode.specs.declared.leaf.Leaf.TheVariants as innermost
 use Rattle.giop_decode.specs.declared.notes.Buffer.TheVariants as buffers
 use Rattle.giop_decode.specs.declared.notes.Last.TheVariants as lasts
-use Rattle.giop_decode.specs.ReadResult.{Leaf}
+use Rattle.giop_decode.specs.ReadResult.{plain, Leaf}
 use Rattle.giop_decode.specs.Fits.{FitsIn, HasParts}
 use Rattle.giop_decode.specs.Transitions.{part_in, leaf_of, IsWithin}
 use Rattle.giop_decode.specs.DecoderState as decoder
 use Rattle.giop_decode.proofs.ReadingLaws.{fits_depth, within_in_room}
 use Rattle.giop_decode.specs.Stored as decoders
+use Rattle.giop_message.specs.Phases.{unbroken}
 use Rattle.giop_message.specs.declared.message.Message.{Message}
 use Rattle.giop_message.specs.declared.part.Part.TheVariants as parts
 use Rattle.giop_message.specs.declared.part.Rest.{Rest}
@@ -87,9 +88,11 @@ first = record {
   header = header 40;
   id = Some 5;
   at = 52;
+  lacks = 0;
   part = parts.Typed sections.Body;
   decoder = in_body;
   begun = omega arith;
+  few = omega arith;
 }
 
 first_entry : Entry
@@ -116,9 +119,11 @@ second = record {
   header = header 36;
   id = Some 6;
   at = 48;
+  lacks = 0;
   part = parts.Rest nothing;
   decoder = in_body;
   begun = omega arith;
+  few = omega arith;
 }
 
 second_entry : Entry
@@ -282,7 +287,7 @@ some_octets : List ℕ
 some_octets = 1 ∷ 2 ∷ 3 ∷ 4 ∷ []
 
 first_reads :
-    decoder.Reads bigs (tree bigs parameters) orders.Big 48 1 roots.Body in_body some_octets
+    decoder.Reads bigs (tree bigs parameters) (plain orders.Big) 48 1 roots.Body in_body some_octets
 unfolding one_message told_with kept_messages some_octets
 first_reads = record {
   lines = [];
@@ -295,25 +300,25 @@ first_reads = record {
     expects_reply = refl;
     name = (refl, refl, omega arith, refl);
   };
-  same_order = refl;
   same_message = refl;
   same_root = refl;
-  offset = (refl, (tt, tt));
+  offset = record { order = refl; phase = refl; even = λ k. refl; outer = (tt, tt) };
 }
 
 abbrev said_of : Reading → Said
 said_of m = record { lines = message_lines m; marks = message_marks m }
 
-first_follows : Follows bigs (by_list []) 1 (header 40) first (first_front ++ some_octets)
+first_follows : Follows bigs (by_list []) unbroken 1 (header 40) first (first_front ++ some_octets)
 unfolding one_message told_with kept_messages first_front some_octets
 first_follows = record {
   same_number = refl;
   same_header = refl;
   id = refl;
   at = refl;
+  counted = λ k. refl;
   stands = record {
     T = tree bigs parameters;
-    before = said_of (message (signatures_of bigs (by_list [] 1)) (header 40) first_front);
+    before = said_of (message (signatures_of bigs (by_list [] 1) unbroken) (header 40) first_front);
     front = first_front;
     octets = some_octets;
     since = refl;
@@ -323,15 +328,16 @@ first_follows = record {
   };
 }
 
-second_follows : Follows bigs (by_list []) 2 (header 36) second second_octets
+second_follows : Follows bigs (by_list []) unbroken 2 (header 36) second second_octets
 unfolding one_message told_with kept_messages second_octets
 second_follows = record {
   same_number = refl;
   same_header = refl;
   id = refl;
   at = refl;
+  counted = λ k. refl;
   stands = (
-    said_of (message (signatures_of bigs (by_list [] 2)) (header 36) second_octets),
+    said_of (message (signatures_of bigs (by_list [] 2) unbroken) (header 36) second_octets),
     refl,
   );
 }
@@ -387,7 +393,7 @@ first_fits = record {
   link = (refl, is_number);
   fit = fits_one.0;
   here = 52;
-  stands = (refl, (tt, tt));
+  stands = (tt, tt);
   fits = fits_one.1;
   ahead = (tt, tt);
   inside = refl;

@@ -58,7 +58,16 @@ none_declared = record {
     version = refl;
     words = tt;
   };
-  valid = record { known = tt; distinct = tt; some = tt; labels = tt; shallow = tt; within = tt };
+  valid = record {
+    declared = refl;
+    known = tt;
+    distinct = tt;
+    some = tt;
+    labels = tt;
+    shallow =
+        tt;
+    within = tt;
+  };
   table = refl;
 }
 
@@ -73,6 +82,7 @@ put_declared = record {
     words = ((tt, tt, ((tt, refl, tt), tt), tt), tt);
   };
   valid = record {
+    declared = refl;
     known = ((tt, tt, ((tt, tt, tt), tt), tt), tt);
     distinct = ((tt, λ old. refl, ((tt, refl, tt), tt), refl), tt);
     some = ((tt, tt, ((tt, tt, tt), tt), tt), tt);
@@ -98,6 +108,7 @@ bigs_declared = record {
     words = ((tt, tt, ((tt, refl, tt), tt), tt), ((tt, tt, tt, tt), tt));
   };
   valid = record {
+    declared = refl;
     known = ((tt, tt, ((tt, tt, tt), tt), tt), ((tt, tt, tt, tt), tt));
     distinct = ((tt, λ old. refl, ((tt, refl, tt), tt), refl), ((tt, λ old. refl, tt, refl), tt));
     some = ((tt, tt, ((tt, tt, tt), tt), tt), ((tt, tt, tt, tt), tt));
@@ -133,6 +144,7 @@ asks_declared = record {
     );
   };
   valid = record {
+    declared = refl;
     known = (
       (tt, tt, ((tt, tt, tt), tt)),
       ((tt, tt, ((tt, tt, tt), ((tt, tt, tt), tt)), tt), ((tt, tt, tt, tt), tt)),

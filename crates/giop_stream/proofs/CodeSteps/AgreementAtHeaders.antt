@@ -13,6 +13,7 @@ use Rattle.giop_sig.specs.Builtin.{builtin_types, builtin_table}
 use Rattle.giop_sig.specs.HeaderTypes.{header_type}
 use Rattle.giop_decode.specs.Pieces.{number, block}
 use Rattle.giop_cdr.specs.Alignment.{padding}
+use Rattle.giop_message.specs.Phases.{unbroken}
 use Rattle.giop_message.specs.Headers.{minor, kind}
 use Rattle.giop_message.specs.Signatures.{Answer, Answers, signatures_of}
 use Rattle.giop_message.specs.Messages.{section_then, rest_in, rest, of_header, message, message_marks}
@@ -56,7 +57,7 @@ use Rattle.giop_stream.proofs.CodeSteps.HeaderEndSteps.{at_free, from_append}
 
 abbrev Unended : List ℕ → Option Ty → Type 0
 Unended header found = noted_in (message_marks (of_header
-    (signatures_of builtin_table (λ id. None)) header found 12 [])) ≡ None
+    (signatures_of builtin_table (λ id. None) unbroken) header found 12 [])) ≡ None
 
 in_1_0 : (k : ℕ) (header : List ℕ) → Unended header (header_type 1 0 k)
 unfolding tree_at builtin_types number padding block of_header section_then rest rest_in
@@ -87,7 +88,7 @@ none_at_first (suc zero) k header = in_1_1 k header
 none_at_first (suc (suc zero)) k header = in_1_2 k header
 none_at_first (suc (suc (suc m))) k header = in_others m k header
 
-not_noted : (header : List ℕ) → header_noted header [] ≡ None
+not_noted : (header : List ℕ) → header_noted unbroken header [] ≡ None
 unfolding header_noted marks message signatures_of
 not_noted header = none_at_first (minor header) (kind header) header
 
@@ -168,11 +169,11 @@ module _ (C : Table) (a b : Answers) (most : ℕ) where
 
   -- for a message with these octets, the two answers agree, or its header has not ended
   abbrev Agree : MessageKey → List ℕ → Type 0
-  Agree w xs = (a w.number ≡ b w.number) ⊎ (header_noted w.header xs ≡ None)
+  Agree w xs = (a w.number ≡ b w.number) ⊎ (header_noted unbroken w.header xs ≡ None)
 
   agree_before : (w : MessageKey) (xs more : List ℕ) → Agree w (xs ++ more) → Agree w xs
   agree_before w xs more (inl k) = inl k
-  agree_before w xs more (inr k) = inr (header_noted_before w.header xs more k)
+  agree_before w xs more (inr k) = inr (header_noted_before unbroken w.header xs more k)
 
   -- the same for each message whose octets are kept, after more octets come
   abbrev Fine : OctetsByNumber → (ℕ → List ℕ) → MessageKey → Type 0
@@ -376,7 +377,7 @@ module _ (C : Table) (a b : Answers) (most : ℕ) where
         ∙ ap (given i x) (owner_next (open_after most p) was x))
 
     here : (w : MessageKey) (xs : List ℕ) → Owner ≡ Some w → octets_of A p w.number ≡ Some xs →
-        header_ends_at A p x ≡ header_ends w.number w.header xs (x ∷ [])
+        header_ends_at A p x ≡ header_ends unbroken w.number w.header xs (x ∷ [])
     unfolding tracked_after
     here w xs owner known = at_free A p x free room ∙ rw (current, owner, known) refl
 
@@ -384,7 +385,7 @@ module _ (C : Table) (a b : Answers) (most : ℕ) where
         octets_of A p w.number ≡ Some xs → Agree w xs → Agree w (xs ++ x ∷ [])
     own_alike w xs owner known (inl k) = inl k
     own_alike w xs owner known (inr k) =
-        elim (header_ended (AnswersAlike a b) w.number w.header xs (x ∷ []) k
+        elim (header_ended (AnswersAlike a b) unbroken w.number w.header xs (x ∷ []) k
         (subst (Each (AnswersAlike a b)) (here w xs owner known) ends)) [
           | inl none ↦ inr none
           | inr same ↦ inl same.1
@@ -453,7 +454,8 @@ module _ (C : Table) (a b : Answers) (most : ℕ) where
         λ xs known. inr (let both : Some [] ≡ Some xs = sym unknown ∙ known in
             let empty : [] ≡ xs = cc in
             rw (header_joined most m.number (open_after most p) m none, append-nil xs)
-            (subst (λ (z : List ℕ). header_noted m.header z ≡ None) empty (not_noted m.header))),
+            (subst (λ (z : List ℕ). header_noted unbroken m.header z ≡ None) empty
+            (not_noted m.header))),
       )
 
   -- of an octet of the message's payload
@@ -515,7 +517,8 @@ module _ (C : Table) (a b : Answers) (most : ℕ) where
           rw k.0 (ap length (append-nil (cut p).whole)) in
           let number = f.number_is in
           let both = begun_alike p f.m h k.1
-          ((sound A (is_causal (λ number. signatures_of C (a number))) (in_turn C a) p).unknown
+          ((sound A (is_causal (λ phase number. signatures_of C (a number) phase)) (in_turn C a)
+          p).unknown
           f.m.number (omega (arith, count, number))) in
           by both.0 both.1
       go (inr k) =
@@ -530,8 +533,8 @@ module _ (C : Table) (a b : Answers) (most : ℕ) where
       Alike (p ++ x ∷ [])
   unfolding messages stopped_at of_parts octet_of
   step p x h ends =
-      let ca = is_causal (λ number. signatures_of C (a number)) in
-      let cb = is_causal (λ number. signatures_of C (b number)) in
+      let ca = is_causal (λ phase number. signatures_of C (a number) phase) in
+      let cb = is_causal (λ phase number. signatures_of C (b number) phase) in
       go (octet_of (cut p) (length p) x) refl
       (then_is A ca (in_turn C a) p x (sound A ca (in_turn C a) p))
       (then_is B cb (in_turn C b) p x (sound B cb (in_turn C b) p))
@@ -606,17 +609,19 @@ module _ (C : Table) (a b : Answers) (most : ℕ) where
   -- a stream has the same closing and totals by both answers
   pub closing_alike : (p : List ℕ) → AgreeAtHeaders C most p a b → closing A p ≡ closing B p
   closing_alike p h =
-      finish_is A (is_causal (λ number. signatures_of C (a number))) (in_turn C a)
-      (is_ending (λ number. signatures_of C (a number))) p
+      finish_is A (is_causal (λ phase number. signatures_of C (a number) phase)) (in_turn C a)
+      (is_ending (λ phase number. signatures_of C (a number) phase)) p
       ∙ (ap finish (state_alike p h)
-      ∙ sym (finish_is B (is_causal (λ number. signatures_of C (b number))) (in_turn C b)
-      (is_ending (λ number. signatures_of C (b number))) p))
+      ∙ sym (finish_is B (is_causal (λ phase number. signatures_of C (b number) phase))
+      (in_turn C b)
+      (is_ending (λ phase number. signatures_of C (b number) phase)) p))
 
   pub final_alike : (p : List ℕ) → AgreeAtHeaders C most p a b → final A p ≡ final B p
   final_alike p h =
-      final_is A (is_causal (λ number. signatures_of C (a number))) (in_turn C a) p
+      final_is A (is_causal (λ phase number. signatures_of C (a number) phase)) (in_turn C a) p
       ∙ (ap final_totals (state_alike p h)
-      ∙ sym (final_is B (is_causal (λ number. signatures_of C (b number))) (in_turn C b) p))
+      ∙ sym (final_is B (is_causal (λ phase number. signatures_of C (b number) phase)) (in_turn C b)
+      p))
 
   -- the same headers end in the next octets by both answers
   current_alike : (p octets : List ℕ) (current : Option Message) → Alike p →

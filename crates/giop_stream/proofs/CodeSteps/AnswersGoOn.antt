@@ -6,6 +6,7 @@ use Rattle.std.specs.List.{AllByRecursion as Each}
 use Rattle.std.proofs.lemmas.Bool.{cases_lt, eq-eqb, eqb-true}
 use Rattle.giop_sig.specs.Table.{Table}
 use Rattle.giop_decode.specs.Noted.{Noted}
+use Rattle.giop_message.specs.Phases.{unbroken}
 use Rattle.giop_message.specs.Signatures.{Answer, Answers, signatures_of}
 use Rattle.giop_message.specs.HeaderEnds.{HeaderEnd, CallEvent, Header_end, Exception_end, header_noted, call_event, after_event, AgreesAtEnds}
 use Rattle.giop_message.proofs.MessageLaws.{header_noted_before, one_octet, is_causal}
@@ -50,15 +51,16 @@ module _ (C : Table) (most : ℕ) where
   -- two answers agree for this message, or its header has not ended
   abbrev AgreeAt : List ℕ → Answers → Answers → MessageKey → Type 0
   AgreeAt p f g w = (f w.number ≡ g w.number)
-      ⊎ (header_noted w.header (joined w.number (events most p)) ≡ None)
+      ⊎ (header_noted unbroken w.header (joined w.number (events most p)) ≡ None)
 
   -- a longer stream has more events
   more_events : (a : Answers) (p : List ℕ) (x : ℕ) → (more : List Event)
       × (events most (p ++ x ∷ []) ≡ events most p ++ more)
   unfolding events stopped_at of_parts messages
   more_events a p x = go (octet_of (cut p) (length p) x)
-      (then_is (R a) (is_causal (λ number. signatures_of C (a number))) (in_turn C a) p x
-      (sound (R a) (is_causal (λ number. signatures_of C (a number))) (in_turn C a) p))
+      (then_is (R a) (is_causal (λ phase number. signatures_of C (a number) phase)) (in_turn C a)
+      p x
+      (sound (R a) (is_causal (λ phase number. signatures_of C (a number) phase)) (in_turn C a) p))
     where
       none : messages (cut (p ++ x ∷ [])) ≡ messages (cut p) → (more : List Event)
           × (events most (p ++ x ∷ []) ≡ events most p ++ more)
@@ -120,8 +122,8 @@ module _ (C : Table) (most : ℕ) where
     current : (cut p).current ≡ Some m
     owner : owner_of_next (open_after most p) m ≡ Some w
     known : octets_of (R a) p w.number ≡ Some s
-    before : header_noted w.header s ≡ None
-    now : header_noted w.header (s ++ x ∷ []) ≡ Some n
+    before : header_noted unbroken w.header s ≡ None
+    now : header_noted unbroken w.header (s ++ x ∷ []) ≡ Some n
     ends : header_ends_at (R a) p x ≡ Header_end w.number w.header n ∷ []
 
   -- the name of an exception that ends in the next octet
@@ -142,7 +144,7 @@ module _ (C : Table) (most : ℕ) where
     joined_then : joined h.w.number (events most (p ++ x ∷ [])) ≡ h.s ++ x ∷ []
     unfolding limit
     joined_then =
-        let causal = is_causal (λ number. signatures_of C (a number)) in
+        let causal = is_causal (λ phase number. signatures_of C (a number) phase) in
         let room = h.room in
         let grown = paid_events (R a) causal (in_turn C a) p x (sound (R a) causal (in_turn C a) p)
         (cut p).whole h.m (cut p).held
@@ -192,7 +194,8 @@ module _ (C : Table) (most : ℕ) where
             ≡ Some e.subject.header → (b : Bool) → (e.subject.number == h.w.number) ≡ b
             → (a e.subject.number ≡ (if e.subject.number == h.w.number then answer else a
             e.subject.number))
-            ⊎ (header_noted e.subject.header (joined e.subject.number (events most p)) ≡ None)
+            ⊎ (header_noted unbroken e.subject.header (joined e.subject.number (events most p)) ≡
+            None)
         go e k false is = inl (rw is refl)
         go e k true is = search (arith, eqb-true, header_of_number, of_w, octets_are)
 

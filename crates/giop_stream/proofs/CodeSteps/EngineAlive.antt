@@ -136,7 +136,10 @@ alive R causal laws p = (kept R causal laws p).alive
 -- except an end.
 
 mute : MessageReader
-mute = record { reads = λ number header xs. []; closes = λ number header xs. (End, []) ∷ [] }
+mute = record {
+  reads = λ phase number header xs. [];
+  closes = λ phase number header xs. (End, []) ∷ [];
+}
 
 abbrev mute_rules : ℕ → Rules
 mute_rules most = record { reading = mute; most = most }

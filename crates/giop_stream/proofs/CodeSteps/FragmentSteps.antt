@@ -9,6 +9,7 @@ use Rattle.giop_cdr.specs.Numbers.{num}
 use Rattle.giop_print.specs.Output.{OutLog, Writes}
 use Rattle.giop_sig.specs.Table.{Table}
 use Rattle.giop_decode.specs.Noted.{Noted}
+use Rattle.giop_message.specs.Phases.{unbroken}
 use Rattle.giop_message.specs.Headers.{minor, kind, order, size, is_fragment}
 use Rattle.giop_message.specs.MessageReader.{IsCausal}
 use Rattle.giop_message.specs.Signatures.{Answers}
@@ -87,7 +88,7 @@ fragment_untold : (C : Table) (w : MessageKey) (o : Option (List ℕ)) (octets :
     kind w.header ≡ 7 → AreUntold C (run_header_ends w o octets)
 fragment_untold C w None octets seven = tt
 fragment_untold C w (Some xs) octets seven =
-    bodiless_ends (λ e. call_event C e ≡ None) w.number w.header seven
+    bodiless_ends (λ e. call_event C e ≡ None) unbroken w.number w.header seven
     (λ n. fragment_tells C w.number w.header n seven) xs octets
 
 -- ---- The octets of a request id before the last one.

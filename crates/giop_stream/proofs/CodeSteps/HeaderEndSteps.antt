@@ -7,6 +7,7 @@ use Rattle.std.proofs.lemmas.List.{length_push}
 use Rattle.giop_checkpoint.specs.declared.fault.StreamFault.{StreamFault}
 use Rattle.giop_sig.specs.Table.{Table}
 use Rattle.giop_sig.specs.RequestList.{kept_operation}
+use Rattle.giop_message.specs.Phases.{unbroken}
 use Rattle.giop_message.specs.declared.message.Message.{Message as CodeMessage}
 use Rattle.giop_message.specs.Signatures.{RequestTable, Answer, Answers, by_list, signatures_of}
 use Rattle.giop_message.specs.Messages.{message, stage_of}
@@ -84,8 +85,8 @@ none_ends P C a w (Some s) k f = absurd k
 -- ends
 pub given_ends : (P : (List ℕ → List HeaderEnd) → Type 0) (C : Table) (a : Answers)
     (m : CodeMessage) (w : MessageKey) (o : Option (List ℕ)) → RepresentsMessage C a (Some m) w o →
-    ((s : List ℕ) → o ≡ Some s → Follows C a w.number w.header m s →
-    P (header_ends w.number w.header s)) → P (run_header_ends w o)
+    ((s : List ℕ) → o ≡ Some s → Follows C a unbroken w.number w.header m s →
+    P (header_ends unbroken w.number w.header s)) → P (run_header_ends w o)
 given_ends P C a m w (Some s) k f = f s refl k
 given_ends P C a m w None k f = absurd k
 
@@ -120,22 +121,24 @@ at_free R p x free room = search (arith, lt-ltb)
 module _ (C : Table) (a : Answers) where
   -- if an octet faults the message, the message is over
   faulted_over : (w : MessageKey) (s : List ℕ) (x : ℕ) → Faulty C a w s x ≡ true
-      → is_over (stage_of (message (signatures_of C (a w.number)) w.header (s ++ x ∷ []))) ≡ true
+      → is_over (stage_of (message (signatures_of C (a w.number) unbroken) w.header (s ++ x ∷ [])))
+      ≡ true
   faulted_over w s x e = search (arith, over_stays, octet_over)
 
   ends_on : (w : MessageKey) (s : List ℕ) (x : ℕ) (q : List ℕ) (at : ℕ) →
-      header_ends w.number w.header s (x ∷ q)
-      ≡ header_ends w.number w.header s (x ∷ [])
+      header_ends unbroken w.number w.header s (x ∷ q)
+      ≡ header_ends unbroken w.number w.header s (x ∷ [])
       ++ run_header_ends w (octets_then (message_reader C a) (event at w (Takes x)) (Some s)) q
   ends_on w s x q at =
-      header_ends_both w.number w.header s (x ∷ []) q
-      ∙ ap (λ (z : List HeaderEnd). header_ends w.number w.header s (x ∷ []) ++ z)
+      header_ends_both unbroken w.number w.header s (x ∷ []) q
+      ∙ ap (λ (z : List HeaderEnd). header_ends unbroken w.number w.header s (x ∷ []) ++ z)
       (go (Faulty C a w s x) refl)
     where
-      go : (b : Bool) → Faulty C a w s x ≡ b → header_ends w.number w.header (s ++ x ∷ []) q
+      go : (b : Bool) → Faulty C a w s x ≡ b → header_ends unbroken w.number w.header (s ++ x ∷ [])
+          q
           ≡ run_header_ends w (octets_then (message_reader C a) (event at w (Takes x)) (Some s)) q
       go true e =
-          over_none C (a w.number) w.number w.header (s ++ x ∷ []) q (faulted_over w s x e)
+          over_none C (a w.number) unbroken w.number w.header (s ++ x ∷ []) q (faulted_over w s x e)
           ∙ sym (ap (λ o. run_header_ends w o q)
           (then_by C a at w s x ∙ ap (λ (b : Bool). if b then None else Some (s ++ x ∷ [])) e))
       go false e = search (arith, then_by)

@@ -56,7 +56,8 @@ reached_on C l most s q octets r =
       stream = r.stream ++ q;
       octets = All-append (λ x. x < 256) r.stream q r.octets octets;
       held = ap (λ (t : State). run_state R t q) r.held
-          ∙ sym (run_holds R (is_causal (λ number. signatures_of C (l number))) (in_turn C l)
+          ∙ sym (run_holds R (is_causal (λ phase number. signatures_of C (l number) phase))
+          (in_turn C l)
           r.stream q);
     }
 

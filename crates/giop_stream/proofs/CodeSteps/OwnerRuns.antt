@@ -7,6 +7,7 @@ use Rattle.std.proofs.lemmas.List.{take-take}
 use Rattle.giop_print.specs.Output.{OutLog, Wrote, WroteFront, Writes}
 use Rattle.giop_print.proofs.Writing.{writes_failed}
 use Rattle.giop_sig.specs.Table.{Table}
+use Rattle.giop_message.specs.Phases.{unbroken}
 use Rattle.giop_message.specs.declared.message.Message.{Message}
 use Rattle.giop_message.specs.Signatures.{Answers, signatures_of}
 use Rattle.giop_message.specs.DueOctets.{TakesFront, StaysUndue}
@@ -30,14 +31,14 @@ if_err P (Err e) failed = tt
 
 module _ (C : Table) (l : Answers) (w : MessageKey) (before : ℕ) (octets : List ℕ) where
   abbrev Due : List ℕ → List ℕ → List ℕ
-  Due s xs = due_text (signatures_of C (l w.number)) w.number before w.header s xs
+  Due s xs = due_text (signatures_of C (l w.number) unbroken) w.number before w.header s xs
 
   abbrev Ends : List ℕ → List ℕ → List HeaderEnd
-  Ends s = header_ends w.number w.header s
+  Ends s = header_ends unbroken w.number w.header s
 
   -- P holds of each list of octets that this message follows
   abbrev Given : Message → Option (List ℕ) → (List ℕ → Type 0) → Type 0
-  Given m o P = (s : List ℕ) → o ≡ Some s → Follows C l w.number w.header m s → P s
+  Given m o P = (s : List ℕ) → o ≡ Some s → Follows C l unbroken w.number w.header m s → P s
 
   -- the message is over
   module _ {E : Type 0} (o : Option (List ℕ)) (k : RepresentsMessage C l None w o)
@@ -99,7 +100,7 @@ module _ (C : Table) (l : Answers) (w : MessageKey) (before : ℕ) (octets : Lis
         RepresentsMessage C l (Some m) w o →
         Given m o (λ s. TakesFront {E = E} (λ (went : ℕ × Bool). went.0) (Before (Ends s))
         (λ xs. Wrote a b (Due s xs)) (Ok (n, false)) octets) →
-        Given m o (λ s. Follows C l w.number w.header m' (s ++ take n octets)) →
+        Given m o (λ s. Follows C l unbroken w.number w.header m' (s ++ take n octets)) →
         TakesFront {E = E} (λ (r : ℕ × Bool). r.0) (Before (run_header_ends w o))
         (λ xs. DoesPart {E = E} C l (λ (r : ℕ × Bool). one_if r.1) (Ok (n, false)) a b (Some m') w
         (run_part C l before w o xs)) (Ok (n, false)) octets
@@ -120,13 +121,15 @@ module _ (C : Table) (l : Answers) (w : MessageKey) (before : ℕ) (octets : Lis
     -- One of the octets faults the message: then the message takes all of them.
     module _ {St : Type 0} (due : St → Bool) (notified : St → CallEvent → St) (st now : St) where
       module _ (s : List ℕ) (i : ℕ)
-          (found : FaultedAt (signatures_of C (l w.number)) w.header s octets i) where
+          (found : FaultedAt (signatures_of C (l w.number) unbroken) w.header s octets i) where
         over_ends : (k : ℕ) → i ≤ k → Ends s (take k octets) ≡ Ends s (take i octets)
         over_ends k later =
             let same = take-take i k octets later in
-            let over = subst (λ z. is_over (stage_of (message (signatures_of C (l w.number))
+            let over = subst (λ z. is_over (stage_of
+            (message (signatures_of C (l w.number) unbroken)
             w.header (s ++ z))) ≡ true) (sym same) found.here in
-            ends_over w.number w.header s (take k octets) i C (l w.number) over ∙ ap (Ends s) same
+            ends_over unbroken w.number w.header s (take k octets) i C (l w.number) over ∙ ap
+            (Ends s) same
 
         over_fronts : ((k : ℕ) → k < i → StaysUndue due notified C st (Ends s) (take k octets)) →
             now ≡ after_ends notified C st (Ends s (take i octets)) →
@@ -139,7 +142,7 @@ module _ (C : Table) (l : Answers) (w : MessageKey) (before : ℕ) (octets : Lis
             go (inr later) calm = rw (over_ends k later, ← told) (still calm)
 
       pub fault_told : (n : ℕ) (o : Option (List ℕ)) → RepresentsMessage C l (Some m) w o →
-          Given m o (λ s. FaultedAt (signatures_of C (l w.number)) w.header s octets n) →
+          Given m o (λ s. FaultedAt (signatures_of C (l w.number) unbroken) w.header s octets n) →
           Given m o (λ s. now ≡ after_ends notified C st (Ends s (take n octets))) →
           now ≡ after_ends notified C st (run_header_ends w o (take (length octets) octets))
       fault_told n None k found told = absurd k
@@ -152,7 +155,7 @@ module _ (C : Table) (l : Answers) (w : MessageKey) (before : ℕ) (octets : Lis
           Given m o (λ s. TakesFront {E = E} (λ (went : ℕ × Bool). went.0) (StaysUndue due
           notified C st (Ends s))
           (λ xs. Wrote a b (Due s xs)) (Ok (n, true)) octets) →
-          Given m o (λ s. FaultedAt (signatures_of C (l w.number)) w.header s octets n) →
+          Given m o (λ s. FaultedAt (signatures_of C (l w.number) unbroken) w.header s octets n) →
           Given m o (λ s. now ≡ after_ends notified C st (Ends s (take n octets))) →
           (due st ≡ false → due now ≡ false) →
           TakesFront {E = E} (λ (r : ℕ × Bool). r.0) (StaysUndue due notified C st

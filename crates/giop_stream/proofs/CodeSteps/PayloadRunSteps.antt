@@ -109,7 +109,8 @@ module _ (C : Table) (l : Answers) where
     at_hand : CurrentFits (length p) (cut p) m
     at_hand =
         if_some (CurrentFits (length p) (cut p)) (cut p).current m h.current
-        ((sound (rules_by C l most) (is_causal (λ number. signatures_of C (l number))) (in_turn C l)
+        ((sound (rules_by C l most) (is_causal (λ phase number. signatures_of C (l number) phase))
+        (in_turn C l)
         p).fits h.free).current
 
     -- the octet's effect on the message to which it belongs
@@ -136,11 +137,12 @@ module _ (C : Table) (l : Answers) where
     pub octet_adds : Adds (rules_by C l most) p (p ++ x ∷ [])
         (end_message (cut p).whole (with_octet m x)) taken.lines taken.tracked
     octet_adds =
-        let so = sound (rules_by C l most) (is_causal (λ number. signatures_of C (l number)))
+        let so = sound (rules_by C l most) (is_causal
+        (λ phase number. signatures_of C (l number) phase))
         (in_turn C l) p in
         let room = le-ltb limit (suc (length p)) (omega (arith, h.room)) in
         rw octet_takes at (paid_is (rules_by C l most)
-        (is_causal (λ number. signatures_of C (l number))) (in_turn C l) p x so m h.free
+        (is_causal (λ phase number. signatures_of C (l number) phase)) (in_turn C l) p x so m h.free
         h.current room)
 
     pub octet_owner : owner_of_next (open_after most (p ++ x ∷ [])) (with_octet m x)

@@ -5,6 +5,7 @@ use Rattle.std.specs.Prelude.{if◌then◌else◌, slice_get, option_map}
 use Rattle.std.proofs.lemmas.List.{take-append-drop}
 use Rattle.giop_print.specs.Output.{OutLog, Wrote}
 use Rattle.giop_sig.specs.Table.{Table}
+use Rattle.giop_message.specs.Phases.{unbroken}
 use Rattle.giop_message.specs.declared.message.Message.{Message}
 use Rattle.giop_message.specs.Signatures.{Signatures, Answers, signatures_of}
 use Rattle.giop_message.specs.Messages.{message, stage_of}
@@ -54,7 +55,7 @@ over_stays S header s more e = search (arith, over_where_faulted, told_more, any
 
 module _ (C : Table) (l : Answers) where
   abbrev Over : MessageKey → List ℕ → Bool
-  Over w s = is_over (stage_of (message (signatures_of C (l w.number)) w.header s))
+  Over w s = is_over (stage_of (message (signatures_of C (l w.number) unbroken) w.header s))
 
   -- ---- One octet, of a message that isn't over.
 
@@ -87,11 +88,11 @@ module _ (C : Table) (l : Answers) where
 
   run_text : (w : MessageKey) (xs : List ℕ) (before : ℕ) (s : List ℕ) → Over w s ≡ false
       → lines_text (run_part C l before w (Some s) xs).lines
-      ≡ due_text (signatures_of C (l w.number)) w.number before w.header s xs
+      ≡ due_text (signatures_of C (l w.number) unbroken) w.number before w.header s xs
   unfolding run_part part_of lines_text
   run_text w [] before s e = search (arith, text_none)
   run_text w (x ∷ xs) before s e =
-      let S = signatures_of C (l w.number) in
+      let S = signatures_of C (l w.number) unbroken in
       let ev = event (suc before) w (Takes x) in
       let first = lines_of (message_reader C l) ev (Some s) in
       let after : List Line = (run_part C l (suc before) w
@@ -107,7 +108,8 @@ module _ (C : Table) (l : Answers) where
     where
       Rest : Option (List ℕ) → Type 0
       Rest o = lines_text (run_part C l (suc before) w o xs).lines
-          ≡ due_text (signatures_of C (l w.number)) w.number (suc before) w.header (s ++ x ∷ []) xs
+          ≡ due_text (signatures_of C (l w.number) unbroken) w.number (suc before) w.header
+          (s ++ x ∷ []) xs
 
       rest : (Over w (s ++ x ∷ []) ≡ false → Rest (Some (s ++ x ∷ []))) → (b : Bool) →
           Over w (s ++ x ∷ []) ≡ b
@@ -119,7 +121,7 @@ module _ (C : Table) (l : Answers) where
   over_with : (w : MessageKey) (s xs : List ℕ) (x : ℕ) → Over w (s ++ x ∷ []) ≡ true →
       Over w (s ++ x ∷ xs) ≡ true
   over_with w s xs x o = subst (λ (z : List ℕ). Over w z ≡ true) (append_assoc s (x ∷ []) xs)
-      (over_stays (signatures_of C (l w.number)) w.header (s ++ x ∷ []) xs o)
+      (over_stays (signatures_of C (l w.number) unbroken) w.header (s ++ x ∷ []) xs o)
 
   run_then : (w : MessageKey) (xs : List ℕ) (before : ℕ) (s : List ℕ) → Over w s ≡ false
       → (run_part C l before w (Some s) xs).octets
@@ -186,21 +188,22 @@ module _ (C : Table) (l : Answers) where
   -- P holds of the text that these octets add
   abbrev pub DueOf : (List ℕ → Type 0) → Message → MessageKey → Option (List ℕ) → ℕ → List ℕ →
       Type 0
-  DueOf P m w o before xs = (s : List ℕ) → o ≡ Some s → Follows C l w.number w.header m s →
-      P (due_text (signatures_of C (l w.number)) w.number before w.header s xs)
+  DueOf P m w o before xs = (s : List ℕ) → o ≡ Some s → Follows C l unbroken w.number w.header m s →
+      P (due_text (signatures_of C (l w.number) unbroken) w.number before w.header s xs)
 
-  goes : (m : Message) (w : MessageKey) (s : List ℕ) → Follows C l w.number w.header m s →
+  goes : (m : Message) (w : MessageKey) (s : List ℕ) → Follows C l unbroken w.number w.header m s →
       Over w s ≡ false
   goes m w s k = search (arith, follows_goes)
 
   faulted : (w : MessageKey) (s xs : List ℕ) (n : ℕ) →
-      FaultedAt (signatures_of C (l w.number)) w.header s xs n → Over w (s ++ xs) ≡ true
+      FaultedAt (signatures_of C (l w.number) unbroken) w.header s xs n → Over w (s ++ xs) ≡ true
   faulted w s xs n f =
       let all : (s ++ take n xs) ++ drop n xs ≡ s ++ xs =
       append_assoc s (take n xs) (drop n xs)
       ∙ ap (λ (z : List ℕ). s ++ z) (take-append-drop n xs) in
       subst (λ (z : List ℕ). Over w z ≡ true) all
-      (over_stays (signatures_of C (l w.number)) w.header (s ++ take n xs) (drop n xs) f.here)
+      (over_stays (signatures_of C (l w.number) unbroken) w.header (s ++ take n xs) (drop n xs)
+      f.here)
 
   pub given_text : (P : List ℕ → Type 0) (m : Message) (w : MessageKey) (o : Option (List ℕ))
       (before : ℕ) (xs : List ℕ)
@@ -213,8 +216,8 @@ module _ (C : Table) (l : Answers) where
   pub given_on : {E : Type 0} (m m' : Message) (w : MessageKey) (o : Option (List ℕ)) (before : ℕ)
       (xs : List ℕ) (n : ℕ) (a b : OutLog) → RepresentsMessage C l (Some m) w o →
       DueOf (Wrote a b) m w o before xs →
-      ((s : List ℕ) → o ≡ Some s → Follows C l w.number w.header m s →
-      Follows C l w.number w.header m' (s ++ xs)) →
+      ((s : List ℕ) → o ≡ Some s → Follows C l unbroken w.number w.header m s →
+      Follows C l unbroken w.number w.header m' (s ++ xs)) →
       DoesPart {E = E} C l (λ (r : ℕ × Bool). one_if r.1) (Ok (n, false)) a b (Some m') w
       (run_part C l before w o xs)
   given_on m m' w (Some s) before xs n a b k writes took =
@@ -231,14 +234,14 @@ module _ (C : Table) (l : Answers) where
   pub given_over : {E : Type 0} (m : Message) (w : MessageKey) (o : Option (List ℕ)) (before : ℕ)
       (xs : List ℕ) (i n : ℕ) (a b : OutLog) → RepresentsMessage C l (Some m) w o →
       DueOf (Wrote a b) m w o before (take i xs) →
-      ((s : List ℕ) → o ≡ Some s → Follows C l w.number w.header m s →
-      FaultedAt (signatures_of C (l w.number)) w.header s xs i) →
+      ((s : List ℕ) → o ≡ Some s → Follows C l unbroken w.number w.header m s →
+      FaultedAt (signatures_of C (l w.number) unbroken) w.header s xs i) →
       DoesPart {E = E} C l (λ (r : ℕ × Bool). one_if r.1) (Ok (n, true)) a b None w (run_part C l
       before w o xs)
   given_over m w (Some s) before xs i n a b k writes found =
       let goes_before = goes m w s k in
       let over = faulted w s xs i (found s refl k) in
-      let S = signatures_of C (l w.number) in
+      let S = signatures_of C (l w.number) unbroken in
       record {
         text = given_text (Wrote a b) m w (Some s) before xs k (λ z e f.
             rw (text_ended S w.number before w.header z xs i (found z e f).here) (writes z e f));

@@ -5,6 +5,7 @@ use Rattle.std.proofs.Common.{arith, ◌≡◌, ℕ, Bool, true, false, List, []
 use Rattle.std.specs.Prelude.{◌==◌, if◌then◌else◌, option_to_list}
 use Rattle.std.specs.List.{AllByRecursion as Each}
 use Rattle.giop_sig.specs.Table.{Table}
+use Rattle.giop_message.specs.Phases.{unbroken}
 use Rattle.giop_message.specs.Signatures.{Answers}
 use Rattle.giop_message.specs.ReaderOfTable.{message_reader}
 use Rattle.giop_message.specs.HeaderEnds.{header_noted}
@@ -27,7 +28,8 @@ use Rattle.giop_stream.proofs.Events.EventsByEngine.{found_in}
 -- one event, if the message has these octets in all
 pub tells_agree : (C : Table) (a b : Answers) (e : Event) (so_far later all : List ℕ)
     (what : EventKind) → all ≡ so_far ++ later
-    → (a e.subject.number ≡ b e.subject.number) ⊎ (header_noted e.subject.header all ≡ None)
+    → (a e.subject.number ≡ b e.subject.number) ⊎
+    (header_noted unbroken e.subject.header all ≡ None)
     → lines_of_event (message_reader C a) e so_far all what
     ≡ lines_of_event (message_reader C b) e so_far all what
 unfolding lines_of_event
@@ -50,7 +52,7 @@ module _ (C : Table) (a b : Answers) where
   -- if octets are kept of a message, the answers agree for it, or its header has not ended
   abbrev pub IsSame : MessageKey → Option (List ℕ) → Type 0
   IsSame w None = Unit {0}
-  IsSame w (Some xs) = (a w.number ≡ b w.number) ⊎ (header_noted w.header xs ≡ None)
+  IsSame w (Some xs) = (a w.number ≡ b w.number) ⊎ (header_noted unbroken w.header xs ≡ None)
 
   kept_agree : (m : Option CodeMessage) (w : MessageKey) (o : Option (List ℕ)) → IsSame w o →
       RepresentsMessage C a m w o → RepresentsMessage C b m w o

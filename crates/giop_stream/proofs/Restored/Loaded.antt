@@ -4,6 +4,7 @@ use Rattle.std.specs.Prelude.{is_some, IsSomeAnd}
 use Rattle.std.specs.List.{AllByRecursion as Each}
 use Rattle.std.proofs.lemmas.List.{length-append}
 use Rattle.giop_sig.specs.Table.{Table}
+use Rattle.giop_message.specs.Phases.{unbroken}
 use Rattle.giop_message.specs.declared.message.Message.{Message}
 use Rattle.giop_message.specs.MessageState.{Follows}
 use Rattle.giop_message.specs.Signatures.{Answers}
@@ -64,8 +65,8 @@ abbrev pub Restores : Table → ℕ → FirstRecord → Option Message → Type 
 Restores C octets first found =
     (m : Message) (l : Answers) (n : ℕ) (h xs : List ℕ) → IsReady C (octets + 1) (Some m) →
     m.number ≡ first.«record».number → m.header ≡ first.«record».header →
-    Stored m first.message first.frames.now → Follows C l n h m xs →
-    IsSomeAnd found (λ e. Follows C l n h e xs)
+    Stored m first.message first.frames.now → Follows C l unbroken n h m xs →
+    IsSomeAnd found (λ e. Follows C l unbroken n h e xs)
 
 module _ (C : Table) (l : Answers) (first : FirstRecord) where
   -- the record is this entry of an open message, and the message represents these octets
@@ -84,7 +85,7 @@ module _ (C : Table) (l : Answers) (first : FirstRecord) where
       × RepresentsMessage C l found w message_octets
 
   is_again : (w : MessageKey) (xs : List ℕ) (found : Option Message) →
-      IsSomeAnd found (λ m. Follows C l w.number w.header m xs) → IsAgain w found (Some xs)
+      IsSomeAnd found (λ m. Follows C l unbroken w.number w.header m xs) → IsAgain w found (Some xs)
   is_again w xs None h = absurd h
   is_again w xs (Some m) h = (refl, h)
 

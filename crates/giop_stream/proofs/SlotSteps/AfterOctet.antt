@@ -4,6 +4,7 @@ use Rattle.std.proofs.Common.{◌≡◌, ℕ, ◌≤◌, Bool, true, false, List
 use Rattle.std.specs.Prelude.{◌==◌, ◌&&◌, if◌then◌else◌}
 use Rattle.std.proofs.lemmas.Bool.{eq-eqb, eqb-true, lt-leb, le-leb, lt-ltb, le-ltb, cases_lt, false≢true}
 use Rattle.giop_sig.specs.Table.{Table}
+use Rattle.giop_message.specs.Phases.{unbroken}
 use Rattle.giop_message.specs.Signatures.{Answers, signatures_of}
 use Rattle.giop_message.specs.Messages.{message, message_lines}
 use Rattle.giop_message.specs.ReaderOfTable.{message_reader, first_request_id}
@@ -77,7 +78,8 @@ module _ (C : Table) (l : Answers) (s : Slots) (c : Tracked) (m : Message) (now 
   -- the request id that is read from the octets of the message itself
   pub named_here : (i : ℕ) → ((w : MessageKey) (xs : List ℕ) (j : ℕ) →
       RepresentsMessage C l (current_of s.owner) w (Some xs)
-      → first_request_id (message_lines (message (signatures_of C (l w.number)) w.header xs))
+      → first_request_id (message_lines (message (signatures_of C (l w.number) unbroken) w.header
+      xs))
       ≡ Some j → i ≡ j) → (now.payload_count == 4) ≡ true
       → IsAtRequestId C l s c m now i
   named_here i f e =

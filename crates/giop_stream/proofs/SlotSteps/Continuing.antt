@@ -6,6 +6,7 @@ use Rattle.std.proofs.lemmas.List.{length_push}
 use Rattle.giop_cdr.specs.declared.order.Order.{Order}
 use Rattle.giop_cdr.specs.Numbers.{num}
 use Rattle.giop_sig.specs.Table.{Table}
+use Rattle.giop_message.specs.Phases.{unbroken}
 use Rattle.giop_message.specs.Headers.{order, is_fragment}
 use Rattle.giop_message.specs.MessageReader.{Value, due}
 use Rattle.giop_message.specs.Signatures.{Answers}
@@ -90,7 +91,8 @@ module _ (C : Table) (l : Answers) (s : Slots) (c : Tracked) (owner : Option Mes
           (events_at_request_id s.slots.most c.still_open m)).lines
       go true same = search (arith, in_order)
       go false other = record {
-        more = _;
+        more =
+            _;
         is =
             ap (λ (p : Effect). p.lines) (out_of_order o f e other);
       }
@@ -106,16 +108,17 @@ module _ (C : Table) (l : Answers) (s : Slots) (c : Tracked) (owner : Option Mes
 module _ (C : Table) (l : Answers) (number : ℕ) (header : List ℕ) (says : SaysId header) where
   -- the octets before the last one add no line
   pub few_due : (xs : List ℕ) (x : ℕ) → length xs < 3 →
-      due (message_reader C l) number header xs x ≡ []
-  few_due xs x few = rw (few_said C l number header says.0 says.1 says.2 (xs ++ x ∷ [])
+      due (message_reader C l) unbroken number header xs x ≡ []
+  few_due xs x few =
+      rw (few_said C l unbroken number header says.0 says.1 says.2 refl (xs ++ x ∷ [])
       (omega (arith, few, length_push xs x))) refl
 
   -- the last octet adds the line of the number that the octets spell
   pub four_due : (xs : List ℕ) (x : ℕ) → length xs ≡ 3
-      → due (message_reader C l) number header xs x
+      → due (message_reader C l) unbroken number header xs x
       ≡ request_id_said (num (order header) (take 4 (xs ++ x ∷ []))) ∷ []
   four_due (a ∷ b ∷ c ∷ []) x three =
-      rw (four_said C l number header says.0 says.1 says.2 a b c x) refl
+      rw (four_said C l unbroken number header says.0 says.1 says.2 refl a b c x) refl
   four_due [] x three = absurd (omega (arith, three))
   four_due (a ∷ []) x three = absurd (omega (arith, three))
   four_due (a ∷ b ∷ []) x three = absurd (omega (arith, three))

@@ -7,6 +7,7 @@ use Rattle.std.proofs.lemmas.Bool.{eq-eqb}
 use Rattle.giop_print.specs.Lines.{fault_line, cancelled_line}
 use Rattle.giop_print.specs.Output.{OutLog, Wrote, WroteFront, Writes}
 use Rattle.giop_sig.specs.Table.{Table}
+use Rattle.giop_message.specs.Phases.{Phase, unbroken}
 use Rattle.giop_message.specs.declared.message.Message.{Message}
 use Rattle.giop_message.specs.MessageReader.{LineClass, Value, Call, Rest, Fault, End, TimedLine, MessageReader, AreInLineOrder, AtClose, due, is_fault, is_last}
 use Rattle.giop_message.specs.Text.{numbered_lines}
@@ -178,35 +179,37 @@ module _ (C : Table) (l : Answers) where
   R_of = message_reader C l
 
   in_turn : (number : ℕ) (header xs : List ℕ) (x : ℕ) →
-      AreInLineOrder (map (λ r. r.line_class) (due R_of number header xs x))
-  in_turn number header xs x = (is_ordered (λ number. signatures_of C (l number))).ordered number
+      AreInLineOrder (map (λ r. r.line_class) (due R_of unbroken number header xs x))
+  in_turn number header xs x =
+      (is_ordered (λ phase number. signatures_of C (l number) phase)).ordered unbroken number
       header (xs ++ x ∷ []) (suc (length xs))
 
   at_close : (number : ℕ) (header xs : List ℕ) →
-      AtClose (map (λ c. c.0) (R_of.closes number header xs))
-  at_close number header xs = (is_closing (λ number. signatures_of C (l number))).closed number
+      AtClose (map (λ c. c.0) (R_of.closes unbroken number header xs))
+  at_close number header xs =
+      (is_closing (λ phase number. signatures_of C (l number) phase)).closed unbroken number
       header xs
 
   pub take_lines : (at : ℕ) (w : MessageKey) (xs : List ℕ) (x : ℕ) →
       lines_of R_of (event at w (Takes x)) (Some xs)
-      ≡ reader_lines at w.number (due R_of w.number w.header xs x)
+      ≡ reader_lines at w.number (due R_of unbroken w.number w.header xs x)
   unfolding lines_of lines_for lines_of_event line
   take_lines at w xs x = search (arith, one_octet, turn_stands, in_turn)
 
   closing_lines : (at : ℕ) (w : MessageKey) (xs : List ℕ) →
       lines_of R_of (event at w Closes) (Some xs)
-      ≡ close_lines at w.number (R_of.closes w.number w.header xs)
+      ≡ close_lines at w.number (R_of.closes unbroken w.number w.header xs)
   unfolding lines_of lines_for lines_of_event line
   closing_lines at w xs = search (arith, close_stands, at_close)
 
   -- ---- An octet.
 
   abbrev pub Faulty : MessageKey → List ℕ → ℕ → Bool
-  Faulty w xs x = list_any (λ r. is_fault r.line_class) (due R_of w.number w.header xs x)
+  Faulty w xs x = list_any (λ r. is_fault r.line_class) (due R_of unbroken w.number w.header xs x)
 
   pub take_text : (before : ℕ) (w : MessageKey) (xs : List ℕ) (x : ℕ) →
       lines_text (lines_of R_of (event (suc before) w (Takes x)) (Some xs))
-      ≡ due_text (signatures_of C (l w.number)) w.number before w.header xs (x ∷ [])
+      ≡ due_text (signatures_of C (l w.number) unbroken) w.number before w.header xs (x ∷ [])
   take_text before w xs x = search (arith, take_lines, said_is, octet_text)
 
   pub then_by : (at : ℕ) (w : MessageKey) (xs : List ℕ) (x : ℕ) →
@@ -224,35 +227,36 @@ module _ (C : Table) (l : Answers) where
 
   close_text : (P : List ℕ → Type 0) (w : MessageKey) (at : ℕ) (xs : List ℕ) →
       P (closing_text w.number at (close (stage_of
-      (message (signatures_of C (l w.number)) w.header xs))))
+      (message (signatures_of C (l w.number) unbroken) w.header xs))))
       → P (lines_text (lines_of R_of (event at w Closes) (Some xs)))
   close_text P w at xs p = search (arith, closing_lines, closed_is, close_is)
 
   close_by : (at : ℕ) (w : MessageKey) (xs : List ℕ) →
       fault_count (lines_of R_of (event at w Closes) (Some xs))
-      ≡ one_if (is_short (close (stage_of (message (signatures_of C (l w.number)) w.header xs))))
+      ≡ one_if (is_short (close (stage_of (message (signatures_of C (l w.number) unbroken) w.header
+      xs))))
   close_by at w xs = search (arith, closing_lines, close_short, close_faults, at_close)
 
   pub close_writes : {E : Type 0} (m : Message) (w : MessageKey) (o : Option (List ℕ)) (at : ℕ)
       (r : Result Bool E) (a b : OutLog) → RepresentsMessage C l (Some m) w o
-      → ((number : ℕ) (header s : List ℕ) → Follows C l number header m s →
+      → ((phase : Phase) (number : ℕ) (header s : List ℕ) → Follows C l phase number header m s →
       Writes r a b (closing_text number at
-      (close (stage_of (message (signatures_of C (l number)) header s)))))
-      → IfOk r (λ short. (kept : Answers) (number : ℕ) (header s : List ℕ) →
-      Follows C kept number header m s → short
-      ≡ is_short (close (stage_of (message (signatures_of C (kept number)) header s))))
+      (close (stage_of (message (signatures_of C (l number) phase) header s)))))
+      → IfOk r (λ short. (kept : Answers) (phase : Phase) (number : ℕ) (header s : List ℕ) →
+      Follows C kept phase number header m s → short
+      ≡ is_short (close (stage_of (message (signatures_of C (kept number) phase) header s))))
       → WritesLines one_if r a b (lines_of R_of (event at w Closes) o)
   close_writes m w None at r a b k text short = absurd k
   close_writes m w (Some xs) at (Err e) a b k text short =
       record {
-        text = close_text (WroteFront a b) w at xs (text w.number w.header xs k);
+        text = close_text (WroteFront a b) w at xs (text unbroken w.number w.header xs k);
         faults =
             tt;
         kept = tt;
       }
   close_writes m w (Some xs) at (Ok answer) a b k text short = record {
-    text = close_text (Wrote a b) w at xs (text w.number w.header xs k);
-    faults = close_by at w xs ∙ ap one_if (sym (short l w.number w.header xs k));
+    text = close_text (Wrote a b) w at xs (text unbroken w.number w.header xs k);
+    faults = close_by at w xs ∙ ap one_if (sym (short l unbroken w.number w.header xs k));
     kept = tt;
   }
 

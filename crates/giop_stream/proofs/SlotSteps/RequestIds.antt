@@ -7,6 +7,7 @@ use Rattle.giop_cdr.specs.Numbers.{num}
 use Rattle.giop_sig.specs.Types.{Ty}
 use Rattle.giop_sig.specs.Table.{Table}
 use Rattle.giop_sig.specs.HeaderTypes.{BeginsWithId, header_type}
+use Rattle.giop_message.specs.Phases.{unbroken}
 use Rattle.giop_message.specs.Headers.{minor, kind, order, has_more, may_be_fragmented, is_opener, is_fragment, is_cancel, has_name}
 use Rattle.giop_message.specs.Signatures.{Answers, signatures_of}
 use Rattle.giop_message.specs.Messages.{message, message_lines}
@@ -122,13 +123,14 @@ fragment_says header f =
 -- ---- The request id that is read from its first four octets.
 
 pub id_is_id : (C : Table) (l : Answers) (m : Message) → length m.payload ≡ 4 → SaysId m.header
-    → first_request_id (message_lines (message (signatures_of C (l m.number)) m.header m.payload))
+    → first_request_id (message_lines (message (signatures_of C (l m.number) unbroken) m.header
+    m.payload))
     ≡ Some (id m)
 unfolding id
 id_is_id C l m four says = go m.payload four
   where
     go : (xs : List ℕ) → length xs ≡ 4 → first_request_id
-        (message_lines (message (signatures_of C (l m.number)) m.header xs))
+        (message_lines (message (signatures_of C (l m.number) unbroken) m.header xs))
         ≡ Some (num (order m.header) (take 4 xs))
     go [] e = absurd (omega (arith, e))
     go (a ∷ []) e = absurd (omega (arith, e))

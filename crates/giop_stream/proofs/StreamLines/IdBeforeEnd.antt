@@ -5,6 +5,7 @@ use Rattle.std.specs.Prelude.{◌==◌, ◌||◌, if◌then◌else◌, map}
 use Rattle.std.specs.List.{list_any, AllByRecursion as Each}
 use Rattle.std.proofs.lemmas.Bool.{le-ltb, eq-eqb, ne_eqb, and_right, ltb-true}
 use Rattle.std.proofs.lemmas.List.{length_push}
+use Rattle.giop_message.specs.Phases.{unbroken}
 use Rattle.giop_message.specs.Headers.{size, has_name}
 use Rattle.giop_stream.specs.Rules.{Rules}
 use Rattle.giop_stream.specs.Framing.{Message, cut}
@@ -64,11 +65,13 @@ takes_last R laws at w xs x name short =
     let e : Event = record { place = at; subject = w; what = Takes x } in
     rw (one_octet at w x)
     (stand_last w.number (map (λ r. line e (Said r.line_class r.text))
-    (due R w.number w.header xs x)) (λ i. false)
-    (values_last e (λ r. r.line_class) (λ r. r.text) w.number (due R w.number w.header xs x)
+    (due R unbroken w.number w.header xs x)) (λ i. false)
+    (values_last e (λ r. r.line_class) (λ r. r.text) w.number
+    (due R unbroken w.number w.header xs x)
     (each_filter (λ r. r.line_class ≡ Value) (λ r. r.at == suc (length xs))
-    (R.reads w.number w.header (xs ++ x ∷ []))
-    (laws.named.named w.number w.header (xs ++ x ∷ []) name (omega (arith, length_push xs x))))))
+    (R.reads unbroken w.number w.header (xs ++ x ∷ []))
+    (laws.named.named unbroken w.number w.header (xs ++ x ∷ []) refl name
+    (omega (arith, length_push xs x))))))
 
 -- an octet of a request id is kept
 pub named_then : (R : MessageReader) → IsStreamable R →

@@ -7,6 +7,7 @@ use Rattle.std.proofs.lemmas.Bool.{le-ltb, eqb-true}
 use Rattle.std.proofs.lemmas.List.{append-nil}
 use Rattle.giop_stream.specs.declared.fault.FramingFault.{FramingFault}
 use Rattle.giop_stream.specs.declared.fault.FramingFault.TheVariants.{NoOpen, IdOpen, FragmentOrder}
+use Rattle.giop_message.specs.Phases.{unbroken}
 use Rattle.giop_message.specs.Headers.{order, size, is_fragment, is_opener}
 use Rattle.giop_stream.specs.Rules.{Rules}
 use Rattle.giop_stream.specs.Framing.{Message}
@@ -49,14 +50,17 @@ pub event_lines_takes : (R : MessageReader) → IsOrdered R → (x : ℕ) → Te
 unfolding Tells lines_of_event
 event_lines_takes R ordered x e so_far all =
     class_spans 1 7 e (λ r. r.line_class) (λ r. r.text)
-    (filter (λ r. r.at == suc (length so_far)) (R.reads e.subject.number e.subject.header all))
-    (turn_spans _ (ordered.ordered e.subject.number e.subject.header all (suc (length so_far))))
+    (filter (λ r. r.at == suc (length so_far))
+    (R.reads unbroken e.subject.number e.subject.header all))
+    (turn_spans _ (ordered.ordered unbroken e.subject.number e.subject.header all
+    (suc (length so_far))))
 
 event_lines_closes : (R : MessageReader) → IsClosing R → Tells R 6 8 Closes
 unfolding Tells lines_of_event
 event_lines_closes R closing e so_far all =
-    class_spans 6 8 e (λ l. l.0) (λ l. l.1) (R.closes e.subject.number e.subject.header so_far)
-    (close_spans _ (closing.closed e.subject.number e.subject.header so_far))
+    class_spans 6 8 e (λ l. l.0) (λ l. l.1) (R.closes unbroken e.subject.number e.subject.header
+    so_far)
+    (close_spans _ (closing.closed unbroken e.subject.number e.subject.header so_far))
 
 -- ---- The lines of events, whatever octets are kept.
 

@@ -3,6 +3,7 @@ use Rattle.std.proofs.Common.{arith, inl, inr, ◌≡◌, ℕ, Bool, true, false
 use Rattle.std.specs.Prelude.{◌==◌, if◌then◌else◌, ◌||◌, flat_map}
 use Rattle.std.specs.List.{filter, list_any, AllByRecursion as Each}
 use Rattle.std.proofs.lemmas.Bool.{or_cases, or_right, or_left, and_parts, eq-eqb, eqb-true}
+use Rattle.giop_message.specs.Phases.{unbroken}
 use Rattle.giop_message.specs.MessageReader.{LineClass, MessageReader, IsEnding, is_last}
 use Rattle.giop_stream.specs.Rules.{Rules}
 use Rattle.giop_stream.specs.Events.{EventKind, Cancelled, Faults, Closes, Event, events, joined}
@@ -135,11 +136,11 @@ event_lines_final : (R : MessageReader) → IsEnding R →
 unfolding lines_of_event is_final is_last_of line
 event_lines_final R ending e so_far all Closes h =
     rw (← any_map (is_last_of e.subject.number) (λ l. line e (Said l.0 l.1))
-    (R.closes e.subject.number e.subject.header so_far))
+    (R.closes unbroken e.subject.number e.subject.header so_far))
     (any_weaker (λ l. is_last l.0) (λ l. is_last_of e.subject.number (line e (Said l.0 l.1)))
     (λ l. said_last e l.0 l.1)
-    (R.closes e.subject.number e.subject.header so_far)
-    (ending.ends e.subject.number e.subject.header so_far))
+    (R.closes unbroken e.subject.number e.subject.header so_far)
+    (ending.ends unbroken e.subject.number e.subject.header so_far))
 event_lines_final R ending e so_far all (Cancelled j) h = search (arith, eq-eqb)
 event_lines_final R ending e so_far all (Faults fault) h = search (arith, eq-eqb)
 event_lines_final R ending e so_far all _ h = absurd cc

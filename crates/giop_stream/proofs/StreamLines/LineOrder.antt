@@ -5,6 +5,7 @@ use Rattle.std.specs.Prelude.{nat_lt, ◌==◌, if◌then◌else◌, ◌||◌, o
 use Rattle.std.specs.List.{AllByRecursion as Each}
 use Rattle.std.proofs.lemmas.Bool.{cases_lt, cases_eq, le-ltb, lt-ltb, eq-eqb, ne_eqb, and_parts, and_right}
 use Rattle.std.proofs.lemmas.List.{append-nil, length_push}
+use Rattle.giop_message.specs.Phases.{unbroken}
 use Rattle.giop_message.specs.Headers.{size, is_fragment, is_opener, is_cancel, has_name}
 use Rattle.giop_stream.specs.Rules.{Rules}
 use Rattle.giop_stream.specs.Framing.{Message}
@@ -94,10 +95,11 @@ module _ (R : MessageReader) (laws : IsStreamable R) where
       rw (one_octet (event at subject (Takes x)) x refl)
       (pair_fine (event at subject (Takes x)) (event at subject Closes) (λ r. r.line_class)
       (λ r. r.text) (λ l. l.0) (λ l. l.1)
-      (due R number header xs x) (R.closes number header all) refl
-      (both_say _ _ (laws.ordered.ordered number header all (suc (length xs)))
-      (laws.closing.closed number header all)
-      (laws.closing.over number header xs x) (laws.closing.one_rest number header xs x)))
+      (due R unbroken number header xs x) (R.closes unbroken number header all) refl
+      (both_say _ _ (laws.ordered.ordered unbroken number header all (suc (length xs)))
+      (laws.closing.closed unbroken number header all)
+      (laws.closing.over unbroken number header xs x)
+      (laws.closing.one_rest unbroken number header xs x)))
 
   pair_fine_at : (K : OctetsByNumber) (at : ℕ) (subject : MessageKey) (x : ℕ) →
       Fine (all_lines R K (event at subject (Takes x) ∷ event at subject Closes ∷ []))
@@ -145,12 +147,12 @@ module _ (R : MessageReader) (laws : IsStreamable R) where
       let header = subject.header in
       rw (one_octet (event at subject (Takes x)) x refl)
       (class_spans 1 1 (event at subject (Takes x)) (λ r. r.line_class) (λ r. r.text)
-      (due R number header xs x)
-      (value_spans (λ r. r.line_class) (due R number header xs x)
-      (laws.ordered.ordered number header all (suc (length xs)))
+      (due R unbroken number header xs x)
+      (value_spans (λ r. r.line_class) (due R unbroken number header xs x)
+      (laws.ordered.ordered unbroken number header all (suc (length xs)))
       (each_filter (λ r. r.line_class ≡ Value) (λ r. r.at == suc (length xs))
-      (R.reads number header all)
-      (laws.named.named number header all k (omega (arith, length_push xs x))))))
+      (R.reads unbroken number header all)
+      (laws.named.named unbroken number header all refl k (omega (arith, length_push xs x))))))
 
 -- ---- All events of an octet.
 

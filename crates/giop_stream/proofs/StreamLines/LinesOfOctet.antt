@@ -7,6 +7,7 @@ use Rattle.std.proofs.lemmas.List.{append-nil, length_push}
 use Rattle.std.proofs.lemmas.List.Elements.{filter-append}
 use Rattle.std.proofs.lemmas.List.Concat.{flat_map-append}
 use Rattle.giop_stream.specs.Events.{EventKind, Begins, Takes, Opens, Continues, Cancelled, Faults, Closes, Event, octet, joined}
+use Rattle.giop_message.specs.Phases.{unbroken}
 use Rattle.giop_message.specs.MessageReader.{MessageReader, IsCausal}
 use Rattle.giop_stream.specs.Lines.{Class, Content, Said, Line, has_class, line, lines_of_event, lines_of_events, classes, by_class, in_order, is_last_of, up_to_last_line}
 use Rattle.giop_stream.specs.OpenSlots.{OctetsByNumber}
@@ -31,7 +32,8 @@ event_lines_early : (R : MessageReader) → IsCausal R →
 unfolding lines_of_event octet
 event_lines_early R causal e so_far more (Takes x) =
     ap (map (λ r. line e (Said r.line_class r.text)))
-    (causal.earlier e.subject.number e.subject.header (so_far ++ x ∷ []) more (suc (length so_far))
+    (causal.earlier unbroken e.subject.number e.subject.header (so_far ++ x ∷ []) more
+    (suc (length so_far))
     (omega (arith, length_push so_far x)))
 event_lines_early R causal e so_far more _ = refl
 

@@ -50,9 +50,9 @@ named_closes least header xs = if nat_lt (length xs) least then (Fault, codes "s
 
 unfoldable pub small_reading : ℕ → MessageReader
 small_reading least = record {
-  reads = λ number. named_reads;
+  reads = λ phase number. named_reads;
   closes =
-      λ number. named_closes least;
+      λ phase number. named_closes least;
 }
 
 -- the rules with the small reader; 16 messages may be open

@@ -5,8 +5,8 @@ use Rattle.giop_message.proofs.reader_laws.message_reader_laws.Goals as goal
 
 pub returns : goal.returns
 returns c = record {
-  text = λ C answers number. octet_text (signatures_of C (answers number)) number;
-  over = λ C answers number. octet_over (signatures_of C (answers number));
-  running = λ C answers number header m s f. follows_goes f;
-  short = λ C answers number. close_short (signatures_of C (answers number));
+  text = λ C answers phase number. octet_text (signatures_of C (answers number) phase) number;
+  over = λ C answers phase number. octet_over (signatures_of C (answers number) phase);
+  running = λ C answers phase number header m s f. follows_goes f;
+  short = λ C answers phase number. close_short (signatures_of C (answers number) phase);
 }

@@ -2,6 +2,7 @@ use Rattle.std.proofs.Common.{◌≡◌, true, sym, ◌∙◌, ℕ, Bool, false,
 use Rattle.giop_print.proofs.Writing.{wrote-nil}
 use Rattle.giop_decode.specs.Noted.{noted_of, Noted}
 use Rattle.giop_print.specs.declared.path.Root.TheVariants as roots
+use Rattle.giop_message.specs.Phases.{Phase}
 use Rattle.giop_message.specs.Headers.{kind}
 use Rattle.giop_message.proofs.taking.call.Goals as goal
 use Rattle.std.specs.Prelude.{if◌then◌else◌}
@@ -48,38 +49,38 @@ unfolding request_call is_request called_text
 request_called S number header h id name is e f = rw (is, e, f) refl
 
 -- the call names the interface that the table gives for the object key
-interface_called : (C : Table) (answer : Answer) (number : ℕ) (header : List ℕ) (h : Noted)
-    (id : ℕ) (name : List ℕ) (shown : Bool) (interface : Option InterfaceId) →
+interface_called : (C : Table) (answer : Answer) (phase : Phase) (number : ℕ) (header : List ℕ)
+    (h : Noted) (id : ℕ) (name : List ℕ) (shown : Bool) (interface : Option InterfaceId) →
     kind header ≡ 0 → h.request_id ≡ Some id → h.name ≡ Some name → shown ≡ is_shown name →
     interface ≡ whose C h.key →
-    request_call (signatures_of C answer) number header h ≡ (if shown then
+    request_call (signatures_of C answer phase) number header h ≡ (if shown then
     shown_call number id name (option_map (λ i. interface_name C i.0) interface) else [])
 unfolding signatures_of
-interface_called C answer number header h id name shown interface is e f test same =
-    rw (test, same) (request_called (signatures_of C answer) number header h id name is e f)
+interface_called C answer phase number header h id name shown interface is e f test same =
+    rw (test, same) (request_called (signatures_of C answer phase) number header h id name is e f)
 
 pub returns-then-kind_of-ne0 : goal.returns-then-kind_of-ne0
-returns-then-kind_of-ne0 g c answer r keeps_noted =
-    rw (no_request (signatures_of c.args.catalogue.now answer) c.args.number c.args.header.now
+returns-then-kind_of-ne0 g c answer phase r keeps_noted =
+    rw (no_request (signatures_of c.args.catalogue.now answer phase) c.args.number c.args.header.now
     (noted_of true r) (λ e. c.if-kind_of-ne0.true (c.kind_of.ensures ∙ e))) (wrote-nil _)
 
 pub returns-in_default : goal.returns-in_default
-returns-in_default g c answer r keeps_noted =
+returns-in_default g c answer phase r keeps_noted =
     let C = c.args.catalogue.now in
-    rw (no_id (signatures_of C answer) c.args.number c.args.header.now (noted_of true r)
+    rw (no_id (signatures_of C answer phase) c.args.number c.args.header.now (noted_of true r)
     (sym (c.in_default.ensures C roots.Header r keeps_noted))) (wrote-nil _)
 
 pub returns-in_default-name : goal.returns-in_default-name
-returns-in_default-name g c answer r keeps_noted =
+returns-in_default-name g c answer phase r keeps_noted =
     let C = c.args.catalogue.now in
-    rw (no_name (signatures_of C answer) c.args.number c.args.header.now (noted_of true r)
+    rw (no_name (signatures_of C answer phase) c.args.number c.args.header.now (noted_of true r)
     (sym (c.in_default-name.ensures C roots.Header r keeps_noted))) (wrote-nil _)
 
 pub returns-then-not-is_shown : goal.returns-then-not-is_shown
-returns-then-not-is_shown g c answer r keeps_noted =
+returns-then-not-is_shown g c answer phase r keeps_noted =
     let C = c.args.catalogue.now in
     rw (
-      interface_called C answer c.args.number c.args.header.now (noted_of true r) c.in-Some.id
+      interface_called C answer phase c.args.number c.args.header.now (noted_of true r) c.in-Some.id
           c.in-Some-name.operation.now c.is_shown.result _
           (sym c.kind_of.ensures ∙ c.if-kind_of-ne0.false)
           (sym (c.in-Some.ensures C roots.Header r keeps_noted))
@@ -88,11 +89,11 @@ returns-then-not-is_shown g c answer r keeps_noted =
     ) (wrote-nil _)
 
 pub returns-in-None : goal.returns-in-None
-returns-in-None g c answer r keeps_noted =
+returns-in-None g c answer phase r keeps_noted =
     let C = c.args.catalogue.now in
     let same = rw c.in-None.is at (c.interface.ensures.is roots.Header r keeps_noted) in
     rw (
-      interface_called C answer c.args.number c.args.header.now (noted_of true r) c.in-Some.id
+      interface_called C answer phase c.args.number c.args.header.now (noted_of true r) c.in-Some.id
           c.in-Some-name.operation.now c.is_shown.result None
           (sym c.kind_of.ensures ∙ c.if-kind_of-ne0.false)
           (sym (c.in-Some.ensures C roots.Header r keeps_noted))
@@ -101,12 +102,12 @@ returns-in-None g c answer r keeps_noted =
     ) c.call_line.ensures
 
 pub returns-in-Some-interface : goal.returns-in-Some-interface
-returns-in-Some-interface g c answer r keeps_noted =
+returns-in-Some-interface g c answer phase r keeps_noted =
     let C = c.args.catalogue.now in
     let interface = c.in-Some-interface.interface in
     let same = rw c.in-Some-interface.is at (c.interface.ensures.is roots.Header r keeps_noted) in
     rw (
-      interface_called C answer c.args.number c.args.header.now (noted_of true r) c.in-Some.id
+      interface_called C answer phase c.args.number c.args.header.now (noted_of true r) c.in-Some.id
           c.in-Some-name.operation.now c.is_shown.result (Some interface)
           (sym c.kind_of.ensures ∙ c.if-kind_of-ne0.false)
           (sym (c.in-Some.ensures C roots.Header r keeps_noted))

@@ -1,4 +1,4 @@
-use Rattle.std.proofs.Common.{◌≡◌, ℕ, List, length, Ok, Err, ap, subst}
+use Rattle.std.proofs.Common.{◌≡◌, ℕ, List, [], length, Ok, Err, ap, subst, ◌∙◌}
 use Rattle.std.proofs.lemmas.Result.{err_from_is_err_and}
 use Rattle.giop_tokens.specs.Reading.{◌>>=◌}
 use Rattle.giop_sig.specs.declared.parse_stop.ParseStop.{ParseStop}
@@ -6,24 +6,54 @@ use Rattle.giop_sig.specs.declared.parse_stop.ParseStop.TheVariants as stops
 use Rattle.giop_sig.specs.Outcomes.{Stops}
 use Rattle.giop_sig.specs.Repeats.{in_steps}
 use Rattle.giop_sig.specs.Scopes.{Scope, first_scope}
-use Rattle.giop_sig.specs.FileReading.{declarations_step, misplaced_after, head_at, file_at}
+use Rattle.giop_sig.specs.FileReading.{DeclarationsRead, declarations_step, misplaced_after, head_at, file_at, settled_at}
 use Rattle.giop_sig.proofs.parse.draft_of.Goals as goal
 
-file_stops : (latest version : ℕ) (text rest : List ℕ) (s : Scope) (e : ParseStop)
-    → head_at latest text ≡ Ok (version, rest) → s ≡ first_scope version
-    → Stops e (in_steps declarations_step misplaced_after (length text) (s, rest))
+file_stops : (latest version : ℕ) (text rest : List ℕ) (s : Scope) (places : List ℕ)
+    (e : ParseStop) → head_at latest text ≡ Ok (version, rest) → s ≡ first_scope version
+    → places ≡ []
+    → Stops e (in_steps declarations_step misplaced_after (length text) (s, places, rest))
     → Stops e (file_at latest text)
 unfolding file_at
-file_stops latest version text rest s stops.Memory h same k = tt
-file_stops latest version text rest s (stops.Refused r) h same k =
-    rw h (ap (λ x. x >>= λ d. Ok d.0)
-    (subst (λ t. in_steps declarations_step misplaced_after (length text) (t, rest) ≡ Err r)
-    same k))
+file_stops latest version text rest s places stops.Memory h same none k = tt
+file_stops latest version text rest s places (stops.Refused r) h same none k =
+    rw h (ap (λ x. x >>= λ d. settled_at d.0 d.1)
+    (subst (λ t. in_steps declarations_step misplaced_after (length text) (t, [], rest) ≡ Err r)
+    same
+    (subst (λ ps. in_steps declarations_step misplaced_after (length text) (s, ps, rest) ≡ Err r)
+    none k)))
 
-pub returns-in_err-declarations : goal.returns-in_err-declarations
-returns-in_err-declarations c =
+pub returns-in_err-declarations-clause-gives : goal.returns-in_err-declarations-clause-gives
+returns-in_err-declarations-clause-gives c =
     let p = err_from_is_err_and c.from_residual-in_err-declarations.result
     c.from_residual-in_err-declarations.ensures.1 in
     rw (p.1, p.2) (file_stops c.args.latest c.in_ok-version.version c.args.text.now
-    c.in_ok-version.rest.now c.in_ok-draft.draft c.in_err-declarations.field-0.0
-    c.in_ok-version.ensures c.in_ok-draft.ensures.ok c.in_err-declarations.ensures)
+    c.in_ok-version.rest.now c.in_ok-draft.draft _ c.in_err-declarations.field-0.0
+    c.in_ok-version.ensures c.in_ok-draft.ensures.ok c.new-places.ensures.items
+    c.in_err-declarations.ensures)
+
+-- what the end of the file refuses
+settle_stops : (latest version : ℕ) (text rest : List ℕ) (s : Scope) (places : List ℕ)
+    (d : DeclarationsRead) (e : ParseStop) → head_at latest text ≡ Ok (version, rest)
+    → s ≡ first_scope version → places ≡ []
+    → in_steps declarations_step misplaced_after (length text) (s, places, rest) ≡ Ok d
+    → Stops e (settled_at d.0 d.1) → Stops e (file_at latest text)
+unfolding file_at
+settle_stops latest version text rest s places d stops.Memory h same none k stop = tt
+settle_stops latest version text rest s places d (stops.Refused r) h same none k stop =
+    rw h (ap (λ x. x >>= λ d. settled_at d.0 d.1)
+    (subst (λ t. in_steps declarations_step misplaced_after (length text) (t, [], rest) ≡ Ok d)
+    same
+    (subst (λ ps. in_steps declarations_step misplaced_after (length text) (s, ps, rest) ≡ Ok d)
+    none k)) ∙ stop)
+
+pub returns-in_err-settle-clause-gives : goal.returns-in_err-settle-clause-gives
+returns-in_err-settle-clause-gives c =
+    let p = err_from_is_err_and c.from_residual-in_err-settle.result
+    c.from_residual-in_err-settle.ensures.1 in
+    rw (p.1, p.2) (settle_stops c.args.latest c.in_ok-version.version c.args.text.now
+    c.in_ok-version.rest.now c.in_ok-draft.draft _ _ c.in_err-settle.field-0.0
+    c.in_ok-version.ensures c.in_ok-draft.ensures.ok c.new-places.ensures.items
+    c.in_ok-declarations.ensures
+    (subst (λ places. Stops c.in_err-settle.field-0.0 (settled_at c.declarations.new.draft places))
+    c.as_slice.ensures.value c.in_err-settle.ensures.gives))

@@ -12,7 +12,7 @@ pub add-requires : goal.add-requires
 add-requires c = record {
   formed = (call_ready c.args.draft.now _ _ _ _ c.in_ok-returned.ensures
       c.in_ok-request.ensures c.laws.ensures.scope).request;
-  plain = tt;
+  addable = tt;
 }
 
 pub add-requires-2 : goal.add-requires-2
@@ -24,7 +24,7 @@ add-requires-2 c =
     (parts_on c.params_at.new.draft (members request) reply
     (call_ready c.args.draft.now _ _ _ _ c.in_ok-returned.ensures c.in_ok-request.ensures
     c.laws.ensures.scope).reply) in
-    record { formed = formed; plain = tt }
+    record { formed = formed; addable = tt }
 
 pub listed_at-requires-clause-short : goal.listed_at-requires-clause-short
 listed_at-requires-clause-short c = (new_operation_takes _ _ _ c.in_ok-name.ensures).short

@@ -14,15 +14,16 @@ type_end_at-requires-clause-formed c =
     (sym (c.in_ok-kept.ensures ∙ ap (map (λ n. n.now)) c.as_slice.ensures.value)) (k.few, k.short)
 
 pub type_end_at-requires-clause-short : goal.type_end_at-requires-clause-short
-type_end_at-requires-clause-short c = (declared_takes c.args.draft.now _ _ _
+type_end_at-requires-clause-short c = (declared_takes c.args.draft.now _ _ _ _
     c.in_ok-name.ensures).short
 
 pub type_end_at-requires-clause-new : goal.type_end_at-requires-clause-new
-type_end_at-requires-clause-new c = (declared_takes c.args.draft.now _ _ _ c.in_ok-name.ensures).new
+type_end_at-requires-clause-new c =
+    (declared_takes c.args.draft.now _ _ _ _ c.in_ok-name.ensures).new
 
 pub type_end_at-requires-clause-few : goal.type_end_at-requires-clause-few
 type_end_at-requires-clause-few c =
-    let few = (declared_takes c.args.draft.now _ _ _ c.in_ok-name.ensures).few in
+    let few = (declared_takes c.args.draft.now _ _ _ _ c.in_ok-name.ensures).few in
     omega (arith, c.types_declared-count.ensures)
 
 pub type_end_at-requires-clause-identity : goal.type_end_at-requires-clause-identity

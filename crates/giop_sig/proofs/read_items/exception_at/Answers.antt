@@ -8,24 +8,24 @@ use Rattle.giop_sig.proofs.read_items.exception_at.Goals as goal
 pub add-requires : goal.add-requires
 add-requires c = record {
   formed = struct_formed c.args.draft.now _ _ c.in_ok-parts.ensures c.laws.ensures.scope;
-  plain = tt;
+  addable = tt;
 }
 
 pub raise-requires-clause-short : goal.raise-requires-clause-short
-raise-requires-clause-short c = (declared_takes c.args.draft.now _ _ _ c.in_ok-name.ensures).short
+raise-requires-clause-short c = (declared_takes c.args.draft.now _ _ _ _ c.in_ok-name.ensures).short
 
 pub raise-requires-clause-new : goal.raise-requires-clause-new
 raise-requires-clause-new c =
     let g = subst (λ (q : AddedType). Grows c.args.draft.now q.0) (ok_is _ _ c.in_ok-t.ensures)
     (exception_grows c.args.draft.now _ _ c.in_ok-parts.ensures) in
     still_new c.args.draft.now c.add.new.self _ g
-    (declared_takes c.args.draft.now _ _ _ c.in_ok-name.ensures).new
+    (declared_takes c.args.draft.now _ _ _ _ c.in_ok-name.ensures).new
 
 pub raise-requires-clause-few : goal.raise-requires-clause-few
 raise-requires-clause-few c =
     let g = subst (λ (q : AddedType). Grows c.args.draft.now q.0) (ok_is _ _ c.in_ok-t.ensures)
     (exception_grows c.args.draft.now _ _ c.in_ok-parts.ensures) in
-    let d = declared_takes c.args.draft.now _ _ _ c.in_ok-name.ensures in
+    let d = declared_takes c.args.draft.now _ _ _ _ c.in_ok-name.ensures in
     let few = d.few in omega (arith, ap length g.exceptions, c.exceptions_declared-count.ensures)
 
 pub raise-requires-clause-identity : goal.raise-requires-clause-identity

@@ -1,34 +1,28 @@
-use Rattle.std.proofs.Common.{arith}
-use Rattle.giop_sig.proofs.IdentityLaws.{identity_takes, identity_still_new}
-use Rattle.giop_sig.proofs.ItemTaken.{declared_takes, struct_formed, struct_takes, members_grow, still_new}
+use Rattle.std.proofs.Common.{◌≡◌, Ok, subst, arith}
+use Rattle.giop_sig.specs.ItemReading.{announces_at}
+use Rattle.giop_sig.proofs.AnnouncedLaws.{announces_third}
+use Rattle.giop_sig.proofs.ItemTaken.{declared_takes}
 use Rattle.giop_sig.proofs.read_items.structure_at.Goals as goal
 
-pub type_end_at-requires-clause-formed : goal.type_end_at-requires-clause-formed
-type_end_at-requires-clause-formed c = struct_formed c.args.draft.now _ _ c.in_ok-parts.ensures
-    c.laws.ensures.scope
+pub announcement_at-requires-clause-third : goal.announcement_at-requires-clause-third
+announcement_at-requires-clause-third c =
+    announces_third c.args.draft.now c.in_ok-name.rest.now
+    (subst (λ b. announces_at c.args.draft.now c.in_ok-name.rest.now ≡ Ok b) c.if-branch.true
+    c.in_ok-announces_at.ensures)
 
-pub type_end_at-requires-clause-some : goal.type_end_at-requires-clause-some
-type_end_at-requires-clause-some c = struct_takes c.args.draft.now _ _ _ c.in_ok-rest-2.ensures
-    c.in_ok-parts.ensures
-
-pub type_end_at-requires-clause-short : goal.type_end_at-requires-clause-short
-type_end_at-requires-clause-short c = (declared_takes c.args.draft.now _ _ _
+pub announcement_at-requires-clause-short : goal.announcement_at-requires-clause-short
+announcement_at-requires-clause-short c = (declared_takes c.args.draft.now _ _ _ _
     c.in_ok-name.ensures).short
 
-pub type_end_at-requires-clause-new : goal.type_end_at-requires-clause-new
-type_end_at-requires-clause-new c =
-    still_new c.args.draft.now c.members_at.new.draft _
-    (members_grow c.args.draft.now _ _ c.in_ok-parts.ensures)
-    (declared_takes c.args.draft.now _ _ _ c.in_ok-name.ensures).new
+pub structure_after-requires-clause-short : goal.structure_after-requires-clause-short
+structure_after-requires-clause-short c =
+    (declared_takes c.args.draft.now _ _ _ _ c.in_ok-name.ensures).short
 
-pub type_end_at-requires-clause-few : goal.type_end_at-requires-clause-few
-type_end_at-requires-clause-few c =
-    let g = members_grow c.args.draft.now _ _ c.in_ok-parts.ensures in
-    let d = declared_takes c.args.draft.now _ _ _ c.in_ok-name.ensures in
-    let few = d.few in omega (arith, g.declared, c.types_declared-count.ensures)
+pub structure_after-requires-clause-new : goal.structure_after-requires-clause-new
+structure_after-requires-clause-new c =
+    (declared_takes c.args.draft.now _ _ _ _ c.in_ok-name.ensures).new
 
-pub type_end_at-requires-clause-identity : goal.type_end_at-requires-clause-identity
-type_end_at-requires-clause-identity c =
-    identity_still_new c.args.draft.now c.members_at.new.draft _
-    (members_grow c.args.draft.now _ _ c.in_ok-parts.ensures)
-    (identity_takes c.args.draft.now _ _ c.in_ok-id.ensures).new
+pub structure_after-requires-clause-few : goal.structure_after-requires-clause-few
+structure_after-requires-clause-few c =
+    let few = (declared_takes c.args.draft.now _ _ _ _ c.in_ok-name.ensures).few in
+    omega (arith, c.types_declared-count.ensures)

@@ -1,9 +1,18 @@
-use Rattle.std.proofs.Common.{sym, ◌∙◌}
+use Rattle.std.proofs.Common.{sym, ap, subst, ◌∙◌}
 use Rattle.std.proofs.lemmas.Result.{err_from_is_err_and}
-use Rattle.giop_sig.specs.TypeReading.{TypeRead}
-use Rattle.giop_sig.proofs.TypeTaken.{closed_sound}
-use Rattle.giop_sig.proofs.TypeSteps.{closes_on, closes_fails, none_closed}
+use Rattle.giop_sig.specs.ScopeViews.{CanStand}
+use Rattle.giop_sig.specs.TypeReading.{TypeRead, element_after}
+use Rattle.giop_sig.proofs.TypeTaken.{closed_sound, known_stands}
+use Rattle.giop_sig.proofs.TypeSteps.{closes_on, closes_fails, element_last, none_closed}
 use Rattle.giop_sig.proofs.read_types.all_closed.Goals as goal
+
+pub closed_by-requires : goal.closed_by-requires
+closed_by-requires c =
+    let s = c.loop-opener.draft in
+    subst (λ b. CanStand b s.table.version s.table.types c.loop-opener.t.0)
+    (ap element_after c.in-Some.ensures.items
+    ∙ element_last c.pop.new.self.items c.in-Some.opener)
+    c.loop-opener.invariant.stands
 
 pub returns-in_err-t : goal.returns-in_err-t
 returns-in_err-t c =
@@ -15,11 +24,11 @@ returns-in_err-t c =
 pub loop-opener-preserved : goal.loop-opener-preserved
 loop-opener-preserved c =
     let t : TypeRead = (c.loop-opener.draft, c.loop-opener.t.0, c.loop-opener.rest.now) in
+    let sound = closed_sound c.in-Some.opener t _ c.in_ok-t.ensures c.laws.ensures.scope in
     record {
       closed = closes_on c.loop-opener.openers.items c.pop.new.self.items c.in-Some.opener t _
           c.in-Some.ensures.items c.loop-opener.invariant.closed _ c.in_ok-t.ensures;
-      known = (closed_sound c.in-Some.opener t _ c.in_ok-t.ensures
-          (record { scope = c.laws.ensures.scope; known = c.loop-opener.invariant.known })).known;
+      stands = known_stands (element_after c.pop.new.self.items) _ _ _ sound.known;
     }
 
 pub returns : goal.returns

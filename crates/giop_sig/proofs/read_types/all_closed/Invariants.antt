@@ -1,6 +1,6 @@
 use Rattle.std.proofs.Common.{◌≡◌, length}
-use Rattle.giop_sig.specs.ScopeViews.{IsKnown}
-use Rattle.giop_sig.specs.TypeReading.{all_closed}
+use Rattle.giop_sig.specs.ScopeViews.{CanStand}
+use Rattle.giop_sig.specs.TypeReading.{all_closed, element_after}
 use Rattle.giop_sig.proofs.read_types.all_closed.Given as goal
 
 abbrev pub invariant-loop-opener : goal.invariant-loop-opener
@@ -8,7 +8,8 @@ invariant-loop-opener l =
     record {
       closed : all_closed l.openers.items (l.draft, l.t.0, l.rest)
           ≡ all_closed l.fn.openers.items (l.fn.draft, l.fn.innermost.0, l.fn.text);
-      known : IsKnown l.draft.table.types l.t.0;
+      stands : CanStand (element_after l.openers.items) l.draft.table.version l.draft.table.types
+          l.t.0;
     }
 
 abbrev pub decreases-loop-opener : goal.decreases-loop-opener

@@ -1,6 +1,8 @@
-use Rattle.std.proofs.Common.{sym, subst}
+use Rattle.std.proofs.Common.{◌≡◌, sym, ap, subst, ◌∙◌, Ok}
 use Rattle.std.proofs.lemmas.Result.{err_from_is_err_and}
 use Rattle.giop_sig.specs.Outcomes.{Stops}
+use Rattle.giop_sig.specs.ScopeViews.{CanStand}
+use Rattle.giop_sig.specs.TypeReading.{element_after, leaf_at}
 use Rattle.giop_sig.proofs.RepeatLaws.{stops_on}
 use Rattle.giop_sig.proofs.TypeTaken.{leaf_takes}
 use Rattle.giop_sig.proofs.TypeSteps.{leaf_and_close, type_as, type_on, type_stops}
@@ -18,14 +20,24 @@ pub returns-in_err-innermost : goal.returns-in_err-innermost
 returns-in_err-innermost c =
     let p = err_from_is_err_and c.from_residual-in_err-innermost.result
     c.from_residual-in_err-innermost.ensures.1 in
+    let last = c.element_after.ensures ∙ ap element_after c.as_slice.ensures.value in
     rw (p.1, p.2) (type_stops c.args.draft.now c.args.text.now _ c.in_ok-openers.ensures
-    c.in_err-innermost.field-0.0 c.in_err-innermost.ensures)
+    c.in_err-innermost.field-0.0
+    (subst (λ b. Stops c.in_err-innermost.field-0.0
+    (leaf_at b c.args.draft.now c.in_ok-openers.rest.now)) last c.in_err-innermost.ensures))
 
 pub all_closed-requires : goal.all_closed-requires
-all_closed-requires c = ((leaf_takes c.args.draft.now _ _ c.in_ok-innermost.ensures).sound
-    c.laws.ensures.scope).known
+all_closed-requires c =
+    let last = c.element_after.ensures ∙ ap element_after c.as_slice.ensures.value in
+    let s = c.leaf_at.new.draft in
+    subst (λ b. CanStand b s.table.version s.table.types c.in_ok-innermost.innermost.0) last
+    (((leaf_takes _ c.args.draft.now _ _ c.in_ok-innermost.ensures).sound
+    c.laws.ensures.scope).stands)
 
 pub returns : goal.returns
 returns c =
+    let last = c.element_after.ensures ∙ ap element_after c.as_slice.ensures.value in
     rw (type_on c.args.draft.now c.args.text.now _ c.in_ok-openers.ensures _
-    c.in_ok-innermost.ensures) c.all_closed.ensures
+    (subst (λ b. leaf_at b c.args.draft.now c.in_ok-openers.rest.now
+    ≡ Ok (c.leaf_at.new.draft, c.in_ok-innermost.innermost.0, c.in_ok-innermost.rest.now)) last
+    c.in_ok-innermost.ensures)) c.all_closed.ensures

@@ -1,38 +1,28 @@
-use Rattle.std.proofs.Common.{length, sym, subst, arith}
-use Rattle.giop_sig.specs.Table.{IsFormed, TakesOctet}
-use Rattle.giop_sig.proofs.ItemTaken.{declared_takes, still_new}
-use Rattle.giop_sig.proofs.IdentityLaws.{identity_takes, identity_still_new}
-use Rattle.giop_sig.proofs.UnionDeclared.{union_formed, union_grows}
+use Rattle.std.proofs.Common.{◌≡◌, Ok, subst, arith}
+use Rattle.giop_sig.specs.ItemReading.{announces_at}
+use Rattle.giop_sig.proofs.AnnouncedLaws.{announces_third}
+use Rattle.giop_sig.proofs.ItemTaken.{declared_takes}
 use Rattle.giop_sig.proofs.read_unions.union.Goals as goal
 
-pub type_end_at-requires-clause-formed : goal.type_end_at-requires-clause-formed
-type_end_at-requires-clause-formed c =
-    let types = c.cases_at.new.draft.table.types in
-    subst (IsFormed types (length types)) (sym c.in_ok-entry.ensures.ok)
-    (union_formed c.args.draft.now _ _ _ _ c.in_ok-switch.ensures c.in_ok-cases.ensures
-    c.laws.ensures.scope)
+pub announcement_at-requires-clause-third : goal.announcement_at-requires-clause-third
+announcement_at-requires-clause-third c =
+    announces_third c.args.draft.now c.in_ok-name.rest.now
+    (subst (λ b. announces_at c.args.draft.now c.in_ok-name.rest.now ≡ Ok b) c.if-branch.true
+    c.in_ok-announces_at.ensures)
 
-pub type_end_at-requires-clause-some : goal.type_end_at-requires-clause-some
-type_end_at-requires-clause-some c = subst TakesOctet (sym c.in_ok-entry.ensures.ok) tt
-
-pub type_end_at-requires-clause-short : goal.type_end_at-requires-clause-short
-type_end_at-requires-clause-short c = (declared_takes c.args.draft.now _ _ _
+pub announcement_at-requires-clause-short : goal.announcement_at-requires-clause-short
+announcement_at-requires-clause-short c = (declared_takes c.args.draft.now _ _ _ _
     c.in_ok-name.ensures).short
 
-pub type_end_at-requires-clause-new : goal.type_end_at-requires-clause-new
-type_end_at-requires-clause-new c =
-    still_new c.args.draft.now c.cases_at.new.draft _
-    (union_grows c.args.draft.now _ _ _ _ c.in_ok-switch.ensures c.in_ok-cases.ensures)
-    (declared_takes c.args.draft.now _ _ _ c.in_ok-name.ensures).new
+pub union_after-requires-clause-short : goal.union_after-requires-clause-short
+union_after-requires-clause-short c =
+    (declared_takes c.args.draft.now _ _ _ _ c.in_ok-name.ensures).short
 
-pub type_end_at-requires-clause-few : goal.type_end_at-requires-clause-few
-type_end_at-requires-clause-few c =
-    let g = union_grows c.args.draft.now _ _ _ _ c.in_ok-switch.ensures c.in_ok-cases.ensures in
-    let d = declared_takes c.args.draft.now _ _ _ c.in_ok-name.ensures in
-    let few = d.few in omega (arith, g.declared, c.types_declared-count.ensures)
+pub union_after-requires-clause-new : goal.union_after-requires-clause-new
+union_after-requires-clause-new c =
+    (declared_takes c.args.draft.now _ _ _ _ c.in_ok-name.ensures).new
 
-pub type_end_at-requires-clause-identity : goal.type_end_at-requires-clause-identity
-type_end_at-requires-clause-identity c =
-    identity_still_new c.args.draft.now c.cases_at.new.draft _
-    (union_grows c.args.draft.now _ _ _ _ c.in_ok-switch.ensures c.in_ok-cases.ensures)
-    (identity_takes c.args.draft.now _ _ c.in_ok-id.ensures).new
+pub union_after-requires-clause-few : goal.union_after-requires-clause-few
+union_after-requires-clause-few c =
+    let few = (declared_takes c.args.draft.now _ _ _ _ c.in_ok-name.ensures).few in
+    omega (arith, c.types_declared-count.ensures)

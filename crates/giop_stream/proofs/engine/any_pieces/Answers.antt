@@ -8,7 +8,9 @@ use Rattle.giop_stream.proofs.engine.any_pieces.Goals as goal
 pub returns : goal.returns
 returns c = record {
   whole = λ C l n. fed_together (rules C l n)
-      (is_causal (λ number. signatures_of C (by_list l number))) (in_turn C (by_list l));
-  same = λ C l n. fed_alike (rules C l n) (is_causal (λ number. signatures_of C (by_list l number)))
+      (is_causal (λ phase number. signatures_of C (by_list l number) phase))
+      (in_turn C (by_list l));
+  same = λ C l n. fed_alike (rules C l n) (is_causal
+      (λ phase number. signatures_of C (by_list l number) phase))
       (in_turn C (by_list l));
 }

@@ -8,6 +8,7 @@ use Rattle.giop_stream.proofs.engine.remaining.Goals as goal
 pub returns : goal.returns
 returns c = record {
   text = λ C l n octets p q s. remains (rules C l n)
-      (is_causal (λ number. signatures_of C (by_list l number))) (in_turn C (by_list l)) p q;
+      (is_causal (λ phase number. signatures_of C (by_list l number) phase)) (in_turn C (by_list l))
+      p q;
   within = λ C l n octets p laws s. spells_within octets p C l n laws s;
 }

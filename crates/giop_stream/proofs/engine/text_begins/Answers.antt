@@ -9,6 +9,6 @@ use Rattle.giop_stream.proofs.engine.text_begins.Goals as goal
 pub returns : goal.returns
 returns c = λ C l n p q. (
   added (rules C l n) p q,
-  text_adds (rules C l n) (is_causal (λ number. signatures_of C (by_list l number)))
+  text_adds (rules C l n) (is_causal (λ phase number. signatures_of C (by_list l number) phase))
       (in_turn C (by_list l)) p q,
 )

@@ -449,3 +449,27 @@ part_in-part-requires-clause-led c led =
     let case = rw c.in-Selected.is at c.requires.transition_fits in
     case_known C (23 - length old) c.args.of.0 i
     (subst (λ n. HasCase (tree_at C n c.args.of.0) i) one case) led
+
+pub unreachable-unreachable : goal.unreachable-unreachable
+unreachable-unreachable c = absurd (rw c.in-Recursed.is at c.requires.settled)
+
+pub returns-in-Stopped-clause-stand : goal.returns-in-Stopped-clause-stand
+returns-in-Stopped-clause-stand c at pos h = c.stop-self.ensures.stand at h
+
+pub returns-in-Stopped-clause-advances : goal.returns-in-Stopped-clause-advances
+returns-in-Stopped-clause-advances c coding path at =
+    let C = c.args.catalogue.now in
+    let T = tree_in C c.args.self.now.outer.items c.args.of.0 in
+    rw c.in-Stopped.is (c.stop-self.ensures.next coding path at T
+    ∙ gone_stopped C c.stop-self.new.outer.items _ _ c.stop-self.result at
+    c.clear-in-Stopped.ensures c.clear-in-Stopped-2.ensures)
+
+pub returns-in-Stopped-clause-inside : goal.returns-in-Stopped-clause-inside
+returns-in-Stopped-clause-inside c at lines =
+    rw c.in-Stopped.is (stopped_silent c.args.catalogue.now c.stop-self.new.outer.items _ _
+    c.stop-self.result lines at c.stop-self.ensures.plain)
+
+pub is_inside-self-requires-in-Stopped : goal.is_inside-self-requires-in-Stopped
+is_inside-self-requires-in-Stopped c =
+    rw c.as_slice-in-Stopped.ensures.value (c.stop-self.ensures.most
+    (rw c.requires.encloses (at_most (is_inside c.args.self.now.outer.items))))

@@ -1,22 +1,24 @@
-use Rattle.std.proofs.Common.{true, refl, sym, ap, ◌∙◌, arith}
+use Rattle.std.proofs.Common.{true, ℕ, ◌≡◌, ◌+◌, [], length, refl, sym, ap, ◌∙◌, arith}
+use Rattle.giop_decode.specs.Reading.{reading}
+use Rattle.giop_decode.specs.ReadResult.{Done}
 use Rattle.giop_decode.specs.Transitions.{within_more}
-use Rattle.giop_decode.proofs.Starting.{first_reads, first_fits, fit_some}
+use Rattle.giop_decode.proofs.Starting.{begins_at, first_reads, first_fits, fit_some}
 use Rattle.giop_decode.proofs.Surrounding.{ahead_by}
 use Rattle.giop_decode.proofs.decoder.Decoder.begin.Goals as goal
 use Rattle.giop_sig.specs.Trees.{tree}
 
 pub returns-clause-reads : goal.returns-clause-reads
-returns-clause-reads c =
+returns-clause-reads c coding at order even phase =
     let C = c.args.catalogue.now in
     let T = tree C c.args.of.0 in
-    first_reads C T c.args.self.now.order c.args.offset c.args.self.now.head.message
+    first_reads C T coding at c.args.self.now.head.message
     c.args.self.now.head.root _ c.begin-first.result
     (fit_some T c.if-is_empty.ensures.root
     (λ empty. let t = (c.if-is_empty.ensures.value 24).1 empty in cc)) refl
     c.new-self.ensures (λ here. c.begin-first.ensures.begun here ∙ rw c.clear.ensures refl)
-    (c.begin-first.ensures.stand c.args.offset (rw c.clear.ensures tt))
+    (c.begin-first.ensures.stand at (rw c.clear.ensures tt))
     (rw c.clear.ensures at c.begin-first.ensures.leaf)
-    (c.clear-3.ensures.nothing C true) c.requires.version refl refl refl refl
+    (c.clear-3.ensures.nothing C true) c.requires.version (sym order) refl refl phase even
 
 pub returns-clause-fits : goal.returns-clause-fits
 returns-clause-fits c some =
@@ -36,6 +38,17 @@ returns-clause-fits c some =
     (c.clear-3.ensures.nothing C true) c.clear-3.ensures.no_key c.requires.version
 
 pub returns-then-is_empty-clause-reads : goal.returns-then-is_empty-clause-reads
-returns-then-is_empty-clause-reads c =
+returns-then-is_empty-clause-reads c coding at order even phase =
     let noted = c.clear-3.ensures.nothing c.args.catalogue.now true in
-    search (arith)
+    let C = c.args.catalogue.now in
+    let T = tree C c.args.of.0 in
+    let is : reading coding [] T at [] ≡ Done [] (at + length {A = ℕ} []) [] = search (arith) in
+    record {
+      lines = [];
+      is = is;
+      keeps_noted = search (arith, is);
+      narrow = c.requires.version;
+      same_message = refl;
+      same_root = refl;
+      offset = begins_at coding _ at (sym order) phase even (rw c.clear.ensures tt);
+    }

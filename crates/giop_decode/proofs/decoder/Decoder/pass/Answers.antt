@@ -1,14 +1,16 @@
 use Rattle.std.proofs.Common.{ℕ, ◌+◌, ◌-◌, List, [], ◌++◌, ap, sym, ◌∙◌, arith, ◌≡◌}
 use Rattle.giop_decode.specs.Reading.{none_left, rooted}
-use Rattle.giop_decode.proofs.Advancing.{comes_by, front_result, moved, rooted_front, transition_front, unended}
+use Rattle.giop_decode.proofs.Advancing.{comes_by, front_result, moved, one_further, rooted_front, transition_front, unended}
 use Rattle.giop_decode.proofs.Around.{around-front}
 use Rattle.giop_decode.specs.Passes.{Gives}
 use Rattle.giop_decode.proofs.Surrounding.{ahead_by, inside_ticked, length_ticked, places_ticked, stand_ticked, tree_ticked}
 use Rattle.giop_decode.proofs.Linking.{link_ticked}
+use Rattle.giop_decode.proofs.Settled.{settled_fits, settled_going, settled_now, settled_offset, settled_reading, settled_result, settled_string}
+use Rattle.giop_sig.specs.Types.{elements_fit}
 use Rattle.giop_decode.proofs.Whole.{behind_gives}
 use Rattle.giop_decode.specs.Noted.{ends_in_string}
-use Rattle.giop_decode.specs.DecoderSteps.{emitted, transition_result}
-use Rattle.giop_decode.specs.ReadResult.{plain, Line, with_front}
+use Rattle.giop_decode.specs.DecoderSteps.{IsNotRefused, emitted, transition_result}
+use Rattle.giop_decode.specs.ReadResult.{Coding, Line, with_front}
 use Rattle.giop_decode.specs.ReadingSteps.{around, heard_parts, path_in}
 use Rattle.giop_decode.specs.Transitions.{IsOutput, open_parts, tree_in, Link, has_ended, still_held, after_transition, ticked}
 use Rattle.giop_sig.specs.Trees.{tree_at}
@@ -58,6 +60,28 @@ note-named-requires-clause-room c =
 pub note-named-requires-clause-has_output : goal.note-named-requires-clause-has_output
 note-named-requires-clause-has_output c = rw c.as_slice.ensures.value c.requires.has_output
 
+pub settled-transition-requires-clause-known : goal.settled-transition-requires-clause-known
+settled-transition-requires-clause-known c = c.requires.counted.1.around.known
+
+pub settled-transition-requires-clause-room : goal.settled-transition-requires-clause-room
+settled-transition-requires-clause-room c =
+    let b = c.requires.counted.1 in
+    rw (b.outer.same, length_ticked c.requires.counted.0.outer.items) b.around.room
+
+pub advance_frames-requires-clause-transition_fits :
+    goal.advance_frames-requires-clause-transition_fits
+advance_frames-requires-clause-transition_fits c =
+    let now = c.args.self.now in
+    let of = c.args.ahead.of.0 in
+    let step = c.args.ahead.step in
+    rw (c.settled-transition.ensures, c.let_go.ensures)
+    (settled_fits (tree_in c.args.catalogue.now now.outer.items of) of step.transition now.carry
+    (still_held step.output now.piece.items) c.requires.transition_fits)
+
+pub advance_frames-requires-clause-settled : goal.advance_frames-requires-clause-settled
+advance_frames-requires-clause-settled c =
+    rw c.settled-transition.ensures (settled_now _ c.args.ahead.step.transition)
+
 pub returns : goal.returns
 returns c d b =
     let C = c.args.catalogue.now in
@@ -73,15 +97,17 @@ returns c d b =
     let held = still_held step.output d.piece.items in
     let p = c.progress_of.result in
     let e = c.advance_frames.ensures in
+    let fits = elements_fit T in
+    let went = c.settled-transition.ensures in
     let ended : c.has_ended-ended.result ≡ has_ended new.outer.items =
     rw (← c.as_slice-2.ensures.value) c.has_ended-ended.ensures in
-    let come : (here : ℕ) (lines : List Line) → Gives C d of step rest here (here + 1) lines →
-    emitted C d of transition step.output lines here
+    let come : (coding : Coding) (here : ℕ) (lines : List Line) →
+    Gives C d of step rest here (here + 1) lines →
+    emitted coding C d of transition step.output lines here
     ≡ transition_result C T new transition lines (here + 1) =
-    λ here lines says.
+    λ coding here lines says.
     let P = open_parts C here d.outer.items in
     let Q = open_parts C (here + 1) now.outer.items in
-    let order = plain d.order in
     let R = after_transition T transition d.carry held [] (here + 1) in
     let said : IsOutput (tree_in C (ticked d.outer.items) of) (path_in [] P) (here + 1) step.output
     (d.piece.items ++ rest) lines = rw (tree_ticked C d.outer.items of) says in
@@ -89,53 +115,58 @@ returns c d b =
     b.outer.parts (here + 1) (here + 1) (path_in [] P) lines said
     ∙ ap (heard_parts lines) (places_ticked C 24 here d.outer.items b.around.ahead
     b.around.known_outer) in
-    ap (rooted none_left) (ap (λ U. around order [] P
+    ap (rooted none_left) (ap (λ U. around coding [] P
     (after_transition U transition d.carry held lines (here + 1))) same
-    ∙ (ap (around order [] P) (transition_front T transition d.carry held lines (here + 1))
-    ∙ (around-front order [] P lines R
-    ∙ ap (λ qs. with_front lines (around order [] qs R)) (sym heard))))
-    ∙ (rooted_front lines (around order [] Q R)
-    ∙ (ap (with_front lines) (rw (c.let_go.ensures, b.carry, b.piece) at
-    (e.advances order [] (here + 1)))
+    ∙ (ap (around coding [] P) (transition_front T transition d.carry held lines (here + 1))
+    ∙ (around-front coding [] P lines R
+    ∙ ap (λ qs. with_front lines (around coding [] qs R)) (sym heard))))
+    ∙ (rooted_front lines (around coding [] Q R)
+    ∙ (ap (with_front lines) (
+    ap (λ r. rooted none_left (around coding [] Q r))
+    (sym (settled_reading T transition d.carry held [] (here + 1)))
+    ∙ ((rw (c.let_go.ensures, b.carry, b.piece, went) at (e.advances coding [] (here + 1)))
+    ∙ settled_result T fits C new transition [] (here + 1)))
     ∙ front_result C T new transition lines (here + 1))) in
     record {
       order = e.order ∙ b.order;
       head = e.head ∙ b.head;
       narrow = e.narrow ∙ b.narrow;
-      here = λ here h. (
-        omega (arith, h.0, e.at, b.at),
-        e.stand (here + 1) (omega arith)
-            (b.outer.stand (here + 1) (stand_ticked here d.outer.items h.1)),
-      );
+      here = λ coding here h. one_further coding d new here (e.order ∙ b.order) (e.at ∙ b.at)
+          (e.stand (here + 1) (omega arith)
+          (b.outer.stand (here + 1) (stand_ticked here d.outer.items h.outer))) h;
       next = λ goes_on.
           let m = moved c.note-named.result c.has_ended-ended.result transition new.leaf p
           c.progress_of.ensures goes_on in
+          let moves : IsNotRefused c.settled-transition.result =
+          rw went (settled_going fits transition m) in
           let none = unended c.note-named.result c.has_ended-ended.result transition new.leaf p
           c.progress_of.ensures goes_on in
           record {
             known_outer = e.known_outer;
             inside = e.encloses;
             ahead = ahead_by C new.outer.items e.known_outer (sym ended ∙ none);
-            known = λ leaf is. e.known leaf m is;
-            clean = λ leaf is. e.clean leaf m is;
+            known = λ leaf is. e.known leaf moves is;
+            clean = λ leaf is. e.clean leaf moves is;
             link = λ root leaf before is.
                 let old : Link C root now.outer.items of =
                 b.outer.link root of (link_ticked C root d.outer.items of before) in
-                e.link root leaf m old is;
+                e.link root leaf moves old is;
             going = m;
-            offset = λ leaf is. e.offset leaf m is
-                ∙ ap (λ U. transition_offset U transition) (sym same);
+            offset = λ leaf is. (rw went at (e.offset leaf moves is))
+                ∙ (settled_offset T fits transition
+                ∙ ap (λ U. transition_offset U transition) (sym same));
           };
-      steps = λ here lines says.
+      steps = λ coding here lines says.
           let n = rw (c.as_slice.ensures.value, c.deref.ensures.0, c.root.ensures) at
           (c.note-named.ensures.named (here + 1) (here + 1) lines) in
           comes_by C T new c.note-named.result c.has_ended-ended.result transition lines
           (here + 1) p _
           (rw e.head (n (behind_gives C d now of step rest here (here + 1) lines b says)))
-          ended (come here lines says) c.progress_of.ensures;
-      inside = λ here lines says. ap ends_in_string (come here lines says)
-          ∙ (e.inside (here + 1) lines
-          ∙ ap (λ U. transition_in_string U transition) (sym same));
+          ended (come coding here lines says) c.progress_of.ensures;
+      inside = λ coding here lines says. ap ends_in_string (come coding here lines says)
+          ∙ (ap ends_in_string (sym (settled_result T fits C new transition lines (here + 1)))
+          ∙ ((rw went at (e.inside (here + 1) lines)) ∙ (settled_string T fits transition
+          ∙ ap (λ U. transition_in_string U transition) (sym same))));
       of_root = λ was.
           let keeps = rw (c.root.ensures, b.head) at c.note-named.ensures.of_root in
           rw e.notes (keeps (rw b.notes was));

@@ -53,8 +53,8 @@ returns-clause-stored c =
     c.is_stored_as.ensures.stored c.args.catalogue.now (returns-clause-fits c) (cc)
 
 pub returns-clause-reads : goal.returns-clause-reads
-returns-clause-reads c d fits stored T order at message root s reads =
+returns-clause-reads c d fits stored T coding at message root s reads =
     let C = c.args.catalogue.now in
-    reads_own d.narrow C T order at message root _ s
-    (restored_reads (seen d.narrow C) d _ T order at message root s
+    reads_own d.narrow C T coding at message root _ s
+    (restored_reads (seen d.narrow C) d _ T coding at message root s
     (c.parsed-decoder.ensures d stored) reads)

@@ -11,12 +11,13 @@ pub begin-requires-clause-version : goal.begin-requires-clause-version
 begin-requires-clause-version c = rw c.seen.ensures.is refl
 
 pub returns-clause-reads : goal.returns-clause-reads
-returns-clause-reads c =
+returns-clause-reads c coding at order even phase =
     let C = c.args.catalogue.now in
     let minor = c.args.minor in
-    reads_own (is_narrow minor C) C (tree (in_version minor C) c.args.of.0) c.args.order
-    c.args.offset c.args.message c.args.root c.begin.new.self _
-    (rw (c.new.ensures, c.seen.ensures.is, c.is_narrow-narrow.ensures) at c.begin.ensures.reads)
+    reads_own (is_narrow minor C) C (tree (in_version minor C) c.args.of.0) coding
+    at c.args.message c.args.root c.begin.new.self _
+    (rw (c.new.ensures, c.seen.ensures.is, c.is_narrow-narrow.ensures) at
+    (c.begin.ensures.reads coding at order even phase))
 
 pub returns-clause-done : goal.returns-clause-done
 returns-clause-done c =

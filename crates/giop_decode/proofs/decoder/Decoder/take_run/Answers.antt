@@ -5,8 +5,8 @@ pub take_octets-requires : goal.take_octets-requires
 take_octets-requires g c = rw c.seen.ensures.is c.requires
 
 pub returns-clause-writes : goal.returns-clause-writes
-returns-clause-writes g c T order at message root s r =
-    c.take_octets.ensures.writes T order at message root s (rw c.seen.ensures.is r)
+returns-clause-writes g c T coding at message root s r =
+    c.take_octets.ensures.writes T coding at message root s (rw c.seen.ensures.is r)
 
 pub returns-clause-takes : goal.returns-clause-takes
 returns-clause-takes g c =

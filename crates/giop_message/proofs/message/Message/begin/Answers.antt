@@ -1,11 +1,19 @@
-use Rattle.std.proofs.Common.{[], sym, append-nil}
+use Rattle.std.proofs.Common.{◌≡◌, ◌+◌, ◌%◌, [], length, sym, ◌∙◌, append-nil}
 use Rattle.giop_sig.specs.Table.{in_version}
 use Rattle.giop_sig.specs.Trees.{tree}
 use Rattle.giop_message.specs.Headers.{minor}
+use Rattle.giop_message.specs.Phases.{IsCounted}
+use Rattle.giop_message.specs.Signatures.{signatures_of}
+use Rattle.giop_message.proofs.Followings.{counted_now, even_from}
 use Rattle.giop_message.proofs.message.Message.begin.Goals as goal
 
 pub returns-clause-enters : goal.returns-clause-enters
-returns-clause-enters c answers number header s at before first e =
+unfolding signatures_of
+returns-clause-enters c answers phase number header s at before first e =
+    let counted : IsCounted phase c.args.self.now.lacks (12 + length s) = rw at.at at at.counted in
+    let now : phase (12 + length s) % 8 ≡ c.phase-phase.result % 8 =
+    counted_now phase c.args.self.now.lacks (12 + length s) counted
+    ∙ sym (rw at.at at c.phase-phase.ensures) in
     record {
       T = tree (in_version (minor header) c.args.catalogue.now) c.args.of.0;
       before = before;
@@ -18,8 +26,7 @@ returns-clause-enters c answers number header s at before first e =
         ← at.same_header,
         ← c.minor_of-minor.ensures,
         ← at.same_number,
-        ← at.at,
-        ← c.order_of-order.ensures,
         ← c.root-root.ensures,
-      ) c.restart.ensures.reads;
+      ) (c.restart.ensures.reads _ (12 + length s) (sym c.order_of-order.ensures)
+          (even_from phase c.args.self.now.lacks (12 + length s) counted) now);
     }

@@ -16,11 +16,12 @@ returns-in-Type-clause-arrives c answers = rw c.in-Type.is (c.begin_typed.ensure
 
 pub returns-in-Exception-clause-arrives : goal.returns-in-Exception-clause-arrives
 unfolding body signatures_of
-returns-in-Exception-clause-arrives c answers number header s at before e =
-    c.begin_fixed.ensures.enters answers number header s at before tt (rw c.in-Exception.is at e)
+returns-in-Exception-clause-arrives c answers phase number header s at before e =
+    c.begin_fixed.ensures.enters answers phase number header s at before tt
+    (rw c.in-Exception.is at e)
 
 pub returns-in-SystemException-clause-arrives : goal.returns-in-SystemException-clause-arrives
 unfolding body signatures_of
-returns-in-SystemException-clause-arrives c answers number header s at before e =
-    c.begin_fixed-in-SystemException.ensures.enters answers number header s at before tt
+returns-in-SystemException-clause-arrives c answers phase number header s at before e =
+    c.begin_fixed-in-SystemException.ensures.enters answers phase number header s at before tt
     (rw c.in-SystemException.is at e)

@@ -2,11 +2,10 @@ use Rattle.std.proofs.Common.{◌≡◌, ◌+◌, [], length, sym, ap, subst}
 use Rattle.giop_sig.specs.Table.{Table, in_version}
 use Rattle.giop_sig.specs.Trees.{tree}
 use Rattle.giop_sig.specs.HeaderTypes.{fixed_type}
-use Rattle.giop_decode.specs.ReadResult.{plain}
 use Rattle.giop_decode.specs.Reading.{reading}
 use Rattle.giop_decode.specs.Noted.{nothing_noted}
-use Rattle.giop_message.specs.Headers.{minor, order}
-use Rattle.giop_message.specs.Messages.{message, with_front, section_and_rest}
+use Rattle.giop_message.specs.Headers.{minor}
+use Rattle.giop_message.specs.Messages.{coding_of, message, with_front, section_and_rest}
 use Rattle.giop_message.specs.MessageState.{IsFirst}
 use Rattle.giop_message.specs.Signatures.{signatures_of}
 use Rattle.giop_message.proofs.Starting.{fit_some}
@@ -18,16 +17,16 @@ begin-requires-clause-some c =
     c.fixed-of.result.0) (rw (← c.minor_of.ensures, ← c.in_version.ensures) c.fixed-of.ensures.fit)
 
 pub returns-clause-enters : goal.returns-clause-enters
-returns-clause-enters c answers number header s at before first e =
+returns-clause-enters c answers phase number header s at before first e =
     let C = c.args.catalogue.now in
-    let S = signatures_of C (answers number) in
+    let S = signatures_of C (answers number) phase in
     let version = ap (λ (t : Table). t.version) c.in_version.ensures in
     let is : tree (in_version (minor header) C) c.fixed-of.result.0
     ≡ fixed_type C.version c.args.fixed =
     rw (← at.same_header, ← c.minor_of.ensures, ← c.in_version.ensures, ← version)
     c.fixed-of.ensures.tree in
-    c.begin.ensures.enters answers number header s at before
+    c.begin.ensures.enters answers phase number header s at before
     (subst (λ T. IsFirst C.version header c.args.section T before s) (sym is) first)
     (subst (λ T. message S header s ≡ with_front before
     (section_and_rest S header c.args.section nothing_noted
-    (reading (plain (order header)) [] T (12 + length s) []))) (sym is) e)
+    (reading (coding_of S header) [] T (12 + length s) []))) (sym is) e)

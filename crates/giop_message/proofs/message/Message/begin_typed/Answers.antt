@@ -1,8 +1,9 @@
 use Rattle.std.proofs.Common.{◌≡◌, ◌+◌, true, length, sym, ap, ◌∙◌}
 use Rattle.giop_sig.specs.Table.{in_version}
 use Rattle.giop_sig.specs.Trees.{tree}
-use Rattle.giop_message.specs.Headers.{minor, order}
-use Rattle.giop_message.specs.Messages.{Typed, body_may_be_missing, with_front, typed}
+use Rattle.giop_message.specs.Headers.{minor}
+use Rattle.giop_message.specs.Messages.{coding_of, Typed, body_may_be_missing, with_front, typed}
+use Rattle.giop_message.specs.Signatures.{signatures_of}
 use Rattle.giop_message.proofs.Starting.{empty_rests, some_not_empty}
 use Rattle.giop_message.proofs.message.Message.begin_typed.Goals as goal
 
@@ -17,16 +18,17 @@ pub returns-then-is_empty-clause-fits : goal.returns-then-is_empty-clause-fits
 returns-then-is_empty-clause-fits c = c.begin_rest.ensures.fits c.args.catalogue.now
 
 pub returns-then-is_empty-clause-arrives : goal.returns-then-is_empty-clause-arrives
-returns-then-is_empty-clause-arrives c answers number header s at before e =
+returns-then-is_empty-clause-arrives c answers phase number header s at before e =
     let C = c.args.catalogue.now in
+    let S = signatures_of C (answers number) phase in
     let T = tree (in_version (minor header) C) c.args.of.0 in
     let empty : body_may_be_missing (Typed T) ≡ true = rw
     (← at.same_header, ← c.minor_of.ensures, ← c.in_version.ensures)
     (sym c.is_empty.ensures ∙ c.if-is_empty.true) in
-    c.begin_rest.ensures.arrives C answers number header s at before
-    (e ∙ ap (with_front before) (empty_rests (order header) T (12 + length s) empty))
+    c.begin_rest.ensures.arrives C answers phase number header s at before
+    (e ∙ ap (with_front before) (empty_rests (coding_of S header) T (12 + length s) empty))
 
 pub returns-else-is_empty-clause-arrives : goal.returns-else-is_empty-clause-arrives
 unfolding typed
-returns-else-is_empty-clause-arrives c answers number header s at before e =
-    c.begin.ensures.enters answers number header s at before tt e
+returns-else-is_empty-clause-arrives c answers phase number header s at before e =
+    c.begin.ensures.enters answers phase number header s at before tt e

@@ -6,10 +6,11 @@ use Rattle.giop_message.proofs.message.Message.is_short.Goals as goal
 
 pub returns-in-Typed : goal.returns-in-Typed
 unfolding is_short
-returns-in-Typed c answers number header s f = rw (section_short f c.requires c.in-Typed.is) refl
+returns-in-Typed c answers phase number header s f = rw
+    (section_short f c.requires c.in-Typed.is) refl
 
 pub returns-in-Padding : goal.returns-in-Padding
-returns-in-Padding c answers number header s f =
+returns-in-Padding c answers phase number header s f =
     rw (padding_stage f c.requires c.in-Padding.is, padding_short)
     (ap not (rw (
       ← f.same_header,
@@ -18,5 +19,5 @@ returns-in-Padding c answers number header s f =
     ) c.body_may_be_missing.ensures))
 
 pub returns-in-Rest : goal.returns-in-Rest
-returns-in-Rest c answers number header s f =
+returns-in-Rest c answers phase number header s f =
     rw (rest_stage f c.requires c.in-Rest.is, rest_short) refl

@@ -9,11 +9,12 @@ use Rattle.giop_message.proofs.Starting.{left_padded, left_bare, wanted_agree}
 use Rattle.giop_message.proofs.message.Message.leave.Goals as goal
 
 pub returns-then-is_padded-clause-arrives : goal.returns-then-is_padded-clause-arrives
-returns-then-is_padded-clause-arrives g c answers number header s section r ended agrees at before
+returns-then-is_padded-clause-arrives g c answers phase number header s section r ended agrees at
+    before
     e =
     let C = c.args.catalogue.now in
     let answer = g.Q.Correspondent.answer (g.Q.Correspondent.state c.args.correspondent.now) in
-    let S = signatures_of C (answers number) in
+    let S = signatures_of C (answers number) phase in
     let h = noted_of (is_header_root (root_of section)) r in
     let d = c.args.self.now.decoder in
     let here = subst (λ p. Ended C d p section r) c.in-Typed.is ended in
@@ -21,9 +22,9 @@ returns-then-is_padded-clause-arrives g c answers number header s section r ende
     let some : is_padded header section (12 + length s) ≡ true =
     rw (← at.same_header, ← at.at, ← here.0) (sym c.is_padded.ensures ∙ c.if-is_padded.true) in
     let wants = rw (at.same_header, here.0) at
-    (c.body_type_after-body_type_id.ensures.is r keeps_noted
+    (c.body_type_after-body_type_id.ensures.is phase r keeps_noted
     (c.operation_of-operation.ensures.is r keeps_noted)) in
-    let body_type_id = wants ∙ wanted_agree C answer (answers number) header section h
+    let body_type_id = wants ∙ wanted_agree C answer (answers number) phase header section h
     (λ j. sym (agrees j)) in
     rw c.begin_padding.ensures (
       before,
@@ -32,11 +33,12 @@ returns-then-is_padded-clause-arrives g c answers number header s section r ende
     )
 
 pub returns-else-is_padded-clause-arrives : goal.returns-else-is_padded-clause-arrives
-returns-else-is_padded-clause-arrives g c answers number header s section r ended agrees at before
+returns-else-is_padded-clause-arrives g c answers phase number header s section r ended agrees at
+    before
     e =
     let C = c.args.catalogue.now in
     let answer = g.Q.Correspondent.answer (g.Q.Correspondent.state c.args.correspondent.now) in
-    let S = signatures_of C (answers number) in
+    let S = signatures_of C (answers number) phase in
     let h = noted_of (is_header_root (root_of section)) r in
     let d = c.args.self.now.decoder in
     let here = subst (λ p. Ended C d p section r) c.in-Typed.is ended in
@@ -44,11 +46,16 @@ returns-else-is_padded-clause-arrives g c answers number header s section r ende
     let none : is_padded header section (12 + length s) ≡ false =
     rw (← at.same_header, ← at.at, ← here.0) (sym c.is_padded.ensures ∙ c.if-is_padded.false) in
     let wants = rw (at.same_header, here.0) at
-    (c.body_type_after-body_type_id.ensures.is r keeps_noted
+    (c.body_type_after-body_type_id.ensures.is phase r keeps_noted
     (c.operation_of-operation.ensures.is r keeps_noted)) in
-    let body_type_id = wants ∙ wanted_agree C answer (answers number) header section h
+    let body_type_id = wants ∙ wanted_agree C answer (answers number) phase header section h
     (λ j. sym (agrees j)) in
-    c.begin_body.ensures.arrives answers number header s
-    (record { same_number = at.same_number; same_header = at.same_header; at = at.at }) before
+    c.begin_body.ensures.arrives answers phase number header s
+    (record {
+      same_number = at.same_number;
+      same_header = at.same_header;
+      at = at.at;
+      counted = at.counted;
+    }) before
     (e ∙ (ap (with_front before) (left_bare S header section h (12 + length s) none)
     ∙ ap (λ b. with_front before (body S header b (12 + length s) [])) (sym body_type_id)))

@@ -16,7 +16,7 @@ begin-requires-clause-some c =
 
 pub returns-in-Some-clause-follows : goal.returns-in-Some-clause-follows
 unfolding signatures_of
-returns-in-Some-clause-follows c answers =
+returns-in-Some-clause-follows c answers phase counted =
     let e = c.begin.ensures in
     let version = ap (λ (t : Table). t.version) c.in_version.ensures in
     let found : header_type c.args.catalogue.now.version (minor c.args.header) (kind c.args.header)
@@ -28,19 +28,22 @@ returns-in-Some-clause-follows c answers =
       same_header = e.header;
       id = e.id ∙ rw e.within refl;
       at = e.at;
-      stands = e.enters answers c.args.number c.args.header []
-          (record { same_number = refl; same_header = refl; at = refl }) nothing_said
+      counted = rw (e.lacks, e.at) counted;
+      stands = e.enters answers phase c.args.number c.args.header []
+          (record { same_number = refl; same_header = refl; at = refl; counted = counted })
+          nothing_said
           (found, refl, refl)
-          (header_first (signatures_of c.args.catalogue.now (answers c.args.number)) c.args.header
+          (header_first (signatures_of c.args.catalogue.now (answers c.args.number) phase)
+          c.args.header
           (tree (in_version (minor c.args.header) c.args.catalogue.now) c.in-Some.of.0) found);
     }
 
 pub returns-in-None-clause-follows : goal.returns-in-None-clause-follows
 unfolding signatures_of first_request_id
-returns-in-None-clause-follows c answers =
+returns-in-None-clause-follows c answers phase counted =
     let e = c.begin_rest.ensures in
     let version = ap (λ (t : Table). t.version) c.in_version.ensures in
-    let S = signatures_of c.args.catalogue.now (answers c.args.number) in
+    let S = signatures_of c.args.catalogue.now (answers c.args.number) phase in
     let none : header_type c.args.catalogue.now.version (minor c.args.header) (kind c.args.header)
     ≡ None =
     rw (← c.minor_of-minor.ensures, ← c.kind_of.ensures, ← version)
@@ -50,8 +53,10 @@ returns-in-None-clause-follows c answers =
       same_header = e.header;
       id = e.id ∙ rw (e.past, none_told S c.args.header) refl;
       at = e.at;
-      stands = e.arrives c.args.catalogue.now answers c.args.number c.args.header []
-          (record { same_number = refl; same_header = refl; at = refl }) nothing_said
+      counted = rw (e.lacks, e.at) counted;
+      stands = e.arrives c.args.catalogue.now answers phase c.args.number c.args.header []
+          (record { same_number = refl; same_header = refl; at = refl; counted = counted })
+          nothing_said
           (none_rests S c.args.header none ∙ sym (front_rests nothing_said 12));
     }
 

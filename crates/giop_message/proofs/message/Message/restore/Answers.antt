@@ -12,6 +12,13 @@ returns-then-not-is_after_header-clause-again c m fits same stored =
     let behind = c.is_after_header.ensures.1 (omega (arith, m.begun)) in
     absurd (not_both c.if-not-is_after_header.true behind)
 
+pub returns-then-not-is_lack-clause-again : goal.returns-then-not-is_lack-clause-again
+returns-then-not-is_lack-clause-again c m fits same stored =
+    let fields = own_fields m c.args.fixed.now stored.own in
+    let lacks = c.octet_at-lacks.ensures _ _ fields.lacks in
+    let few = c.is_lack.ensures.1 (omega (arith, m.few, lacks)) in
+    absurd (not_both c.if-not-is_lack.true few)
+
 pub returns-in_default-clause-again : goal.returns-in_default-clause-again
 returns-in_default-clause-again c m fits same_header stored =
     let long = behind_own _ c.told-fixed in
@@ -35,6 +42,7 @@ returns-then-not-same-clause-again c m fits same_header stored =
     c.eight_at-at.ensures c.octet_at.ensures octets version c.in-Some.ensures.again in
     let is = same_own _ m
     (c.eight_at-at.ensures m.at _ stored.own.at fields.at)
+    (c.octet_at-lacks.ensures _ _ fields.lacks)
     (c.in-Some.ensures.octet ∙ c.octet_at.ensures _ _ fields.part)
     (ap (kept_id c.in-Some.part) id ∙ kept_again _ _ _ m.part c.in-Some.part m.id on) in
     let same = c.same.ensures.1 (c.own_octets.ensures.is ∙ is ∙ sym stored.own.is ∙ sym own) in
@@ -59,7 +67,7 @@ returns-clause-stored c =
     }
 
 pub returns-clause-follows : goal.returns-clause-follows
-returns-clause-follows c m fits same_number same_header stored answers number header s f =
+returns-clause-follows c m fits same_number same_header stored answers phase number header s f =
     let fields = own_fields m c.args.fixed.now stored.own in
     let long = behind_own _ c.told-fixed in
     let octets = c.octets_at-octets.ensures _ [] long (sym (append-nil _)) in
@@ -73,6 +81,10 @@ returns-clause-follows c m fits same_number same_header stored answers number he
       same_header = sym same_header ∙ f.same_header;
       id = id_on _ _ _ m.part c.in-Some.part m.id _ _ on id f.id;
       at = c.eight_at-at.ensures m.at _ stored.own.at fields.at ∙ f.at;
-      stands = stands_on _ answers number header s m.decoder c.in-Some.decoder m.part
+      counted = rw (
+        c.octet_at-lacks.ensures _ _ fields.lacks,
+        c.eight_at-at.ensures m.at _ stored.own.at fields.at,
+      ) f.counted;
+      stands = stands_on _ answers phase number header s m.decoder c.in-Some.decoder m.part
           c.in-Some.part on f.stands;
     }

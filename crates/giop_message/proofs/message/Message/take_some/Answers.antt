@@ -23,13 +23,13 @@ ended_in C d section r is keeps_noted =
     subst (λ p. Ended C d p section r) (sym is) (refl, keeps_noted)
 
 pub returns-in_err-taken-in-Typed-clause-writes : goal.returns-in_err-taken-in-Typed-clause-writes
-returns-in_err-taken-in-Typed-clause-writes g c answers number header s f =
+returns-in_err-taken-in-Typed-clause-writes g c answers phase number header s f =
     let t = standing f c.in-Typed.is c.requires.fits in
     broken_front t c.from_residual.result c.args.octets.now c.args.place c.from_residual.ensures.0
     (by_reads t c.in_err-taken-in-Typed.ensures.writes)
 
 pub returns-in-More-clause-writes : goal.returns-in-More-clause-writes
-returns-in-More-clause-writes g c answers number header s f =
+returns-in-More-clause-writes g c answers phase number header s f =
     let t = standing f c.in-Typed.is c.requires.fits in
     let ran = c.in_ok-taken-in-Typed.ensures in
     let k = took t c.args.octets.now c.in_ok-taken-in-Typed.taken ran.within
@@ -37,48 +37,50 @@ returns-in-More-clause-writes g c answers number header s f =
     took_front _ c.args.place _ _ refl k (rw (text_more k c.args.place) (by_reads t ran.writes))
 
 pub returns-in-More-clause-took : goal.returns-in-More-clause-took
-returns-in-More-clause-took g c answers number header s f agrees =
+returns-in-More-clause-took g c answers phase number header s f agrees =
     let t = standing f c.in-Typed.is c.requires.fits in
     let ran = c.in_ok-taken-in-Typed.ensures in
     let k = took t c.args.octets.now c.in_ok-taken-in-Typed.taken ran.within
     (ran.some c.requires.some) (by_reads t ran.takes) c.in-More.is in
-    went_on k (λ fault. fault) _ (record { number = refl; header = refl; at = refl }) refl
+    went_on k (λ fault. fault) _
+    (record { number = refl; header = refl; at = refl; lacks = refl }) refl
     c.in-Typed.is refl
 
 pub returns-in_err-call-in-Named-clause-writes : goal.returns-in_err-call-in-Named-clause-writes
-returns-in_err-call-in-Named-clause-writes g c answers number header s f =
+returns-in_err-call-in-Named-clause-writes g c answers phase number header s f =
     let t = standing f c.in-Typed.is c.requires.fits in
     let ran = c.in_ok-taken-in-Typed.ensures in
     let k = took t c.args.octets.now c.in_ok-taken-in-Typed.taken ran.within
     (ran.some c.requires.some) (by_reads t ran.takes) c.in-Named.is in
-    let called = c.in_err-call-in-Named.ensures (answers number)
+    let called = c.in_err-call-in-Named.ensures (answers number) phase
     (ReadWith t (take c.in_ok-taken-in-Typed.taken c.args.octets.now)) (keeps_noted_header k) in
     failed_front c.from_residual-in_err-call-in-Named.result c.args.place
     c.from_residual-in_err-call-in-Named.ensures.0 k (text_named k c.args.place)
     (by_reads t ran.writes) called
 
 pub returns-in_ok-call-in-Named-clause-writes : goal.returns-in_ok-call-in-Named-clause-writes
-returns-in_ok-call-in-Named-clause-writes g c answers number header s f =
+returns-in_ok-call-in-Named-clause-writes g c answers phase number header s f =
     let t = standing f c.in-Typed.is c.requires.fits in
     let ran = c.in_ok-taken-in-Typed.ensures in
     let k = took t c.args.octets.now c.in_ok-taken-in-Typed.taken ran.within
     (ran.some c.requires.some) (by_reads t ran.takes) c.in-Named.is in
-    let called = c.in_ok-call-in-Named.ensures (answers number)
+    let called = c.in_ok-call-in-Named.ensures (answers number) phase
     (ReadWith t (take c.in_ok-taken-in-Typed.taken c.args.octets.now)) (keeps_noted_header k) in
     took_front _ c.args.place _ _ refl k (rw (text_named k c.args.place)
     (wrote-append _ _ _ _ _ (by_reads t ran.writes) called))
 
 pub returns-in_ok-call-in-Named-clause-took : goal.returns-in_ok-call-in-Named-clause-took
-returns-in_ok-call-in-Named-clause-took g c answers number header s f agrees =
+returns-in_ok-call-in-Named-clause-took g c answers phase number header s f agrees =
     let t = standing f c.in-Typed.is c.requires.fits in
     let ran = c.in_ok-taken-in-Typed.ensures in
     let k = took t c.args.octets.now c.in_ok-taken-in-Typed.taken ran.within
     (ran.some c.requires.some) (by_reads t ran.takes) c.in-Named.is in
-    went_on k (λ fault. fault) _ (record { number = refl; header = refl; at = refl }) refl
+    went_on k (λ fault. fault) _
+    (record { number = refl; header = refl; at = refl; lacks = refl }) refl
     c.in-Typed.is refl
 
 pub returns-in-Done-clause-writes : goal.returns-in-Done-clause-writes
-returns-in-Done-clause-writes g c answers number header s f =
+returns-in-Done-clause-writes g c answers phase number header s f =
     let t = standing f c.in-Typed.is c.requires.fits in
     let ran = c.in_ok-taken-in-Typed.ensures in
     let k = took t c.args.octets.now c.in_ok-taken-in-Typed.taken ran.within
@@ -86,21 +88,21 @@ returns-in-Done-clause-writes g c answers number header s f =
     took_front _ c.args.place _ _ refl k (rw (text_done k c.args.place) (by_reads t ran.writes))
 
 pub returns-in-Done-clause-took : goal.returns-in-Done-clause-took
-returns-in-Done-clause-took g c answers number header s f agrees =
+returns-in-Done-clause-took g c answers phase number header s f agrees =
     let t = standing f c.in-Typed.is c.requires.fits in
     let ran = c.in_ok-taken-in-Typed.ensures in
     let k = took t c.args.octets.now c.in_ok-taken-in-Typed.taken ran.within
     (ran.some c.requires.some) (by_reads t ran.takes) c.in-Done.is in
     let e = c.leave.ensures in
     let xs = take c.in_ok-taken-in-Typed.taken c.args.octets.now in
-    went_done k _ _ (record { number = refl; header = refl; at = refl }) refl
-    (e.arrives answers number header (s ++ xs) c.in-Typed.field-0 (ReadWith t xs)
+    went_done k _ _ (record { number = refl; header = refl; at = refl; lacks = refl }) refl
+    (e.arrives answers phase number header (s ++ xs) c.in-Typed.field-0 (ReadWith t xs)
     (ended_in c.args.catalogue.now c.take_run.new.self c.in-Typed.field-0 (ReadWith t xs)
     c.in-Typed.is
     k.takes.keeps_noted)
     (answered_here g.Q.Correspondent.answer g.Q.Correspondent.notified
     (g.Q.Correspondent.state c.args.correspondent.now) answers k agrees))
-    (record { number = e.number; header = e.header; at = e.at })
+    (record { number = e.number; header = e.header; at = e.at; lacks = e.lacks })
     (e.id c.in-Typed.field-0 (ReadWith t xs)
     (ended_in c.args.catalogue.now c.take_run.new.self c.in-Typed.field-0 (ReadWith t xs)
     c.in-Typed.is
@@ -108,7 +110,7 @@ returns-in-Done-clause-took g c answers number header s f agrees =
 
 pub returns-in_err-fault_line-in-Fault-clause-writes :
     goal.returns-in_err-fault_line-in-Fault-clause-writes
-returns-in_err-fault_line-in-Fault-clause-writes g c answers number header s f =
+returns-in_err-fault_line-in-Fault-clause-writes g c answers phase number header s f =
     let t = standing f c.in-Typed.is c.requires.fits in
     let ran = c.in_ok-taken-in-Typed.ensures in
     let k = took t c.args.octets.now c.in_ok-taken-in-Typed.taken ran.within
@@ -120,7 +122,7 @@ returns-in_err-fault_line-in-Fault-clause-writes g c answers number header s f =
 
 pub returns-in_ok-fault_line-in-Fault-clause-writes :
     goal.returns-in_ok-fault_line-in-Fault-clause-writes
-returns-in_ok-fault_line-in-Fault-clause-writes g c answers number header s f =
+returns-in_ok-fault_line-in-Fault-clause-writes g c answers phase number header s f =
     let t = standing f c.in-Typed.is c.requires.fits in
     let ran = c.in_ok-taken-in-Typed.ensures in
     let k = took t c.args.octets.now c.in_ok-taken-in-Typed.taken ran.within
@@ -131,7 +133,7 @@ returns-in_ok-fault_line-in-Fault-clause-writes g c answers number header s f =
 
 pub returns-in_ok-fault_line-in-Fault-clause-took :
     goal.returns-in_ok-fault_line-in-Fault-clause-took
-returns-in_ok-fault_line-in-Fault-clause-took g c answers number header s f agrees =
+returns-in_ok-fault_line-in-Fault-clause-took g c answers phase number header s f agrees =
     let t = standing f c.in-Typed.is c.requires.fits in
     let ran = c.in_ok-taken-in-Typed.ensures in
     let k = took t c.args.octets.now c.in_ok-taken-in-Typed.taken ran.within
@@ -139,17 +141,17 @@ returns-in_ok-fault_line-in-Fault-clause-took g c answers number header s f agre
     went_wrong c.in-Fault.kind k
 
 pub returns-in-Padding-clause-writes : goal.returns-in-Padding-clause-writes
-returns-in-Padding-clause-writes g c answers number header s f =
+returns-in-Padding-clause-writes g c answers phase number header s f =
     let octet = get_or c.args.octets.now 0 0 in
-    let here = same_fields f refl refl refl refl (sym c.in-Padding.is) refl in
-    let none = c.take_padding.ensures.told answers number header s octet here in
+    let here = same_fields f refl refl refl refl refl (sym c.in-Padding.is) refl in
+    let none = c.take_padding.ensures.told answers phase number header s octet here in
     record {
       n = 1;
       counted = refl;
       within = c.requires.some;
       some = λ _. omega arith;
       fronts = λ k few. let first : k ≡ 0 = omega (arith, few) in
-          rw first (header_ends_none number header s);
+          rw first (header_ends_none phase number header s);
       all = rw (
         first_alone c.args.octets.now c.requires.some,
         no_text _ number c.args.place header s (octet ∷ []) none,
@@ -157,13 +159,14 @@ returns-in-Padding-clause-writes g c answers number header s f =
     }
 
 pub returns-in-Padding-clause-took : goal.returns-in-Padding-clause-took
-returns-in-Padding-clause-took g c answers number header s f agrees =
-    let here = same_fields f refl refl refl refl (sym c.in-Padding.is) refl in
+returns-in-Padding-clause-took g c answers phase number header s f agrees =
+    let here = same_fields f refl refl refl refl refl (sym c.in-Padding.is) refl in
     rw (first_alone c.args.octets.now c.requires.some)
-    (c.take_padding.ensures.follows answers number header s (get_or c.args.octets.now 0 0) here)
+    (c.take_padding.ensures.follows answers phase number header s (get_or c.args.octets.now 0 0)
+    here)
 
 pub returns-in_err-take-in-Rest-clause-writes : goal.returns-in_err-take-in-Rest-clause-writes
-returns-in_err-take-in-Rest-clause-writes g c answers number header s f =
+returns-in_err-take-in-Rest-clause-writes g c answers phase number header s f =
     let octets = c.args.octets.now in
     let At = 12 + length s in
     let text = rest_text f c.in-Rest.is octets c.requires.some c.room.ensures c.min-taken.ensures
@@ -177,7 +180,7 @@ returns-in_err-take-in-Rest-clause-writes g c answers number header s f =
     (At + length (take c.min-taken.result octets)))))
 
 pub returns-in_ok-take-in-Rest-clause-writes : goal.returns-in_ok-take-in-Rest-clause-writes
-returns-in_ok-take-in-Rest-clause-writes g c answers number header s f =
+returns-in_ok-take-in-Rest-clause-writes g c answers phase number header s f =
     let octets = c.args.octets.now in
     let At = 12 + length s in
     let text = rest_text f c.in-Rest.is octets c.requires.some c.room.ensures c.min-taken.ensures
@@ -189,15 +192,15 @@ returns-in_ok-take-in-Rest-clause-writes g c answers number header s f =
     (At + length (take c.min-taken.result octets))))
 
 pub returns-in_ok-take-in-Rest-clause-took : goal.returns-in_ok-take-in-Rest-clause-took
-returns-in_ok-take-in-Rest-clause-took g c answers number header s f agrees =
+returns-in_ok-take-in-Rest-clause-took g c answers phase number header s f agrees =
     let octets = c.args.octets.now in
     let end = (12 + length s) + length (take c.min-taken.result octets) in
     rest_follows f c.in-Rest.is octets c.requires.some c.room.ensures c.min-taken.ensures
-    (record { number = refl; header = refl; at = refl }) refl refl
+    (record { number = refl; header = refl; at = refl; lacks = refl }) refl refl
     (c.in_ok-take-in-Rest.ensures.holds end)
 
 pub returns-in-More-clause-told : goal.returns-in-More-clause-told
-returns-in-More-clause-told g c answers number header s f =
+returns-in-More-clause-told g c answers phase number header s f =
     let t = standing f c.in-Typed.is c.requires.fits in
     let ran = c.in_ok-taken-in-Typed.ensures in
     let k = took t c.args.octets.now c.in_ok-taken-in-Typed.taken ran.within
@@ -206,7 +209,7 @@ returns-in-More-clause-told g c answers number header s f =
     (g.Q.Correspondent.state c.args.correspondent.now)) (none_ends k tt))
 
 pub returns-in_ok-call-in-Named-clause-told : goal.returns-in_ok-call-in-Named-clause-told
-returns-in_ok-call-in-Named-clause-told g c answers number header s f =
+returns-in_ok-call-in-Named-clause-told g c answers phase number header s f =
     let t = standing f c.in-Typed.is c.requires.fits in
     let ran = c.in_ok-taken-in-Typed.ensures in
     let k = took t c.args.octets.now c.in_ok-taken-in-Typed.taken ran.within
@@ -215,7 +218,7 @@ returns-in_ok-call-in-Named-clause-told g c answers number header s f =
     (g.Q.Correspondent.state c.args.correspondent.now)) (none_ends k tt))
 
 pub returns-in-Done-clause-told : goal.returns-in-Done-clause-told
-returns-in-Done-clause-told g c answers number header s f =
+returns-in-Done-clause-told g c answers phase number header s f =
     let t = standing f c.in-Typed.is c.requires.fits in
     let ran = c.in_ok-taken-in-Typed.ensures in
     let k = took t c.args.octets.now c.in_ok-taken-in-Typed.taken ran.within
@@ -230,7 +233,7 @@ returns-in-Done-clause-told g c answers number header s f =
 
 pub returns-in_ok-fault_line-in-Fault-clause-told :
     goal.returns-in_ok-fault_line-in-Fault-clause-told
-returns-in_ok-fault_line-in-Fault-clause-told g c answers number header s f =
+returns-in_ok-fault_line-in-Fault-clause-told g c answers phase number header s f =
     let t = standing f c.in-Typed.is c.requires.fits in
     let ran = c.in_ok-taken-in-Typed.ensures in
     let k = took t c.args.octets.now c.in_ok-taken-in-Typed.taken ran.within
@@ -239,14 +242,14 @@ returns-in_ok-fault_line-in-Fault-clause-told g c answers number header s f =
     (g.Q.Correspondent.state c.args.correspondent.now)) (none_ends k tt))
 
 pub returns-in-Padding-clause-told : goal.returns-in-Padding-clause-told
-returns-in-Padding-clause-told g c answers number header s f =
+returns-in-Padding-clause-told g c answers phase number header s f =
     sym (ap (after_ends g.Q.Correspondent.notified c.args.catalogue.now
     (g.Q.Correspondent.state c.args.correspondent.now))
-    (ap (header_ends number header s) (first_alone c.args.octets.now c.requires.some)
+    (ap (header_ends phase number header s) (first_alone c.args.octets.now c.requires.some)
     ∙ padding_none f c.in-Padding.is (get_or c.args.octets.now 0 0)))
 
 pub returns-in_ok-take-in-Rest-clause-told : goal.returns-in_ok-take-in-Rest-clause-told
-returns-in_ok-take-in-Rest-clause-told g c answers number header s f =
+returns-in_ok-take-in-Rest-clause-told g c answers phase number header s f =
     sym (ap (after_ends g.Q.Correspondent.notified c.args.catalogue.now
     (g.Q.Correspondent.state c.args.correspondent.now))
     (rest_none f c.in-Rest.is (take c.min-taken.result c.args.octets.now)))

@@ -1,5 +1,7 @@
 use Rattle.std.proofs.Common.{sym, subst}
 use Rattle.giop_sig.specs.Views.{node_view}
+use Rattle.giop_sig.specs.HeaderTypes.{IsAddable}
+use Rattle.giop_sig.specs.Scopes.{Scope}
 use Rattle.giop_sig.specs.Trees.{AreFormed}
 use Rattle.giop_sig.specs.ScopeViews.{scope_view, IsDraft}
 use Rattle.giop_sig.specs.Entries.{table_view}
@@ -13,11 +15,13 @@ invariant_of-self-2 c =
     subst (λ types. IsDraft (scope_view i.version
     (table_view i.version types i.operations.entries i.exceptions.entries i.declared
     i.called i.interfaces i.identities.entries i.fronts.keys)
-    i.names.entries))
+    i.names.entries i.announced.entries))
     (sym added)
     (draft_grows (scope_view i.version
     (table_view i.version i.types i.operations.entries i.exceptions.entries i.declared
     i.called i.interfaces i.identities.entries i.fronts.keys)
-    i.names.entries)
-    (node_view c.args.entry) c.self.invariant c.requires.plain
+    i.names.entries i.announced.entries)
+    (node_view c.args.entry) c.self.invariant
+    (subst (λ (s : Scope). IsAddable s.table.version (node_view c.args.entry)) (sym c.self.view_is)
+    c.requires.addable)
     (subst AreFormed added c.laws.ensures))

@@ -8,5 +8,5 @@ invariant_of-self c =
     let i = c.self.inside in
     draft_called (scope_view i.version (table_view i.version i.types i.operations.entries
     i.exceptions.entries i.declared i.called i.interfaces
-    i.identities.entries i.fronts.keys) i.names.entries) c.add.new.self
+    i.identities.entries i.fronts.keys) i.names.entries i.announced.entries) c.add.new.self
     c.self.invariant c.add.ensures.many

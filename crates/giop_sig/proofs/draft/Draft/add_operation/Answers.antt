@@ -11,7 +11,7 @@ use Rattle.giop_sig.proofs.draft.Draft.add_operation.Goals as goal
 pub returns-clause-added : goal.returns-clause-added
 returns-clause-added c =
     let i = c.self.inside in
-    draft_table i.version _ _ _ i.names.entries c.args.self.now c.self.view_is
+    draft_table i.version _ _ _ i.names.entries i.announced.entries c.args.self.now c.self.view_is
     (operation_put (table_view i.version i.types i.operations.entries i.exceptions.entries
     i.declared i.called i.interfaces i.identities.entries i.fronts.keys) i.operations.entries
     c.insert.new.self.entries c.args.self.now.table c.call_key-key.result c.args.signature
@@ -23,7 +23,8 @@ pub invariant_of-self-2 : goal.invariant_of-self-2
 invariant_of-self-2 c =
     let i = c.self.inside in
     let is = subst IsDraft c.self.view_is c.self.invariant in
-    let put = draft_table i.version _ _ _ i.names.entries c.args.self.now c.self.view_is
+    let put = draft_table i.version _ _ _ i.names.entries i.announced.entries c.args.self.now
+    c.self.view_is
     (operation_put (table_view i.version i.types i.operations.entries i.exceptions.entries
     i.declared i.called i.interfaces i.identities.entries i.fronts.keys) i.operations.entries
     c.insert.new.self.entries c.args.self.now.table c.call_key-key.result c.args.signature
@@ -31,7 +32,12 @@ invariant_of-self-2 c =
     (ap (λ (s : Scope). s.table) c.self.view_is) c.call_key-key.ensures
     c.requires.new c.in_ok-insert.ensures.entries) in
     subst IsDraft (sym put) (record {
-      scope = record { begins = is.scope.begins; names = is.scope.names };
+      scope = record {
+        begins = is.scope.begins;
+        names = is.scope.names;
+        announced =
+            is.scope.announced;
+      };
       table = operation_added c.args.self.now.table
           (record {
             key = operation_key c.args.interface c.args.name.now;

@@ -9,5 +9,5 @@ returns c =
     c.is_some.ensures ∙ some_copied c.get.result ∙ ap is_some c.get.ensures.value
     ∙ name_declared c.args.self.now c.self.inside.version
     _
-    c.self.inside.names.entries c.unwrap-key.result
+    c.self.inside.names.entries c.self.inside.announced.entries c.unwrap-key.result
     c.args.name.now c.self.view_is key.0

@@ -6,7 +6,7 @@ use Rattle.giop_sig.proofs.draft.Draft.new.Goals as goal
 
 first : (version : ℕ) → IsDraft (first_scope version)
 first version = record {
-  scope = record { begins = ([], search (append-nil)); names = tt };
+  scope = record { begins = ([], search (append-nil)); names = tt; announced = tt };
   table = first_is version;
 }
 
@@ -20,4 +20,5 @@ invariant_of-result c =
       c.new-3.ensures,
       c.new-4.ensures.empty,
       c.new-5.ensures.empty,
+      c.new-6.ensures.empty,
     ) (first c.args.version)

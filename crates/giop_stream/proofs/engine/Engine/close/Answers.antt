@@ -13,8 +13,8 @@ returns-in-Ok-clause-text g c = λ a p h.
     rw (
       ← c.self.view_is,
       finish_is (rules_by C a c.self.inside.framing.slots.slots.most)
-          (is_causal (λ number. signatures_of C (a number))) (in_turn C a)
-          (is_ending (λ number. signatures_of C (a number))) p,
+          (is_causal (λ phase number. signatures_of C (a number) phase)) (in_turn C a)
+          (is_ending (λ phase number. signatures_of C (a number) phase)) p,
     ) (c.in-Ok.ensures _ _ _ k.shows)
 
 pub returns-in-Ok-clause-totals : goal.returns-in-Ok-clause-totals
@@ -23,7 +23,7 @@ returns-in-Ok-clause-totals g c = λ a p h.
     let C = c.self.inside.catalogue.now in
     rw (← c.self.view_is) (c.final_totals.ensures.value _ _ _ k.shows
     ∙ sym (final_is (rules_by C a c.self.inside.framing.slots.slots.most)
-    (is_causal (λ number. signatures_of C (a number))) (in_turn C a) p))
+    (is_causal (λ phase number. signatures_of C (a number) phase)) (in_turn C a) p))
 
 pub returns-in-Err-clause-text : goal.returns-in-Err-clause-text
 returns-in-Err-clause-text g c = λ a p h.
@@ -32,6 +32,6 @@ returns-in-Err-clause-text g c = λ a p h.
     rw (
       ← c.self.view_is,
       finish_is (rules_by C a c.self.inside.framing.slots.slots.most)
-          (is_causal (λ number. signatures_of C (a number))) (in_turn C a)
-          (is_ending (λ number. signatures_of C (a number))) p,
+          (is_causal (λ phase number. signatures_of C (a number) phase)) (in_turn C a)
+          (is_ending (λ phase number. signatures_of C (a number) phase)) p,
     ) (c.in-Err.ensures _ _ _ k.shows)

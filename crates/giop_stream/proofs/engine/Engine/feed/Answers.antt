@@ -73,7 +73,8 @@ returns-in-Err-clause-text g c p h =
     let both : added R p piece
     ≡ added R p (take t.n piece) ++ added R (p ++ take t.n piece) (drop t.n piece) =
     ap (added R p) (sym (take-append-drop t.n piece))
-    ∙ added_both R (is_causal (λ number. signatures_of c.args.self.now.table (l number)))
+    ∙ added_both R (is_causal (λ phase number. signatures_of c.args.self.now.table (l number)
+    phase))
     (in_turn c.args.self.now.table l) p (take t.n piece) (drop t.n piece) in
     subst (StopWrites {A = Status} (Err c.in-Err.stop) (g.O.Out.log c.args.out.now)
     (g.O.Out.log c.feed_by.new.out)) (sym both)

@@ -30,7 +30,8 @@ returns-in-Ok-clause-held g c a p h agrees =
     let octets = All-take (λ x. x < 256) c.in-Ok.count c.args.piece.now
     (All-from_get_or (λ x. x < 256) c.args.piece.now 0
     (λ i below. omega (arith, c.type_inv.piece i))) in
-    let now = rw (← run_holds R (is_causal (λ number. signatures_of C (a number))) (in_turn C a) p
+    let now = rw (← run_holds R (is_causal (λ phase number. signatures_of C (a number) phase))
+    (in_turn C a) p
     xs) at does.shows in
     record {
       sound = held.sound;
@@ -54,7 +55,8 @@ returns-in-Ok-clause-status g c a p h agrees =
     let octets = All-take (λ x. x < 256) c.in-Ok.count c.args.piece.now
     (All-from_get_or (λ x. x < 256) c.args.piece.now 0
     (λ i below. omega (arith, c.type_inv.piece i))) in
-    let now = rw (← run_holds R (is_causal (λ number. signatures_of C (a number))) (in_turn C a) p
+    let now = rw (← run_holds R (is_causal (λ phase number. signatures_of C (a number) phase))
+    (in_turn C a) p
     xs) at does.shows in
     c.status.ensures ∙ ap status_of (now.stopped ∙ stop_is R (p ++ xs))
 
@@ -73,7 +75,8 @@ returns-in-Ok-clause-begun g c a p h agrees =
     let octets = All-take (λ x. x < 256) c.in-Ok.count c.args.piece.now
     (All-from_get_or (λ x. x < 256) c.args.piece.now 0
     (λ i below. omega (arith, c.type_inv.piece i))) in
-    let now = rw (← run_holds R (is_causal (λ number. signatures_of C (a number))) (in_turn C a) p
+    let now = rw (← run_holds R (is_causal (λ phase number. signatures_of C (a number) phase))
+    (in_turn C a) p
     xs) at does.shows in
     let after : IsReached C a most (state_of R (p ++ xs)) = record {
       stream = p ++ xs;
@@ -105,7 +108,7 @@ returns-in-Ok-clause-text g c a p h agrees =
       fronts = λ k few. rw (← c.self.view_is) (t.fronts k few);
       all = rw (
         ← c.self.view_is,
-        added_text R (is_causal (λ number. signatures_of C (a number)))
+        added_text R (is_causal (λ phase number. signatures_of C (a number) phase))
             (in_turn C a) p (take t.n c.args.piece.now),
       ) t.all.text;
     }
@@ -129,7 +132,7 @@ returns-in-Err-clause-text g c a p h agrees =
       fronts = λ k few. rw (← c.self.view_is) (t.fronts k few);
       all = rw (
         ← c.self.view_is,
-        added_text R (is_causal (λ number. signatures_of C (a number)))
+        added_text R (is_causal (λ phase number. signatures_of C (a number) phase))
             (in_turn C a) p (take t.n c.args.piece.now),
       ) t.all.text;
     }

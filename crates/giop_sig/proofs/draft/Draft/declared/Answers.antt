@@ -1,7 +1,8 @@
 use Rattle.std.proofs.Common.{ap, ◌∙◌}
 use Rattle.giop_sig.specs.RequestList.{flat}
-use Rattle.giop_sig.proofs.ScopeLaws.{number_of_id, name_typed}
-use Rattle.giop_sig.proofs.draft.Draft.type_named.Goals as goal
+use Rattle.giop_sig.specs.ScopeViews.{number_of_id}
+use Rattle.giop_sig.proofs.ScopeLaws.{name_typed}
+use Rattle.giop_sig.proofs.draft.Draft.declared.Goals as goal
 
 pub returns-in_err-get : goal.returns-in_err-get
 returns-in_err-get c =
@@ -10,7 +11,7 @@ returns-in_err-get c =
     ∙ ap (λ o. number_of_id (flat o)) c.in_err-get.ensures.value
     ∙ name_typed c.args.self.now c.self.inside.version
     _
-    c.self.inside.names.entries c.unwrap-key.result
+    c.self.inside.names.entries c.self.inside.announced.entries c.unwrap-key.result
     c.args.name.now c.self.view_is key.0
 
 pub returns : goal.returns
@@ -19,5 +20,5 @@ returns c =
     ap (λ o. number_of_id (flat o)) c.in_ok-get.ensures.value
     ∙ name_typed c.args.self.now c.self.inside.version
     _
-    c.self.inside.names.entries c.unwrap-key.result
+    c.self.inside.names.entries c.self.inside.announced.entries c.unwrap-key.result
     c.args.name.now c.self.view_is key.0

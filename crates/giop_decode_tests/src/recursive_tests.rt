@@ -1,0 +1,102 @@
+//! A struct with a sequence of itself: a decoder of an operation's parameters is stored and restored after each octet.
+ghost use Rattle.std.specs.Prelude.{IfSome};
+ghost use Rattle.giop_decode.specs.DecoderState.{Fits};
+
+use crate::wide_tests::taken_by_one;
+use giop_print::{OutFault, Sheet, put_all};
+use giop_sig::Catalogue;
+use giop_testing::spelled;
+use std::process::Abort;
+use std::test::Fail;
+
+const SIGNATURES: &[u8] =
+    br#"signatures 3; struct C; struct C { octet name; sequence<C, 2> children; }; operation void c(in C v); operation void e(in encapsulation<C> v, in octet o);"#;
+
+/// An operation, the octets of its parameters from offset 48 on, and their lines.
+static ROWS: [(&str, &str, &str); 2] = [
+    (
+        "c",
+        "01 ee*3 00000002 02 ee*3 00000000 03 ee*3 00000001 04 ee*3 00000000",
+        "m1 body.v.name octet 1\nm1 body.v.children count 2\nm1 body.v.children[0].name octet 2\nm1 body.v.children[0].children count 0\nm1 body.v.children[1].name octet 3\nm1 body.v.children[1].children count 1\nm1 body.v.children[1].children[0].name octet 4\nm1 body.v.children[1].children[0].children count 0\n",
+    ),
+    (
+        "e",
+        "0000000c 00 07 ee*2 00000000 aabbccdd 05",
+        "m1 body.v encapsulation 12\nm1 body.v order big\nm1 body.v.name octet 7\nm1 body.v.children count 0\nm1 body.v rest @0 aabbccdd\nm1 body.o octet 5\n",
+    ),
+];
+
+#[test]
+fn a_struct_has_elements_that_are_such_structs(rt: HostRuntime) -> Result<(), Fail> {
+    let catalogue = Catalogue::parse_types(rt.alloc(), SIGNATURES)?;
+    each_has_its_lines(&rt, &catalogue);
+    Ok(())
+}
+
+fn each_has_its_lines(rt: &impl Abort, catalogue: &Catalogue) {
+    for (operation, octets, lines) in ROWS {
+        let mut room = [0; 256];
+        let spelled = spelled(octets, &mut room);
+        let mut room = [0; 1024];
+        let mut sheet = Sheet::new(&mut room);
+        let taken = taken_by_one(catalogue, operation, 2, spelled, &mut sheet);
+        assert!(rt; taken == Some(spelled.len()), "{operation} {octets}");
+        assert!(rt; sheet.held() == lines.as_bytes(), "{operation} {octets}");
+    }
+}
+
+/// Puts the lines of some generations, of which the last has the line `last` of its children.
+fn put_generations(sheet: &mut Sheet, generations: usize, last: &[u8]) -> Result<(), OutFault> {
+    for generation in 0..generations {
+        put_member(sheet, generation, b".name octet 9\n")?;
+        if generation + 1 < generations {
+            put_member(sheet, generation, b".children count 1\n")?;
+        } else {
+            put_member(sheet, generation, last)?;
+        }
+    }
+    Ok(())
+}
+
+/// Puts the line of a member of the first child in a generation.
+fn put_member(sheet: &mut Sheet, generation: usize, member: &[u8]) -> Result<(), OutFault> {
+    put_all(sheet, b"m1 body.v")?;
+    for _ in 0..generation {
+        put_all(sheet, b".children[0]")?;
+    }
+    put_all(sheet, member)
+}
+
+/// Eleven generations, of which the last has no child, and of which it has one that has no room.
+static GENERATIONS: [(&str, &[u8]); 2] = [
+    (
+        "09 ee*3 00000001 09 ee*3 00000001 09 ee*3 00000001 09 ee*3 00000001 09 ee*3 00000001 09 ee*3 00000001 09 ee*3 00000001 09 ee*3 00000001 09 ee*3 00000001 09 ee*3 00000001 09 ee*3 00000000",
+        b".children count 0\n",
+    ),
+    (
+        "09 ee*3 00000001 09 ee*3 00000001 09 ee*3 00000001 09 ee*3 00000001 09 ee*3 00000001 09 ee*3 00000001 09 ee*3 00000001 09 ee*3 00000001 09 ee*3 00000001 09 ee*3 00000001 09 ee*3 00000001",
+        b".children count 1\n",
+    ),
+];
+
+#[test]
+fn eleven_generations_have_room(rt: HostRuntime) -> Result<(), Fail> {
+    let catalogue = Catalogue::parse_types(rt.alloc(), SIGNATURES)?;
+    each_is_over(&rt, &catalogue)
+}
+
+fn each_is_over(rt: &impl Abort, catalogue: &Catalogue) -> Result<(), Fail> {
+    for (octets, last) in GENERATIONS {
+        let mut room = [0; 256];
+        let spelled = spelled(octets, &mut room);
+        let mut room = [0; 4096];
+        let mut sheet = Sheet::new(&mut room);
+        let taken = taken_by_one(catalogue, "c", 2, spelled, &mut sheet);
+        let mut wanted = [0; 4096];
+        let mut sample = Sheet::new(&mut wanted);
+        put_generations(&mut sample, 11, last)?;
+        assert!(rt; taken == Some(spelled.len()), "{octets}");
+        assert!(rt; sheet.held() == sample.held(), "{octets}");
+    }
+    Ok(())
+}
