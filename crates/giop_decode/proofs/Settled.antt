@@ -3,7 +3,7 @@ use Rattle.std.proofs.Common.{◌≡◌, ℕ, Bool, true, false, List, refl}
 use Rattle.giop_decode.specs.DecoderSteps.{IsNotRefused, transition_result}
 use Rattle.giop_decode.specs.NotingSteps.{transition_in_string, transition_offset}
 use Rattle.giop_decode.specs.ReadResult.{Line}
-use Rattle.giop_decode.specs.Transitions.{IsSettled, TransitionFits, after_transition, recursed, settled_by}
+use Rattle.giop_decode.specs.Transitions.{IsSettled, LetsGo, TransitionFits, after_transition, recursed, settled_by}
 use Rattle.giop_decode.specs.declared.decoder.Decoder.{Decoder}
 use Rattle.giop_decode.specs.declared.leaf.Transition.{Transition}
 use Rattle.giop_decode.specs.declared.leaf.Transition.TheVariants as transitions
@@ -32,6 +32,12 @@ settled_fits (Recursive bound true E) of (transitions.Recursed count) carry piec
 settled_fits (Recursive bound false E) of (transitions.Recursed count) carry piece h = tt
 settled_fits T of (transitions.Recursed count) carry piece h = absurd h.0
 settled_fits T of transition carry piece h = h
+
+pub settled_lets_go : (fits : Bool) (transition : Transition) (carry piece : List ℕ) →
+    LetsGo transition carry piece → LetsGo (settled_by transition fits) carry piece
+settled_lets_go true (transitions.Recursed count) carry piece h = h
+settled_lets_go false (transitions.Recursed count) carry piece h = h
+settled_lets_go fits transition carry piece h = h
 
 module _ (T : Ty) (fits : Bool) where
   pub settled_string : (transition : Transition) →

@@ -17,6 +17,7 @@ use Rattle.giop_decode.specs.declared.decoder.Decoder.{Decoder}
 use Rattle.giop_decode.specs.declared.leaf.Leaf.{Leaf as Innermost}
 use Rattle.giop_decode.specs.declared.leaf.Leaf.TheVariants as innermost
 use Rattle.giop_decode.specs.declared.leaf.Step.{Step}
+use Rattle.giop_decode.specs.declared.leaf.Transition.{Transition}
 use Rattle.giop_decode.specs.declared.leaf.Transition.TheVariants as transitions
 use Rattle.giop_decode.specs.declared.leaf.Output.{Output}
 use Rattle.giop_decode.specs.declared.leaf.Output.TheVariants as outputs
@@ -33,7 +34,7 @@ use Rattle.giop_decode.specs.NotingSteps.{transition_offset, StringGoesOn, Outpu
 use Rattle.giop_decode.specs.Runs.{Adds, AllGathered, IsHeldOf, IsParted, IsStep, IsStepBy, IsStepOf, TakenTogether}
 use Rattle.giop_decode.specs.ReadResult.{line, Coding, Done, Line, Opening, PathSegment, Piece, lines_of, with_front}
 use Rattle.giop_decode.specs.ReadingSteps.{after, coding_in, content_step, leading_width, leaf_step, path_in, IsRule}
-use Rattle.giop_decode.specs.Transitions.{AreKnown, HasOutput, HaveOctetsLeft, IsOutput, IsWholeLong, IsWholeNumber, NumberStands, TransitionGives, TransitionFits, after_transition, block_of, coding_by, leaf_by, leaf_of, leaf_type, open_parts, still_held, ticked, ticked_by, tree_in, IsClean}
+use Rattle.giop_decode.specs.Transitions.{AreKnown, HasOutput, HaveOctetsLeft, IsOutput, IsWholeLong, IsWholeNumber, LetsGo, NumberStands, TransitionGives, TransitionFits, after_transition, block_of, coding_by, leaf_by, leaf_of, leaf_type, open_parts, still_held, ticked, ticked_by, tree_in, IsClean}
 use Rattle.giop_decode.proofs.Advancing.{lines_after_transition, same_some, stands_at, fits_allowed}
 use Rattle.arrayvec.specs.ArrayVec.{ArrayVec}
 use Rattle.giop_decode.specs.declared.frame.Frame.{Frame}
@@ -86,6 +87,12 @@ still_nothing : (output : Output) → still_held output [] ≡ []
 still_nothing outputs.Nothing = refl
 still_nothing _ = refl
 
+-- nothing is held, whatever the transition
+lets_nothing_go : (transition : Transition) → LetsGo transition [] []
+lets_nothing_go (transitions.More leaf) = tt
+lets_nothing_go (transitions.Refused kind) = tt
+lets_nothing_go _ = (refl, refl)
+
 module _ (C : Table) (d : Decoder) (of : TypeId) (octets : List ℕ) (count : ℕ) (f : Fits C d)
     (e : d.leaf ≡ Some (innermost.Number of)) where
   pub no_piece : d.piece.items ≡ []
@@ -97,8 +104,8 @@ module _ (C : Table) (d : Decoder) (of : TypeId) (octets : List ℕ) (count : �
       NumberStands (leading_width (tree_in C d.outer.items of.0)) at d.carry octets count whole all
       →
       HaveOctetsLeft (ticked_by (length octets - 1) d.outer.items) →
-      TransitionFits (tree_in C d.outer.items of.0) of.0 s.transition kept [] → HasOutput (tree_in
-      C d.outer.items of.0) s.output →
+      TransitionFits (tree_in C d.outer.items of.0) of.0 s.transition kept [] →
+      LetsGo s.transition kept [] → HasOutput (tree_in C d.outer.items of.0) s.output →
       OutputFitsString (tree_in C d.outer.items of.0) false s.transition s.output →
       ((n : ℕ) → StringGoesOn (tree_in C d.outer.items of.0) None s.transition s.output n) →
       ((coding : Coding) (path : List PathSegment) (here : ℕ) →
@@ -107,7 +114,7 @@ module _ (C : Table) (d : Decoder) (of : TypeId) (octets : List ℕ) (count : �
       after coding path (tree_in C d.outer.items of.0) (num order xs) at rest)
       (block_of whole all here))) →
       TakenTogether C d octets of count s [] kept d.piece.items
-  of_number order at coded whole kept all s stands ahead fits has string on gives =
+  of_number order at coded whole kept all s stands ahead fits lets has string on gives =
       let nothing_held : still_held s.output d.piece.items ≡ [] =
       ap (still_held s.output) no_piece ∙ still_nothing s.output in
       record {
@@ -123,6 +130,7 @@ module _ (C : Table) (d : Decoder) (of : TypeId) (octets : List ℕ) (count : �
         piece = d.piece.items;
         adds = (rw coded stands.are_held, refl);
         transition_fits = rw nothing_held fits;
+        lets_go = rw nothing_held lets;
         has_output = has;
         output_fits_string = string;
         string_goes_on = on (length (d.piece.items ++ []));
@@ -155,8 +163,8 @@ module _ (C : Table) (d : Decoder) (of : TypeId) (octets : List ℕ) (count : �
       TakenTogether C d octets of count s [] kept d.piece.items
   comes_here order at coded kept all s empty stands ahead fits gives =
       of_number order at coded true kept all s stands ahead (rw empty fits.transition_fits)
-      fits.has_output fits.output_fits_string fits.string_goes_on
-      (λ coding path here. rw empty (gives coding path here))
+      (rw empty (lets_nothing_go s.transition)) fits.has_output fits.output_fits_string
+      fits.string_goes_on (λ coding path here. rw empty (gives coding path here))
 
   pub comes_head : (order : Order) (at : ℕ) → coding_by d.order d.at d.outer.items ≡ (order, at) →
       (kept all : List ℕ) (s : Step) → kept ≡ [] →
@@ -219,7 +227,7 @@ module _ (C : Table) (d : Decoder) (of : TypeId) (octets : List ℕ) (count : �
         output = outputs.Nothing;
       }) [] all d.piece.items
   number_waits order at coded all stands ahead =
-      of_number order at coded false all all _ stands ahead (refl, refl) tt refl (λ n. refl)
+      of_number order at coded false all all _ stands ahead (refl, refl) tt tt refl (λ n. refl)
       (λ coding path here. record { lines = []; comes = refl; says = refl })
 
 -- ---- the octet of an encapsulation's byte order
@@ -250,6 +258,7 @@ module _ (C : Table) (d : Decoder) (of : TypeId) (n : ℕ) (octets : List ℕ) (
         piece = d.piece.items;
         adds = (refl, refl, refl);
         transition_fits = rw (clean.0, kept) fits.transition_fits;
+        lets_go = rw (clean.0, kept) (lets_nothing_go s.transition);
         has_output = fits.has_output;
         output_fits_string = fits.output_fits_string;
         string_goes_on = fits.string_goes_on (length (d.piece.items ++ []));
@@ -327,6 +336,7 @@ module _ (C : Table) (d : Decoder) (of : TypeId) (total offset : ℕ) (octets : 
       IsParted C d.outer.items content_leaf d.piece.items (count - 1) → length kept + length rest ≤
       32 →
       TransitionFits T of.0 s.transition d.carry (still_held s.output kept) →
+      LetsGo s.transition d.carry (still_held s.output kept) →
       HasOutput T s.output → OutputFitsString T (is_text T) s.transition s.output →
       StringGoesOn T (string_offset T content_leaf) s.transition s.output (length (kept ++ rest)) →
       (lines : List PathSegment → ℕ → List Line) →
@@ -337,7 +347,7 @@ module _ (C : Table) (d : Decoder) (of : TypeId) (total offset : ℕ) (octets : 
       ((path : List PathSegment) (here : ℕ) →
       IsOutput T path (here + 1) s.output (kept ++ rest) (lines path here)) →
       TakenTogether C d octets of count s rest d.carry kept
-  of_content s rest kept some within parted short fits has string on lines comes says =
+  of_content s rest kept some within parted short fits lets has string on lines comes says =
       let size = before_size within in
       record {
         leaf = content_leaf;
@@ -357,6 +367,7 @@ module _ (C : Table) (d : Decoder) (of : TypeId) (total offset : ℕ) (octets : 
           (λ small. omega (arith, size, parted.1 small)),
         );
         transition_fits = fits;
+        lets_go = lets;
         has_output = has;
         output_fits_string = string;
         string_goes_on = on;
@@ -380,7 +391,7 @@ module _ (C : Table) (d : Decoder) (of : TypeId) (total offset : ℕ) (octets : 
       of_content _ (take count octets) d.piece.items some within
       ((λ _. omega (arith, counted, room)), (λ small. absurd (omega (arith, large, small))))
       (omega (arith, length-take-le count octets within, counted, room))
-      (refl, no_carry) content.kind (sym (and-true (is_text T)))
+      (refl, no_carry) tt content.kind (sym (and-true (is_text T)))
       (refl, refl, held_size count within ∙ omega (arith, counted, room))
       (λ path here. line (here + 1) path
       (Piece T offset (d.piece.items ++ take count octets) true) ∷ [])
@@ -442,12 +453,13 @@ module _ (C : Table) (d : Decoder) (of : TypeId) (total offset : ℕ) (octets : 
           ∷ []) (here + 1) [])) →
           TakenTogether C d octets of count (step_of why) (take size octets) d.carry d.piece.items
       go None rule some parted short come =
-          of_content _ (take size octets) d.piece.items some within parted short tt content.kind
-          (sym (and-false (is_text T))) (none_either (is_text T) (Some offset), refl)
+          of_content _ (take size octets) d.piece.items some within parted short tt
+          (no_carry, refl) content.kind (sym (and-false (is_text T)))
+          (none_either (is_text T) (Some offset), refl)
           (λ path here. line (here + 1) path
           (Piece T offset (d.piece.items ++ take size octets) false) ∷ []) come (λ path here. refl)
       go (Some kind) rule some parted short come =
-          of_content _ (take size octets) d.piece.items some within parted short rule tt refl tt
+          of_content _ (take size octets) d.piece.items some within parted short rule tt tt refl tt
           (λ path here. []) come (λ path here. refl)
 
   -- the octet that ends a string
@@ -510,7 +522,7 @@ module _ (C : Table) (d : Decoder) (of : TypeId) (total offset : ℕ) (octets : 
           tail_small T,
           length-append d.piece.items octets,
         )
-      ]) (refl, no_carry) tt refl refl (λ path here. [])
+      ]) (refl, no_carry) tt tt refl refl (λ path here. [])
       (λ path here. rw (← all) (content_held T path total offset here held_before last_octet
       (λ large. omega (arith, size, parted.0 large, counted, some))
       (λ small. omega (arith, size, parted.1 small, counted, some))))

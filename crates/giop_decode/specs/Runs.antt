@@ -22,7 +22,7 @@ use Rattle.giop_decode.specs.Pieces.{tail}
 use Rattle.giop_decode.specs.NameBuffer.{string_offset}
 use Rattle.giop_decode.specs.NotingSteps.{OutputFitsString, StringGoesOn, leaf_in_string}
 use Rattle.giop_decode.specs.ReadingSteps.{AreHeld, after, leading_width, leaf_step}
-use Rattle.giop_decode.specs.Transitions.{HasOutput, HaveOctetsLeft, IsOutput, TransitionFits, TransitionGives, coding_by, leaf_of, leaf_type, still_held, ticked_by, tree_in, after_transition}
+use Rattle.giop_decode.specs.Transitions.{HasOutput, HaveOctetsLeft, IsOutput, LetsGo, TransitionFits, TransitionGives, coding_by, leaf_of, leaf_type, still_held, ticked_by, tree_in, after_transition}
 
 -- the lines of more octets
 abbrev pub added_lines_of_run : Coding → Ty → ℕ → List ℕ → List ℕ → List Line
@@ -166,6 +166,7 @@ pub record TakenTogether (C : Table) (d : Decoder) (octets : List ℕ) (of : Typ
   pub transition_fits : TransitionFits (tree_in C d.outer.items of.0) of.0 step.transition
       kept_carry
       (still_held step.output kept_piece)
+  pub lets_go : LetsGo step.transition kept_carry (still_held step.output kept_piece)
   pub has_output : HasOutput (tree_in C d.outer.items of.0) step.output
   pub output_fits_string : OutputFitsString (tree_in C d.outer.items of.0)
       (leaf_in_string (tree_in C d.outer.items of.0) leaf) step.transition step.output

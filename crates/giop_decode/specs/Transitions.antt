@@ -367,6 +367,12 @@ TransitionFits T of (transitions.Entered order count) carry piece = IsEncapsulat
 TransitionFits T of (transitions.Refused kind) carry piece = IsRule kind
 TransitionFits T of transition carry piece = Unit {0}
 
+-- nothing is held after the transition, unless the innermost part goes on or breaks a rule
+abbrev pub LetsGo : Transition → List ℕ → List ℕ → Type 0
+LetsGo (transitions.More leaf) carry piece = Unit {0}
+LetsGo (transitions.Refused kind) carry piece = Unit {0}
+LetsGo transition carry piece = (carry ≡ []) × (piece ≡ [])
+
 -- a number that is a value of a type of one number
 pub record IsNumberOf (T : Ty) (number : Taken) : Type 0 where
   pub scalar : Scalar

@@ -11,7 +11,7 @@ ghost use Rattle.giop_print.specs.declared.path.Root.{Root as PathRoot};
 ghost use Rattle.giop_decode.specs.Reading.{none_left, rooted};
 ghost use Rattle.giop_decode.specs.ReadingSteps.{around};
 ghost use Rattle.giop_decode.specs.Fits.{OpenFrom};
-ghost use Rattle.giop_decode.specs.Transitions.{open_parts, AreKnown, IsSettled, Link, settled_by, TransitionFits, HasOutput, after_transition, still_held, leaf_type, IsClean, StandAt, is_inside, tree_in};
+ghost use Rattle.giop_decode.specs.Transitions.{open_parts, AreKnown, IsSettled, LetsGo, Link, settled_by, TransitionFits, HasOutput, after_transition, still_held, leaf_type, IsClean, StandAt, is_inside, tree_in};
 ghost use Rattle.giop_decode.specs.Noted.{noted_of, ends_in_string, is_header_root};
 ghost use Rattle.giop_decode.specs.NameBuffer.{string_offset};
 ghost use Rattle.giop_decode.specs.NotingSteps.{transition_in_string, transition_offset};
@@ -276,6 +276,7 @@ impl Decoder {
         requires transition_fits { TransitionFits
             (tree_in catalogue.now self.old.outer.items of.0) of.0 transition
             self.old.carry self.old.piece.items }
+        requires lets_go { LetsGo transition self.old.carry self.old.piece.items }
         requires settled { IsSettled transition }
         ensures known_outer { AreKnown catalogue.now self.new.outer.items }
         ensures encloses { self.new.inside ≡ is_inside self.new.outer.items }
@@ -312,8 +313,6 @@ impl Decoder {
             Transition::More(leaf) => self.leaf = Some(leaf),
             Transition::Refused(_) => {}
             Transition::Opened(count) => {
-                self.carry.clear();
-                self.piece.clear();
                 self.outer.push(Frame {
                     of,
                     index: 0,
@@ -330,8 +329,6 @@ impl Decoder {
                 )));
             }
             Transition::Selected(index) => {
-                self.carry.clear();
-                self.piece.clear();
                 self.outer.push(Frame {
                     of,
                     index,
@@ -349,8 +346,6 @@ impl Decoder {
                 )));
             }
             Transition::Entered(order, count) => {
-                self.carry.clear();
-                self.piece.clear();
                 self.outer.push(Frame {
                     of,
                     index: 1,
@@ -368,15 +363,11 @@ impl Decoder {
                 )));
             }
             Transition::Ended => {
-                self.carry.clear();
-                self.piece.clear();
                 self.leaf = go_on(catalogue, &mut self.outer, &mut self.inside);
                 self.inside = is_inside(self.inside, self.outer.as_slice());
             }
             Transition::Recursed(_) => unreachable!(),
             Transition::Stopped => {
-                self.carry.clear();
-                self.piece.clear();
                 self.leaf = stop(catalogue, &mut self.outer, &mut self.inside);
                 self.inside = is_inside(self.inside, self.outer.as_slice());
             }
@@ -426,6 +417,8 @@ impl Decoder {
             (tree_in catalogue.now self.old.outer.items ahead.of.0) ahead.of.0
             ahead.step.transition self.old.carry
             (still_held ahead.step.output self.old.piece.items) }
+        requires lets_go { LetsGo ahead.step.transition self.old.carry
+            (still_held ahead.step.output self.old.piece.items) }
         requires has_output { HasOutput
             (tree_in catalogue.now self.old.outer.items ahead.of.0) ahead.step.output }
         requires short { 0 < length ahead.rest.now →
@@ -465,6 +458,8 @@ impl Decoder {
         requires transition_fits { TransitionFits
             (tree_in catalogue.now self.old.outer.items ahead.of.0) ahead.of.0
             ahead.step.transition self.old.carry
+            (still_held ahead.step.output self.old.piece.items) }
+        requires lets_go { LetsGo ahead.step.transition self.old.carry
             (still_held ahead.step.output self.old.piece.items) }
         requires has_output { HasOutput
             (tree_in catalogue.now self.old.outer.items ahead.of.0) ahead.step.output }

@@ -67,17 +67,19 @@ fn marked_line<O: Out>(
         (value_text path.now.head.message (current_path_text path.now)
         (results.Number (Marked mark) n)) }
 {
-    match (kind_word(mark, n), number_name(mark, n)) {
-        (Some(word), _) => value_line(out, path, Value::Enum(word)),
-        (None, Some(name)) => {
-            let NumberName { word, code } = name;
-            let number = n;
-            value_line(out, path, Value::Named { number, word, code })
-        }
-        (None, None) => {
-            let number = Number::Unsigned(u64::from(n));
-            value_line(out, path, Value::Primitive(Prim::ULong, number))
-        }
+    match kind_word(mark, n) {
+        Some(word) => value_line(out, path, Value::Enum(word)),
+        None => match number_name(mark, n) {
+            Some(name) => {
+                let NumberName { word, code } = name;
+                let number = n;
+                value_line(out, path, Value::Named { number, word, code })
+            }
+            None => {
+                let number = Number::Unsigned(u64::from(n));
+                value_line(out, path, Value::Primitive(Prim::ULong, number))
+            }
+        },
     }
 }
 

@@ -317,8 +317,31 @@ impl Decoder {
 
     /// Holds octets of the number that comes next. When the number is whole, it is taken from what
     /// is held.
-    #[inline(never)]
+    #[inline(always)]
     fn take_parted_number<O: Out>(
+        &mut self,
+        catalogue: &SeenCatalogue<'_>,
+        coded: (Order, u8),
+        of: TypeId,
+        octets: &[u8],
+        out: &mut O,
+    ) -> Result<(usize, Progress), OutFault>
+        requires fits { FitsSeen catalogue.now self.old }
+        requires leaf { self.old.leaf ≡ Some (Leaf.Number of) }
+        requires coded { coding_by self.old.order self.old.at self.old.outer.items ≡ coded }
+        requires ahead { HaveOctetsLeft (ticked_by (length octets.now - 1) self.old.outer.items) }
+        requires some { 0 < length octets.now }
+        ensures { TakesSome catalogue.now self.old self.new octets.now
+            (O.log out.old) (O.log out.new) result }
+    {
+        let (count, progress) = self.take_parted_number_apart(catalogue, coded, of, octets, out)?;
+        Ok((count, progress))
+    }
+
+    /// The same, not inlined. Its answer is set to zeros before the call, so it is called where few
+    /// numbers are.
+    #[inline(never)]
+    fn take_parted_number_apart<O: Out>(
         &mut self,
         catalogue: &SeenCatalogue<'_>,
         coded: (Order, u8),
@@ -352,8 +375,30 @@ impl Decoder {
     }
 
     /// Holds octets of a piece of a content that isn't whole with them.
-    #[inline(never)]
+    #[inline(always)]
     fn take_parted_piece<O: Out>(
+        &mut self,
+        catalogue: &SeenCatalogue<'_>,
+        leaf: Leaf,
+        octets: &[u8],
+        out: &mut O,
+    ) -> Result<(usize, Progress), OutFault>
+        requires fits { FitsSeen catalogue.now self.old }
+        requires leaf { self.old.leaf ≡ Some leaf }
+        requires ahead { HaveOctetsLeft (ticked_by (length octets.now - 1) self.old.outer.items) }
+        requires some { 0 < length octets.now }
+        requires parted { IsParted catalogue.now self.old.outer.items leaf self.old.piece.items
+            (length octets.now) }
+        ensures { TakesSome catalogue.now self.old self.new octets.now
+            (O.log out.old) (O.log out.new) result }
+    {
+        let (count, progress) = self.take_parted_piece_apart(catalogue, leaf, octets, out)?;
+        Ok((count, progress))
+    }
+
+    /// The same, not inlined.
+    #[inline(never)]
+    fn take_parted_piece_apart<O: Out>(
         &mut self,
         catalogue: &SeenCatalogue<'_>,
         leaf: Leaf,

@@ -251,7 +251,7 @@ returns-in-Opened-clause-advances c coding path at =
       append_assoc,
     ) refl
     in
-    rw (c.in-Opened.is, c.clear.ensures)
+    rw (c.in-Opened.is, (rw c.in-Opened.is at c.requires.lets_go).0)
     (rooted_gone C [] at new (LeadingNumber (tree_in C new c.begin.result.0) []) _
     (around_unless_ended C 24 coding path at old inner (start_leaf (part_of T 0))
     c.requires.known_outer
@@ -287,7 +287,7 @@ returns-in-Selected-clause-advances c coding path at =
       place_case T c.in-Selected.index 0 transitions,
       append_assoc,
     ) refl in
-    rw (c.in-Selected.is, c.clear-in-Selected.ensures)
+    rw (c.in-Selected.is, (rw c.in-Selected.is at c.requires.lets_go).0)
     (rooted_gone C [] at new (LeadingNumber (tree_in C new c.begin-in-Selected.result.0) []) _
     (around_unless_ended C 24 coding path at old inner
     (start_leaf (part_of T c.in-Selected.index)) c.requires.known_outer
@@ -328,7 +328,7 @@ returns-in-Entered-clause-advances c coding path at =
       c.begin-in-Entered.ensures.begun at,
       same_part,
     ) refl in
-    rw (c.in-Entered.is, c.clear-in-Entered.ensures)
+    rw (c.in-Entered.is, (rw c.in-Entered.is at c.requires.lets_go).0)
     (rooted_gone C [] at new (LeadingNumber (tree_in C new c.begin-in-Entered.result.0) []) _
     (sym (ap (λ ps. around coding path ps (Short [] at (start_outer part) (start_leaf part)))
     (ap (open_parts C at) c.push-in-Entered.ensures.items ∙ places_push C 24 at old f)
@@ -370,9 +370,10 @@ returns-in-Ended-clause-stand c at pos h = c.go_on-self.ensures.stand at h
 pub returns-in-Ended-clause-advances : goal.returns-in-Ended-clause-advances
 returns-in-Ended-clause-advances c coding path at =
     let C = c.args.catalogue.now in
+    let empty = rw c.in-Ended.is at c.requires.lets_go in
     rw c.in-Ended.is (c.go_on-self.ensures.next coding path at
     ∙ gone_stopped C c.go_on-self.new.outer.items _ _ c.go_on-self.result at
-    c.clear-in-Ended.ensures c.clear-in-Ended-2.ensures)
+    empty.0 empty.1)
 
 pub returns-in-Opened-clause-link : goal.returns-in-Opened-clause-link
 returns-in-Opened-clause-link c root leaf moved h e =
@@ -460,9 +461,10 @@ pub returns-in-Stopped-clause-advances : goal.returns-in-Stopped-clause-advances
 returns-in-Stopped-clause-advances c coding path at =
     let C = c.args.catalogue.now in
     let T = tree_in C c.args.self.now.outer.items c.args.of.0 in
+    let empty = rw c.in-Stopped.is at c.requires.lets_go in
     rw c.in-Stopped.is (c.stop-self.ensures.next coding path at T
     ∙ gone_stopped C c.stop-self.new.outer.items _ _ c.stop-self.result at
-    c.clear-in-Stopped.ensures c.clear-in-Stopped-2.ensures)
+    empty.0 empty.1)
 
 pub returns-in-Stopped-clause-inside : goal.returns-in-Stopped-clause-inside
 returns-in-Stopped-clause-inside c at lines =

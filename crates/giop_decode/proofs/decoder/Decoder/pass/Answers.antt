@@ -5,7 +5,7 @@ use Rattle.giop_decode.proofs.Around.{around-front}
 use Rattle.giop_decode.specs.Passes.{Gives}
 use Rattle.giop_decode.proofs.Surrounding.{ahead_by, inside_ticked, length_ticked, places_ticked, stand_ticked, tree_ticked}
 use Rattle.giop_decode.proofs.Linking.{link_ticked}
-use Rattle.giop_decode.proofs.Settled.{settled_fits, settled_going, settled_now, settled_offset, settled_reading, settled_result, settled_string}
+use Rattle.giop_decode.proofs.Settled.{settled_fits, settled_going, settled_lets_go, settled_now, settled_offset, settled_reading, settled_result, settled_string}
 use Rattle.giop_sig.specs.Types.{elements_fit}
 use Rattle.giop_decode.proofs.Whole.{behind_gives}
 use Rattle.giop_decode.specs.Noted.{ends_in_string}
@@ -77,6 +77,12 @@ advance_frames-requires-clause-transition_fits c =
     rw (c.settled-transition.ensures, c.let_go.ensures)
     (settled_fits (tree_in c.args.catalogue.now now.outer.items of) of step.transition now.carry
     (still_held step.output now.piece.items) c.requires.transition_fits)
+
+pub advance_frames-requires-clause-lets_go : goal.advance_frames-requires-clause-lets_go
+advance_frames-requires-clause-lets_go c =
+    let step = c.args.ahead.step in
+    rw (c.settled-transition.ensures, c.let_go.ensures) (settled_lets_go _ step.transition
+    c.args.self.now.carry (still_held step.output c.args.self.now.piece.items) c.requires.lets_go)
 
 pub advance_frames-requires-clause-settled : goal.advance_frames-requires-clause-settled
 advance_frames-requires-clause-settled c =

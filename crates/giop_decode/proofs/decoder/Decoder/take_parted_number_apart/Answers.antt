@@ -19,7 +19,7 @@ use Rattle.giop_decode.proofs.Whole.{comes_head, held_now, number_waits, width_i
 use Rattle.giop_sig.specs.Table.{Table}
 use Rattle.giop_decode.proofs.Rooms.{head_in_room}
 use Rattle.giop_sig.specs.declared.types.TypeId.{TypeId}
-use Rattle.giop_decode.proofs.decoder.Decoder.take_parted_number.Goals as goal
+use Rattle.giop_decode.proofs.decoder.Decoder.take_parted_number_apart.Goals as goal
 
 pub hold_number-count-requires-clause-room : goal.hold_number-count-requires-clause-room
 hold_number-count-requires-clause-room g c =

@@ -1,6 +1,6 @@
 use Rattle.std.proofs.Common.{[], length}
 use Rattle.giop_decode.proofs.Whole.{held_now, part_waits}
-use Rattle.giop_decode.proofs.decoder.Decoder.take_parted_piece.Goals as goal
+use Rattle.giop_decode.proofs.decoder.Decoder.take_parted_piece_apart.Goals as goal
 
 pub finish-requires : goal.finish-requires
 finish-requires g c =
