@@ -1,4 +1,4 @@
-//! Tests of what all messages stand on: the numbers of CDR, the fields of a checkpoint, and the table of entries.
+//! Tests of what all messages stand on: the numbers of CDR, the fields of a checkpoint, and the tables of entries.
 #![tactic(auto)]
 
 #[cfg(test)]
@@ -7,3 +7,5 @@ mod cdr_tests;
 mod entry_table_tests;
 #[cfg(test)]
 mod octets_tests;
+#[cfg(test)]
+mod optional_id_tests;

@@ -1,6 +1,6 @@
 -- The entries of a table, made of its ids, slab numbers and values: how many there are, the entry
 -- at an index, and what they are after one is added, removed or changed.
-use Rattle.std.proofs.Common.{◌≡◌, ◌≢◌, ◌<◌, ◌==◌, ◌+◌, ◌≤◌, ℕ, zero, suc, false, eqb, cond, List, [], ◌∷◌, ◌++◌, length, get_or, Option, Some, None, IsSome, slice_get, refl, sym, ap, ◌∙◌, arith, length-append, inl, inr, map, set, is_some, count_by}
+use Rattle.std.proofs.Common.{◌≡◌, ◌≢◌, ◌<◌, ◌==◌, ◌+◌, ◌≤◌, ℕ, zero, suc, false, eqb, cond, List, [], ◌∷◌, ◌++◌, length, get_or, Option, Some, None, IsSome, slice_get, refl, sym, ap, ◌∙◌, arith, length-append, inl, inr, map, drop, set, is_some, count_by}
 use Rattle.std.specs.List.{AllByRecursion as Each, IsDistinct, remove, position_from}
 use Rattle.std.proofs.lemmas.List.Sums.{sum_by-cons}
 use Rattle.std.proofs.lemmas.Bool.{eqb-false, cases_eq}
@@ -130,6 +130,28 @@ module _ {V : Type 0} where
   keys-of values (k ∷ ks) (n ∷ ns) same held =
       let first = there (get values n) held.0 in
       rw first.1 (ap (λ ks. k ∷ ks) (keys-of values ks ns (omega (arith, same)) held.1))
+
+  position-keys : (es : List (Entry V)) (key from : ℕ) →
+      position_from (λ e. e.key == key) from es
+      ≡ position_from (λ k. k == key) from (map (λ e. e.key) es)
+  position-keys [] key from = refl
+  position-keys (e ∷ es) key from =
+      ap (cond (e.key == key) (Some from)) (position-keys es key (from + 1))
+
+  drop-keys : (es : List (Entry V)) (n : ℕ) →
+      map (λ e. e.key) (drop n es) ≡ drop n (map (λ e. e.key) es)
+  drop-keys es zero = refl
+  drop-keys [] (suc n) = refl
+  drop-keys (e ∷ es) (suc n) = drop-keys es n
+
+  pub position-entries-after : (values : Slab V) (keys numbers : List ℕ) (key n : ℕ) →
+      length keys ≡ length numbers → AllHeld values numbers →
+      position_from (λ e. e.key == key) n (drop n (entries_of values keys numbers))
+      ≡ position_from (λ k. k == key) n (drop n keys)
+  position-entries-after values keys numbers key n same held =
+      position-keys (drop n (entries_of values keys numbers)) key n
+      ∙ ap (position_from (λ k. k == key) n) (drop-keys (entries_of values keys numbers) n
+      ∙ ap (drop n) (keys-of values keys numbers same held))
 
   -- if ids, numbers and values are tied, there are as many entries as numbers
   pub length-held : (keys numbers : List ℕ) (values : Slab V) → IsTied keys numbers values →

@@ -1,4 +1,5 @@
 mod IdLemmas
 mod ListLemmas
 mod HoldingLemmas
+mod OptionalIdLemmas
 mod SearchLemmas

@@ -1,11 +1,12 @@
 //! Values under ids, in the order in which they were added.
 
-ghost use Rattle.std.specs.Prelude.{◌≡◌, ◌+◌, ◌<◌, ◌≤◌, ◌==◌, ◌↔◌, [], ◌∷◌, ◌++◌, length, nat_le, slice_get, option_copied, IsSome, IfSome, OnSome, IfNone, IfOk};
+ghost use Rattle.std.specs.Prelude.{◌≡◌, ◌+◌, ◌<◌, ◌≤◌, ◌==◌, ◌↔◌, [], ◌∷◌, ◌++◌, drop, length, nat_le, slice_get, option_copied, IsSome, IfSome, OnSome, IfNone, IfOk};
 ghost use Rattle.std.specs.List.{remove, position_from};
 ghost use Rattle.std.specs.Option.{option_map, option_copied_mut};
 ghost use Rattle.std.specs.Borrow.{sem};
 
 use crate::ids::Ids;
+use crate::search::place_of;
 use slab::Slab;
 use std::alloc::{AllocError, Global};
 use std::marker::Model;
@@ -93,6 +94,16 @@ impl<V> EntryTable<V> {
         ensures within { IfSome result (λ place. place < length self.now.entries) }
     {
         self.ids.find(key)
+    }
+
+    /// The index of the first entry with this id after the entry at this index.
+    pub(crate) fn find_after(&self, place: usize, key: u32) -> Option<usize>
+        requires { place < length self.now.entries }
+        ensures value { result
+            ≡ position_from (λ e. e.key == key) (place + 1) (drop (place + 1) self.now.entries) }
+        ensures within { IfSome result (λ k. k < length self.now.entries) }
+    {
+        place_of(self.ids.keys.as_slice(), place + 1, key)
     }
 
     /// The id of the entry at this index.

@@ -3,6 +3,8 @@
 
 mod entry_table;
 mod ids;
+mod optional_ids;
 mod search;
 
 pub use entry_table::{Entry, EntryTable};
+pub use optional_ids::{OptionalIdEntry, OptionalIdTable};

@@ -1,0 +1,38 @@
+-- What a table is to its callers if an entry may lack an id: entries in the order in which they were
+-- added, and the greatest number of entries (meaning).
+use Rattle.std.specs.Prelude.{ℕ, zero, suc, ◌==◌, Bool, false, List, [], ◌∷◌, Option, Some, None, refl}
+use Rattle.std.specs.Coded.{Coded, code_by, coded×, coded_ℕ, coded_option, coded_list}
+use Rattle.giop_entry_table.specs.declared.optional_ids.OptionalIdEntry.{OptionalIdEntry}
+
+-- the entries in the order in which they were added, and the greatest number of them
+pub record OptionalIdEntries (V : Type 0) : Type 0 where
+  pub most : ℕ
+  pub entries : List (OptionalIdEntry V)
+
+-- whether an entry's key is this id
+abbrev pub is_id : ℕ → Option ℕ → Bool
+is_id id None = false
+is_id id (Some key) = key == id
+
+-- an entry is stored as the pair of its fields
+abbrev pub entry_code : {V : Type 0} → Coded V → Coded (OptionalIdEntry V)
+entry_code {V} code =
+    code_by (Option ℕ × V) (coded× (coded_option coded_ℕ) code) (λ e. (e.key, e.value))
+    (λ p. record { key = p.0; value = p.1 }) (λ _. refl)
+
+-- a table is stored as the pair of its fields
+abbrev pub entries_code : {V : Type 0} → Coded V → Coded (OptionalIdEntries V)
+entries_code {V} code =
+    code_by (ℕ × List (OptionalIdEntry V)) (coded× coded_ℕ (coded_list (entry_code code)))
+    (λ r. (r.most, r.entries)) (λ p. record { most = p.0; entries = p.1 }) (λ _. refl)
+
+module _ {V : Type 0} where
+  -- the entries after the one at this index got this value
+  abbrev pub revalued : List (OptionalIdEntry V) → ℕ → V → List (OptionalIdEntry V)
+  revalued [] place value = []
+  revalued (e ∷ es) zero value = record e { value = value } ∷ es
+  revalued (e ∷ es) (suc place) value = e ∷ revalued es place value
+
+  -- the table after the entry at this index got this value
+  abbrev pub with_value : OptionalIdEntries V → ℕ → V → OptionalIdEntries V
+  with_value r place value = record r { entries = revalued r.entries place value }

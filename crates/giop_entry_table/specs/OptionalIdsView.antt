@@ -1,0 +1,38 @@
+-- How a table keeps entries of which one may lack an id: all of them are in a table of entries with
+-- ids, and beside it stands the index of the one without an id, if there is one (state).
+use Rattle.std.specs.Prelude.{ℕ, zero, suc, List, [], ◌∷◌, Option, Some, None}
+use Rattle.giop_entry_table.specs.declared.entry_table.Entry.{Entry}
+use Rattle.giop_entry_table.specs.declared.optional_ids.OptionalIdEntry.{OptionalIdEntry}
+
+-- the key of the first entry, if this is the index of the entry without an id
+abbrev pub first_key : Option ℕ → ℕ → Option ℕ
+first_key None key = Some key
+first_key (Some zero) key = None
+first_key (Some (suc place)) key = Some key
+
+-- the index of the entry without an id among the entries after the first one
+abbrev pub place_after : Option ℕ → Option ℕ
+place_after None = None
+place_after (Some zero) = None
+place_after (Some (suc place)) = Some place
+
+module _ {V : Type 0} where
+  -- the entries, if this is the index of the one without an id
+  abbrev pub with_optional_ids : Option ℕ → List (Entry V) → List (OptionalIdEntry V)
+  with_optional_ids place [] = []
+  with_optional_ids place (e ∷ es) =
+      record { key = first_key place e.key; value = e.value }
+      ∷ with_optional_ids (place_after place) es
+
+-- the index of the entry without an id after the entry at this index is removed: no index if it is
+-- that one
+abbrev pub after_removal : Option ℕ → ℕ → Option ℕ
+after_removal None removed = None
+after_removal (Some zero) zero = None
+after_removal (Some (suc place)) zero = Some place
+after_removal (Some zero) (suc removed) = Some zero
+after_removal (Some (suc place)) (suc removed) = up (after_removal (Some place) removed)
+  where
+    up : Option ℕ → Option ℕ
+    up None = None
+    up (Some n) = Some (suc n)
