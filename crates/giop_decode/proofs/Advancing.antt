@@ -80,7 +80,8 @@ comes_by C T d named ended (transitions.Refused kind) lines at p r n k e h = rw 
 comes_by C T d named ended (transitions.More leaf) lines at p r n k e h = search (arith, going_by)
 comes_by C T d named ended _ lines at p r n k e h = search (arith, going_by)
 
--- a decoder that goes on: the reading that its fields stand for, with its lines
+-- the decoder's value goes on: the reading has some lines, and then what the fields of the decoder
+-- stand for
 pub record Goes (C : Table) (d : Decoder) (at : ℕ) (r : Read) : Type 0 where
   pub lines : List Line
   pub is : r ≡ read_by_fields C d lines at
@@ -98,7 +99,7 @@ pub moved : (named ended : Bool) (transition : Transition) (leaf : Option Innerm
 moved named ended (transitions.Refused kind) leaf p h g = rw h at g
 moved named ended _ leaf p h g = tt
 
--- where the answer is that the value goes on, no encapsulation has ended
+-- if the answer is that the value goes on, no encapsulation has ended
 going_unended : (named ended : Bool) (leaf : Option Innermost) (p : Progress) →
     IsGoing named ended leaf p → GoesOn p → ended ≡ false
 going_unended named ended None p h g = absurd (rw h at g)
@@ -116,7 +117,7 @@ fits_in : (T : Ty) (end at : ℕ) (C : Table) (d : Decoder) (lines : List Line) 
     (leaf_of C d.outer.items leaf d.carry d.piece.items)
 fits_in T end at C d lines leaf r sound is goes_on = search (arith)
 
--- a coding by which a decoder can be at an offset
+-- a coding with which this decoder can be at an offset
 abbrev pub own_coding : Decoder → ℕ → Coding
 own_coding d here = record { order = d.order; phase = λ at. d.at + (at - here) }
 
@@ -138,7 +139,7 @@ even_next coding here even k =
     let next = even 1 in
     omega (arith, same, next)
 
--- one octet further
+-- if a decoder can be at an offset, the decoder after one octet can be at the next offset
 pub one_further : (coding : Coding) (d new : Decoder) (here : ℕ) → new.order ≡ d.order →
     new.at ≡ (d.at + 1) % 8 → StandAt (here + 1) new.outer.items → CanStandAt coding d here →
     CanStandAt coding new (here + 1)
@@ -152,7 +153,7 @@ one_further coding d new here order at outer h =
       outer = outer;
     }
 
--- What a step leaves of a decoder that fits, fits as well.
+-- If a decoder fits the table, so does a decoder whose fields hold the result of its next step.
 pub step_fits : (C : Table) (d new : Decoder) (f : Fits C d) (octet : ℕ) (coding : Coding)
     (g : Goes C new (f.here + 1) (decoder_step coding C d f.here octet)) → new.narrow ≡ C.narrow →
     CanStandAt coding new (f.here + 1) →
@@ -167,7 +168,7 @@ step_fits C d new f octet coding g narrow here ahead inside link known_outer kno
     name =
     search (arith, whole_step_keeps, surrounds, stands, fits_in)
 
--- where a rule is broken, it is one
+-- if a transition refuses an octet, a rule of the value is broken
 abbrev pub IsAllowed : Transition → Type 0
 IsAllowed (transitions.Refused kind) = IsRule kind
 IsAllowed transition = Unit {0}
@@ -182,7 +183,7 @@ recursed_front : (T : Ty) (fits : Bool) (count : ℕ) (lines : List Line) (at : 
 recursed_front T true count lines at = rw append-nil refl
 recursed_front T false count lines at = rw append-nil refl
 
--- the lines of a transition stand in front of what it makes
+-- the lines of a transition come before everything that it makes
 pub transition_front : (T : Ty) (transition : Transition) (carry piece : List ℕ) (lines : List Line)
     (at : ℕ) → after_transition T transition carry piece lines at
     ≡ with_front lines (after_transition T transition carry piece [] at)
@@ -261,7 +262,7 @@ lines_turned coding path ps T transitions.Ended carry piece lines at rule =
     (transition_front T transitions.Ended carry piece lines at)
     ∙ lines_mute coding path ps lines at (Done [] at []) (refl, refl, refl)
 
--- where octets of no type are none of its ends, a whole is what it was
+-- reading a whole changes a result only if it stops at octets of no type, which this one doesn't
 pub rooted_to : (ended : Bool) (lines : List Line) (at : ℕ) (outer : List OpenPart) (leaf : Leaf) →
     rooted none_left (cond ended (Fault lines at kinds.EncapShort (cut_off leaf))
     (Short lines at outer leaf)) ≡ cond ended (Fault lines at kinds.EncapShort (cut_off leaf))
@@ -295,7 +296,7 @@ rooted_result C T d (transitions.Refused kind) lines at rule = search (arith, ro
 rooted_result C T d (transitions.More leaf) lines at rule = search (arith, rooted_stopped)
 rooted_result C T d transition lines at rule = search (arith, rooted_stopped)
 
--- no lines but those of the innermost part
+-- the parts around the innermost part add no lines to those of its transition
 pub lines_after_transition : (C : Table) (here : ℕ) (coding : Coding) (path : List PathSegment)
     (frames : List Frame) (T : Ty) (transition : Transition) (carry piece : List ℕ)
     (lines : List Line) → IsAllowed transition →

@@ -1,5 +1,5 @@
--- The step of an octet in the parts around the innermost one: before the first octet, and where a
--- part ends.
+-- An octet's step in the parts around the innermost part: before the first octet, and when a part
+-- ends.
 use Rattle.std.proofs.Common.{◌≡◌, ℕ, zero, suc, ◌-◌, ◌<◌, ◌≤◌, List, [], ◌∷◌, ◌++◌, refl, ap, arith, add-zero, lt-ltb}
 use Rattle.giop_decode.specs.Begins.{start_leaf, start_outer}
 use Rattle.giop_decode.specs.Fits.{HasParts, Surrounds}
@@ -47,7 +47,7 @@ around-short coding path (Inside T c end ∷ outer) lines at inner leaf h = sear
 around-short coding path (Telling T told ∷ outer) lines at inner leaf h =
     rw (around-short coding (path ++ segment_of T 0 ∷ []) outer lines at inner leaf h.1) refl
 
--- no lines change no open part
+-- if there are no lines, the open parts hear nothing and stay the same
 pub heard_none : (outer : List OpenPart) → heard_parts [] outer ≡ outer
 heard_none [] = refl
 heard_none (Telling T told ∷ outer) = ap (λ ps. Telling T told ∷ ps) (heard_none outer)
@@ -100,11 +100,11 @@ around-front coding path (Telling T told ∷ outer) front r =
     (with_front-led front T (hearing_in T) told (after_told coding path T)
     (around coding (path ++ segment_of T 0 ∷ []) (heard_parts front outer) r))
 
--- Before the first octet.
+-- What readings are before their first octet.
 pub block_none : (n at : ℕ) → 0 < n → block n at [] ≡ Partial [] at
 block_none n at pos = search (arith, block_waits, add-zero)
 
--- the first of several parts, and what follows it
+-- several parts, before the first octet, are at the first of them
 pub first_part : (coding : Coding) (path : List PathSegment) (T : Ty) (count more i : ℕ) (at : ℕ) →
     (read coding (inner_path path T i) (part_of T i) at []
     ≡ Short [] at (start_outer (part_of T i)) (start_leaf (part_of T i))) →
@@ -138,7 +138,7 @@ read_none coding path (suc d) (Led k F parts) at h = search (
 )
 read_none coding path (suc d) T at h = search (arith, number_none)
 
--- A part that has ended: its whole goes on with the next, or ends too.
+-- When a part ends, its whole goes on with the next part, or ends too.
 pub fit_part : (d : ℕ) (T : Ty) (i count : ℕ) → IsFit (suc d) T → HasParts T count → i < count →
     IsFit d (part_of T i)
 unfolding IsFit
@@ -170,7 +170,7 @@ pub last_part : (coding : Coding) (path : List PathSegment) (T : Ty) (i count at
     resumed coding path (Part T i count) (Done [] at []) ≡ Done [] at []
 last_part coding path T i count at h = search (arith)
 
--- no type fits in no depth
+-- no type fits into depth 0
 pub fit_none : (T : Ty) → IsFit zero T → ⊥
 unfolding IsFit
 fit_none T fit = fit

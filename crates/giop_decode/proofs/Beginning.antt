@@ -67,7 +67,7 @@ places_push C room here (g ∷ frames) f =
     ap (λ ps. open_part C room here g ∷ ps) (places_push C (pred room) here frames f
     ∙ ap (λ n. parts_in_room C (pred room) here frames ++ open_part C n here f ∷ []) less)
 
--- the part of a type, in one frame more than its whole
+-- the part of a type, inside one frame more than the type itself
 pub part_in_frames : (C : Table) (old new : List Frame) (of part i : ℕ) →
     length new ≡ suc (length old) → length old < 24 →
     ((room : ℕ) → tree_at C room part ≡ part_of (tree_at C (suc room) of) i) →
@@ -77,7 +77,7 @@ part_in_frames C old new of part i more few parts =
     subst (λ n. tree_at C (24 - length new) part ≡ part_of (tree_at C n of) i) one
     (parts (24 - length new))
 
--- a type that begins with its first part is at that one, in each room
+-- a type that begins with a part of its own can be at that part
 pub whole_within : (T : Ty) (count : ℕ) (told : Option Stage) → (told ≡ None → 0 < count) →
     IsWhole T count told → IsWithinAs told None 0 count T
 whole_within (Struct n names parts) count None some is =

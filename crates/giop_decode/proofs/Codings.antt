@@ -13,7 +13,7 @@ use Rattle.giop_sig.specs.Types.{Array, Encapsulation, Ends as Nothing_more, Hea
 use Rattle.giop_sig.specs.declared.types.Selected.{Selected}
 use Rattle.giop_sig.specs.declared.types.Selected.TheVariants.{Case, Nothing, Refused}
 
--- two readers that agree on lists that end at this offset at most
+-- two readers that give the same result for each list that ends at this offset or before it
 abbrev Agree : ℕ → (ℕ → List ℕ → Read) → (ℕ → List ℕ → Read) → Type 0
 Agree end f g = (at : ℕ) (s : List ℕ) → at + length s ≤ end → f at s ≡ g at s
 
@@ -54,7 +54,7 @@ module _ (end : ℕ) where
   led_agrees T k told m n (Short lines at outer leaf) f g h below same = refl
   led_agrees T k told m n (Fault lines at kind S) f g h below same = refl
 
--- their orders are the same, and their phases at the offsets below one
+-- the codings have the same byte order, and the same phases at all offsets below `end`
 module _ (end : ℕ) (coding other : Coding) (order : coding.order ≡ other.order)
     (phases : (here : ℕ) → here < end → coding.phase here ≡ other.phase here) where
   number_agrees : (n at : ℕ) (s : List ℕ) → at + length s ≤ end →
@@ -146,7 +146,7 @@ pub reading_agrees : (coding other : Coding) (path : List PathSegment) (T : Ty) 
 reading_agrees coding other path T at s order phases = ap (rooted (left_after at s))
     (read_agrees (at + length s) coding other order phases path T at s (omega arith))
 
--- ---- where a Fragment begins
+-- ---- the offset at which a Fragment begins
 
 pub seamed_below : (coding : Coding) (here at : ℕ) → at < here →
     coding.phase at ≡ (seamed coding here).phase at

@@ -27,7 +27,7 @@ more_at n (Some order) i = omega arith
 one_more : (n : ℕ) (f : Frame) → tick_by_of n (tick_of f) ≡ tick_by_of (suc n) f
 one_more n f = search (arith, more_at)
 
--- one octet and then others
+-- counting one octet and then n octets is counting n + 1 octets
 pub ticked_more : (n : ℕ) (frames : List Frame) →
     ticked_by n (ticked frames) ≡ ticked_by (suc n) frames
 ticked_more n [] = refl
@@ -41,7 +41,7 @@ after_at n (Some order) i = omega arith
 after_one : (n : ℕ) (f : Frame) → tick_of (tick_by_of n f) ≡ tick_by_of (suc n) f
 after_one n f = rw (after_at n f.inside f.index) refl
 
--- the last of several octets
+-- counting n octets and then one octet is counting n + 1 octets
 pub ticked_last : (n : ℕ) (frames : List Frame) →
     ticked (ticked_by n frames) ≡ ticked_by (suc n) frames
 ticked_last n [] = refl
@@ -58,7 +58,7 @@ fewer_at : (m n : ℕ) (inside : Option Order) (i count : ℕ) → m ≤ n →
 fewer_at m n None i count le h = tt
 fewer_at m n (Some order) i count le h = omega (arith, le, h)
 
--- some octet is still to come after fewer of them
+-- if octets are still to come after n octets, they are still to come after fewer
 pub ahead_fewer : (m n : ℕ) (frames : List Frame) → m ≤ n → HaveOctetsLeft (ticked_by n frames) →
     HaveOctetsLeft (ticked_by m frames)
 ahead_fewer m n [] le h = tt
@@ -70,7 +70,7 @@ first_at : (n : ℕ) (inside : Option Order) (i count : ℕ) →
 first_at n None i count h = tt
 first_at n (Some order) i count h = omega (arith, h)
 
--- and after the first of them
+-- if octets are still to come after several octets, they are still to come after the first one
 pub ahead_first : (n : ℕ) (frames : List Frame) → HaveOctetsLeft (ticked_by (suc n) frames) →
     HaveOctetsLeft (ticked frames)
 ahead_first n [] h = tt
@@ -87,13 +87,14 @@ free_ticked_by n (f ∷ frames) h =
     let one : f ≡ tick_by_of n f = rw (free_at n f.inside f.index k.0) refl in
     ap (λ g. g ∷ frames) one ∙ ap (λ fs. tick_by_of n f ∷ fs) (free_ticked_by n frames k.2)
 
--- in no encapsulation
+-- outside encapsulations octets are still to come, however many are counted
 pub ahead_free : (n : ℕ) (frames : List Frame) → is_inside frames ≡ withins.Nothing → HaveOctetsLeft
     frames →
     HaveOctetsLeft (ticked_by n frames)
 ahead_free n frames h ahead = search (arith, free_ticked_by)
 
--- the frames before an index leave room for these octets, and the one at it for fewer
+-- If the frames before an index have octets left after `before` octets, and the frame at the index
+-- after `now`, then all these frames have octets left after `now`.
 pub before_more : (outer : List Frame) (i before now : ℕ) (d : Frame) → i < length outer →
     now ≤ before → HaveOctetsLeft (ticked_by before (take i outer)) →
     HasOctetsLeft (tick_by_of now (get_or outer i d)) →
@@ -117,7 +118,7 @@ coding_next : (order : Order) (at : ℕ) (inside : Option Order) (i : ℕ) →
 coding_next order at None i = refl
 coding_next order at (Some inner) i = search (arith)
 
--- an octet further on
+-- after one octet the alignment is one octet further on
 pub coding_ticked : (order : Order) (at : ℕ) (frames : List Frame) →
     coding_by order ((at + 1) % 8) (ticked frames)
     ≡ ((coding_by order at frames).0, ((coding_by order at frames).1 + 1) % 8)
@@ -133,7 +134,7 @@ coding_later : (n : ℕ) (order : Order) (at : ℕ) (inside : Option Order) (i :
 coding_later n order at None i = refl
 coding_later n order at (Some inner) i = search (arith)
 
--- so many octets further on
+-- after n octets the alignment is n octets further on
 pub coding_ticked_by : (n : ℕ) (order : Order) (at : ℕ) (frames : List Frame) →
     coding_by order ((at + n) % 8) (ticked_by n frames)
     ≡ ((coding_by order at frames).0, ((coding_by order at frames).1 + n) % 8)

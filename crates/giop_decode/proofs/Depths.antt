@@ -1,4 +1,4 @@
--- How many parts that are begun and not ended fit in a type, one in the other.
+-- How many parts that have begun and not ended fit into a type, each within the one before.
 use Rattle.std.proofs.Common.{◌≡◌, ℕ, zero, suc, ◌<◌, ◌≤◌, ◌==◌, Bool, true, false, cond, refl, max, List, [], ◌∷◌, length, arith, ◌⊎◌, inl, inr}
 use Rattle.std.proofs.lemmas.Bool.{cases_lt, eqb-false}
 use Rattle.giop_decode.specs.declared.decoder.Decoder.{Decoder}
@@ -99,7 +99,7 @@ depth_by C d true e laws h = fits_few C d h
 depth_by C d false e laws h =
     plain_depth C d (laws.anys.plain (λ is. eqb-false C.version 3 e is)) h
 
--- Those of a decoder are fewer than the types of its table are deep.
+-- A decoder has fewer such parts than the types of its table are deep.
 pub fits_depth : (C : Table) (d : Decoder) → IsTable C → Fits C d
     → length d.outer.items < catalogue_depth C
 fits_depth C d laws h = depth_by C d (C.version == 3) refl laws h

@@ -1,4 +1,4 @@
--- The path of the innermost part, spelled from its end, is that of the decoder's frames.
+-- The path of the innermost part is spelled from its end. It is the path of the decoder's frames.
 use Rattle.std.proofs.Common.{◌≡◌, ℕ, suc, subst, pred, true, false, Bool, Option, Some, None, ◌+◌, ◌-◌, ◌<◌, ◌≤◌, List, [], ◌∷◌, ◌++◌, length, get_or, drop, refl, ap, ◌∙◌, sym, append_assoc, append-nil, length-append, codes, decimal, arith}
 use Rattle.std.proofs.lemmas.Bool.{false≢true}
 use Rattle.std.proofs.lemmas.List.{drop_more}
@@ -26,7 +26,7 @@ path_anywhere C room here path (f ∷ outer) =
     ∙ ap (λ seg. path_in (path ++ seg ∷ []) (parts_in_room C (pred room) here outer))
     (segment_anywhere C room room 0 here f)
 
--- the path of the innermost part, and of its discriminator
+-- the path of the innermost part, and that of its discriminator, are the same at each offset
 pub stands_at : (C : Table) (here : ℕ) (root : Root) (outer : List Frame) →
     path_text root (path_in [] (open_parts C 0 outer) ++ [])
     ≡ path_text root (path_in [] (open_parts C here outer))
@@ -37,7 +37,7 @@ pub switch_at : (C : Table) (here : ℕ) (root : Root) (outer : List Frame) (seg
     ≡ path_text root (path_in [] (open_parts C here outer) ++ seg ∷ [])
 switch_at C here root outer seg = search (arith, path_anywhere)
 
--- its text
+-- the text of a path is the text of its frames
 frames_spelled : (C : Table) (room : ℕ) (path : List PathSegment) (outer : List Frame) →
     segments_text (path_in path (parts_in_room C room 0 outer))
     ≡ segments_text path ++ frames_text C outer
@@ -50,7 +50,7 @@ frames_spelled C room path (f ∷ outer) =
     ∙ ap (λ s. segments_text path ++ (segment_text s ++ frames_text C outer))
     (segment_anywhere C room 24 0 0 f))
 
--- a discriminator has the same segment in these frames as in the room of a whole
+-- a discriminator has the same segment inside these frames as at the root
 abbrev SameSwitch : Table → List Frame → Option TypeId → Type 0
 SameSwitch C outer None = Unit {0}
 SameSwitch C outer (Some of) = switch_segment (tree_in C outer of.0) ≡ switch_segment (tree C of.0)
@@ -77,19 +77,19 @@ pub here_spelled : (C : Table) (root : Root) (outer : List Frame) (switch : Opti
 unfolding path_text
 here_spelled C root outer switch same = search (arith, ends_spelled, frames_spelled)
 
--- the same of the innermost part, at any offset
+-- the text of the frames is the path of the innermost part, at any offset
 pub path_spelled : (C : Table) (here : ℕ) (root : Root) (outer : List Frame) →
     root_word root ++ frames_text C outer ≡ path_text root (path_in [] (open_parts C here outer))
 path_spelled C here root outer =
     ap (λ text. root_word root ++ text) (sym (append-nil (frames_text C outer)))
     ∙ (here_spelled C root outer None tt ∙ stands_at C here root outer)
 
--- what a line begins with, and what follows that
+-- the text that a line begins with, before more text
 pub headed_is : (message : ℕ) (place rest : List ℕ) →
     headed message place [] ++ rest ≡ headed message place rest
 headed_is message place rest = search (arith, codes, append_assoc, decimal, append-nil)
 
--- no room for what is left of a path
+-- a line without room for the rest of a path has only spelled the path's end
 pub spells_end : (a b : Line) (end text : List ℕ) → line_text b ≡ end ++ line_text a →
     line_room b + length end ≡ line_room a → Spells false a b text
 spells_end a b end text e r = search (arith, false≢true)
@@ -102,7 +102,7 @@ spells_more w a b c end more text e r s =
     ∙ sym (append_assoc s.front end (line_text a))))
     (omega (arith, length-append s.front end, s.room, r))
 
--- room for all of it
+-- a line with room for a whole path has spelled all of it
 pub spells_here : (message : ℕ) (C : Table) (root : Root) (outer : List Frame)
     (switch : Option TypeId) (w : Bool)
     (a b c d : Line) → SameSwitch C outer switch → line_text b ≡ end_text C switch ++ line_text a →
@@ -139,7 +139,7 @@ spells_here message C root outer switch w a b c d same be br s whole de dr =
           ++ end_segments C outer switch))));
     }
 
--- the segments of frames, the innermost first
+-- the text of the frames grows by one segment a frame, from the innermost frame on
 from_end : {X : Type 0} (xs : List X) (i : ℕ) (d : X) → 0 < i → i ≤ length xs →
     drop (i - 1) xs ≡ get_or xs (i - 1) d ∷ drop i xs
 from_end xs i d p h = search (arith, drop_more)

@@ -1,4 +1,4 @@
--- Octets that only add to what is held, taken together.
+-- Octets that are taken together and only add to what a decoder holds.
 use Rattle.std.proofs.Common.{◌≡◌, ℕ, suc, ◌+◌, ◌-◌, ◌%◌, ◌<◌, ◌≤◌, List, [], ◌∷◌, ◌++◌, length, Some, sym, ◌∙◌, ap, subst, append-nil, append_assoc, arith, length-append}
 use Rattle.giop_cdr.specs.Numbers.{num}
 use Rattle.giop_sig.specs.declared.types.TypeId.{TypeId}
@@ -25,8 +25,8 @@ use Rattle.giop_decode.proofs.PartialBlocks.{Holds, step_held, held_comes, held_
 use Rattle.giop_sig.specs.Table.{Table}
 use Rattle.giop_sig.specs.Types.{Ty}
 
--- a decoder that is so many octets further on in the same innermost part, in these frames, and may
--- hold other octets
+-- The decoder `new` is `d` after `count` more octets: it is in the same innermost part, inside
+-- these frames, and may hold other octets.
 pub record IsFurther (d new : Decoder) (count : ℕ) (frames : List Frame) : Type 0 where
   pub order : new.order ≡ d.order
   pub head : new.head ≡ d.head
@@ -37,7 +37,7 @@ pub record IsFurther (d new : Decoder) (count : ℕ) (frames : List Frame) : Typ
   pub leaf : new.leaf ≡ d.leaf
   pub notes : new.notes ≡ d.notes
 
--- so many octets were counted in each encapsulation, and none has ended
+-- `count` octets were counted in each encapsulation, and none has ended
 abbrev pub IsCountedBy : Decoder → Decoder → ℕ → Type 0
 IsCountedBy d new count =
     IsFurther d new count (ticked_by count d.outer.items)
@@ -48,20 +48,20 @@ module _ (C : Table) (d new : Decoder) where
       CanStandAt coding d here → CanStandAt coding new here
   still_here coding here on small h = search (arith)
 
-  -- no octet
+  -- taking no octet
   pub none_gathered : IsFurther d new 0 d.outer.items → new.carry ≡ d.carry →
       new.piece.items ≡ d.piece.items →
       Fits C d → Fits C new × AllGathered C d new []
   none_gathered on carry piece f = search (arith, still_here, append-nil, dues_none)
 
-  -- none counted
+  -- counting no octet
   pub none_counted : IsCountedBy d new 0 → new.carry ≡ d.carry → new.piece.items ≡ d.piece.items →
       Fits C d → Fits C new × AllGathered C d new []
   none_counted on carry piece f = none_gathered
       (subst (IsFurther d new 0) (ticked_none d.outer.items) on.0) carry piece f
 
 module _ (C : Table) (d new : Decoder) (leaf : Innermost) (b : ℕ) where
-  -- one octet that is held, and at which no encapsulation ends
+  -- taking one octet that is held, at which no encapsulation ends
   one_gathered : HaveOctetsLeft (ticked d.outer.items) → IsFurther d new 1 (ticked d.outer.items) →
       Fits C d → d.leaf ≡ Some leaf → IsClean leaf new.carry new.piece.items →
       ((coding : Coding) (here : ℕ) → CanStandAt coding d here →
@@ -87,7 +87,7 @@ module _ (C : Table) (d new : Decoder) (leaf : Innermost) (b : ℕ) where
         },
       )
 
-  -- one octet and then the others
+  -- taking one octet and then the others
   then_gathered : (mid : Decoder) (bs : List ℕ) → AllGathered C d mid (b ∷ []) →
       AllGathered C mid new bs → AllGathered C d new (b ∷ bs)
   then_gathered mid bs g h T coding at message root s r =
@@ -124,10 +124,10 @@ others_on : (d new : Decoder) (carry piece : List ℕ) (count : ℕ) →
     IsCountedBy d new (suc count) → IsCountedBy (next_in d carry piece) new count
 others_on d new carry piece count on = search (arith, ticked_more)
 
--- ---- of a content
+-- ---- octets of a content
 
--- At most so many octets of a piece are held while it is incomplete: of a full one, or of a last
--- one with what ends it.
+-- While a piece is incomplete, at most `most` of its octets are held. So it is for a full piece,
+-- and for a last piece together with what ends it.
 module _ (C : Table) (of : TypeId) (total offset most : ℕ) (T : Ty)
     (full : 32 < total - offset → most < 32)
     (last : total - offset ≤ 32 → most < total - offset + tail T) where
@@ -158,7 +158,7 @@ module _ (C : Table) (of : TypeId) (total offset most : ℕ) (T : Ty)
       (piece ∙ sym (append_assoc d.piece.items (b ∷ []) bs)) one.0 e (omega (arith, l, room)) in
       (others.0, then_gathered C d new leaf b mid bs one.1 others.1)
 
--- ---- of a number, or of the padding in front of it
+-- ---- octets of a number, or of the padding before it
 
 pub number_counted : (C : Table) (of : TypeId) (d new : Decoder) (octets : List ℕ) →
     IsCountedBy d new (length octets) → new.piece.items ≡ d.piece.items → Fits C d →

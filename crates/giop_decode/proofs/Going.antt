@@ -1,5 +1,4 @@
--- What comes next after a part that has ended: the next of several parts, or the rest of an
--- encapsulation.
+-- What comes after a part has ended: the next of several parts, or the rest of an encapsulation.
 use Rattle.std.proofs.Common.{◌≡◌, ℕ, zero, suc, pred, ◌+◌, ◌-◌, ◌<◌, ◌≤◌, List, [], ◌∷◌, ◌++◌, length, Option, Some, None, refl, ap, subst, ◌∙◌, arith}
 use Rattle.std.specs.List.{AllByRecursion}
 use Rattle.giop_decode.specs.ReadResult.{Coding, PathSegment, OpenPart, Part, Member, Done, Short, coded, Inside, Content}
@@ -37,7 +36,7 @@ innermost zero (q ∷ ps) p h = absurd h
 innermost (suc d) [] p h = search (arith)
 innermost (suc d) (q ∷ ps) p h = innermost_deeper d q ps p h.0 (innermost d ps p h.1)
 
--- an open part that more parts follow is one of several
+-- an open part that is followed by another part is one of several parts
 pub record Next (d : ℕ) (T : Ty) (i count : ℕ) : Type 0 where
   pub is : part_in T i count ≡ Part T i count
   pub then : part_in T (suc i) count ≡ Part T (suc i) count
@@ -64,7 +63,7 @@ pub goes_next : (coding : Coding) (path : List PathSegment) (ps : List OpenPart)
     (start_leaf (part_of T (suc i))))
 goes_next coding path ps T i count at e next below = search (arith, around-append, next_part)
 
--- after the value in an encapsulation
+-- after the value in an encapsulation comes the rest of its octets
 pub goes_rest : (coding : Coding) (path : List PathSegment) (ps : List OpenPart) (T : Ty)
     (inner : Coding)
     (end at left : ℕ) → 0 < left → end - at ≡ left →
@@ -81,7 +80,7 @@ pub part_is : (C : Table) (room at : ℕ) (f : Frame) → f.inside ≡ None → 
     open_part C room at f ≡ part_in (tree_at C room f.of.0) f.index f.count
 part_is C room at f none quiet = rw (quiet, none) refl
 
--- an encapsulation tells nothing,
+-- the frame of an encapsulation doesn't tell what comes after it,
 quiet_held : (told : Option Stage) (inside : Option Order) (order : Order) (T : Ty) (i count : ℕ) →
     IsWithinAs told inside i count T → inside ≡ Some order → told ≡ None
 quiet_held None inside order T i count k is = refl
@@ -98,7 +97,7 @@ held_is C room at f order k some =
       some,
     ) refl
 
--- nor does a part that another follows
+-- nor does a frame with a part that is followed by another part
 quiet_next : (told : Option Stage) (inside : Option Order) (T : Ty) (i count : ℕ) →
     IsWithinAs told inside i count T → i < count - 1 → told ≡ None
 quiet_next None inside T i count k below = refl
@@ -152,7 +151,8 @@ popped C at items rest f known are_open e =
           (subst (OpenFrom 24) (ap (open_parts C at) e ∙ places_push C 24 at rest f) are_open);
     }
 
--- what holds where a frame is removed that is no encapsulation's, and tells nothing
+-- what holds when a frame is removed that is of no encapsulation and doesn't tell what comes after
+-- it
 pub record PartPopped (C : Table) (at : ℕ) (rest : List Frame) (f : Frame) : Type 0 where
   pub known_rest : AreKnown C rest
   pub known : f.of.0 < length C.types
@@ -184,7 +184,7 @@ part_popped C at items rest f known are_open e none quiet =
           p.inner.«open»;
     }
 
--- where one is removed that tells what follows
+-- what holds when a frame is removed that tells what comes after it
 pub record TellPopped (C : Table) (at : ℕ) (rest : List Frame) (f : Frame) (stage : Stage) : Type 0
   where
     pub known_rest : AreKnown C rest
@@ -218,7 +218,7 @@ tell_popped C at items rest f stage known are_open e tells =
           p.inner.«open»).1;
     }
 
--- and where one of an encapsulation is removed
+-- what holds when the frame of an encapsulation is removed
 pub record HeldPopped (C : Table) (at : ℕ) (rest : List Frame) (f : Frame) (order : Order) : Type 0
   where
     pub known_rest : AreKnown C rest
@@ -246,12 +246,12 @@ held_popped C at items rest f order known are_open e some =
       front = p.inner.front;
     }
 
--- what is left where the innermost frame is removed
+-- the frames that are left when the innermost frame is removed
 pub popped_is : (old new : List Frame) (f : Frame) → new ≡ frames_above old →
     old ≡ frames_above old ++ f ∷ [] → old ≡ new ++ f ∷ []
 popped_is old new f e is = search (arith)
 
--- a part of a type is within it
+-- a type that has parts can be at the first of them
 pub parts_within : (T : Ty) (count : ℕ) → HasParts T count → 0 < count → IsWithin None 0 count T
 parts_within (Struct n names parts) count has some = search (arith)
 parts_within (Array n E) count has some = search (arith)

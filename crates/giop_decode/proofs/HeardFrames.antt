@@ -1,4 +1,4 @@
--- What the frames around a part are after its line was heard in them.
+-- The frames around a part, after they have heard the part's line.
 use Rattle.std.proofs.Common.{◌≡◌, ℕ, zero, suc, pred, ◌<◌, ◌≤◌, Bool, true, false, List, [], ◌∷◌, ◌++◌, length, get_or, Option, Some, None, refl, sym, ◌∙◌, ap, subst, arith}
 use Rattle.std.specs.Prelude.{IfSome, ◌||◌}
 use Rattle.giop_cdr.specs.declared.order.Order.{Order}
@@ -24,7 +24,7 @@ use Rattle.giop_sig.specs.Table.{Table}
 use Rattle.giop_sig.specs.Trees.{part_number_in, tree_at}
 use Rattle.giop_sig.specs.Types.{Ty}
 
--- a signal by its stage and its number
+-- a signal is what its stage and its number spell
 again : (s : Signal) → signal_by (stage_of s) (number_of s) ≡ s
 again (signals.Awaits n) = refl
 again (signals.Offers n) = refl
@@ -143,7 +143,7 @@ module _ (C : Table) (sign : Sign) where
         (part_number_in C (pred room) root (part_index f.told f.inside f.index)) inner frames h.1),
   )
 
--- a frame that hears is one of the table
+-- the type of the frame that hears is a type of the table
 known_get : (C : Table) (frames : List Frame) (i : ℕ) (d : Frame) → AreKnown C frames →
     i < length frames → (get_or frames i d).of.0 < length C.types
 known_get C [] i d k below = absurd (omega arith)
@@ -161,7 +161,7 @@ known_counted C tick i now old d h k below =
 
 module _ (C : Table) (frames : List Frame) (of : ℕ) (output : Output) (piece : List ℕ)
     (known : AreKnown C frames) where
-  -- nothing is changed where no line changes what an open part was told
+  -- nothing changes if no line changes what an open part was told
   pub heard_same : ((here at : ℕ) (path : List PathSegment) (lines : List Line) →
       IsOutput (tree_in C frames of) path at output piece lines →
       heard_parts lines (open_parts C here frames) ≡ open_parts C here frames) →
@@ -176,11 +176,11 @@ module _ (C : Table) (frames : List Frame) (of : ℕ) (output : Output) (piece :
     link = λ root inner h. h;
   }
 
-  -- as where no frame tells what follows,
+  -- so it is if no frame tells what comes after it,
   pub heard_untold : tells_one frames ≡ false → AreHeard C frames frames of output piece
   heard_untold quiet = heard_same (λ here at path lines says. unheard C 24 here lines frames quiet)
 
-  -- or the output is no sign
+  -- or if the output is no sign
   pub heard_nothing : ((at : ℕ) (path : List PathSegment) (lines : List Line) →
       IsOutput (tree_in C frames of) path at output piece lines → IsSign None lines) →
       AreHeard C frames frames of output piece
@@ -211,7 +211,7 @@ module _ (C : Table) (frames : List Frame) (of : ℕ) (output : Output) (piece :
     link = λ root inner h. link_heard C sign 24 root inner frames h;
   }
 
--- what lines say wherever there is room they say in these frames
+-- what lines say in each room, they say inside these frames
 pub says_here : (C : Table) (frames : List Frame) (of : ℕ) (output : Output) (piece : List ℕ)
     (sign : Option Sign) → length frames < 24 →
     ((room at : ℕ) (path : List PathSegment) (lines : List Line) →
@@ -226,7 +226,7 @@ tells_counted : (n : ℕ) (frames : List Frame) → tells_one (ticked_by n frame
 tells_counted n [] = refl
 tells_counted n (f ∷ frames) = ap (λ b. is_some_stage f.told || b) (tells_counted n frames)
 
--- where nothing is asked of an octet, or that it is counted
+-- if the frames ask nothing of an octet, or only that it is counted, they hear nothing
 pub heard_nowhere : (C : Table) (n : ℕ) (frames : List Frame) (of : ℕ) (output : Output)
     (piece : List ℕ) → is_inside frames ≡ withins.Nothing → AreKnown C (ticked_by n frames) →
     AreHeard C (ticked_by n frames) frames of output piece
@@ -247,7 +247,7 @@ heard_counted C n frames of output piece held known =
     heard_untold C (ticked_by n frames) of output piece known
     (tells_counted n frames ∙ counts_by (tells_one frames) (holds_one frames) held)
 
--- in no encapsulation, and where nothing is told
+-- if the frames ask nothing of an octet, they are the same after it
 pub heard_free : (C : Table) (frames : List Frame) (of : ℕ) (output : Output) (piece : List ℕ) →
     is_inside frames ≡ withins.Nothing → AreKnown C frames →
     AreHeard C (ticked frames) frames of output piece
@@ -255,7 +255,7 @@ heard_free C frames of output piece free known =
     subst (λ fs. AreHeard C fs frames of output piece) (free_ticked frames free)
     (heard_untold C frames of output piece known (untelling frames free))
 
--- the path is the same
+-- hearing doesn't change the path
 segment_heard : (lines : List Line) (p : OpenPart) → segment_in (heard_in lines p) ≡ segment_in p
 segment_heard lines (Telling T told) = refl
 segment_heard lines p = refl

@@ -1,4 +1,5 @@
--- The object key that is noted of a header, line by line, is what its pieces give at once.
+-- The object key that is noted of a header line by line is the one that its pieces give all at
+-- once.
 use Rattle.std.proofs.Common.{◌≡◌, ℕ, ◌&&◌, Bool, true, false, List, [], ◌∷◌, ◌++◌, Option, Some, None, refl, sym, ◌∙◌, ap}
 use Rattle.std.specs.Prelude.{cond}
 use Rattle.std.specs.List.{cons_option}
@@ -25,7 +26,7 @@ piece_kept : (is_key : Bool) (h k : Noted) (p : TextPiece) → cond is_key (Some
 piece_kept true h k p none = absurd cc
 piece_kept false h k p none = refl
 
--- A line that is no enum and no piece of a key changes none.
+-- A line that is neither an enum nor a piece of a key leaves the noted key as it is.
 value_kept : (is_header : Bool) (h : Noted) (at : ℕ) (path : List PathSegment) (value : Value) →
     enum_of value ≡ None → key_piece is_header (line at path value) ≡ None →
     (note is_header h (line at path value)).key ≡ h.key
@@ -48,19 +49,19 @@ key_kept is_header h (l ∷ ls) quiet other =
 
 -- ---- lines up to the key
 
--- no string and no enum was noted
+-- neither a string nor an enum was noted
 record IsClean (h : Noted) : Type 0 where
   name : h.name ≡ None
   so_far : h.so_far ≡ []
   status : h.status ≡ None
 
--- a line that is neither notes nothing but a piece of a key
+-- a line that is neither a string nor an enum notes neither, and notes at most a piece of a key
 record Goes (h k : Noted) (p : Option TextPiece) : Type 0 where
   clean : IsClean k
   key : (ps : List TextPiece) → last_content k.key k.key_so_far ps
       ≡ last_content h.key h.key_so_far (cons_option p ps)
 
--- the same but for what no key depends on
+-- the key doesn't depend on the request id, nor on whether a reply is expected
 same_goes : (h : Noted) (id : Option ℕ) (expects : Option Bool) → IsClean h →
     Goes h (record h { request_id = id; expects_reply = expects }) None
 same_goes h id expects clean = record {
@@ -112,7 +113,7 @@ left_front is_header h (l ∷ ls) clean quiet silent =
     (none_later (text_of l.value) (text_pieces ls) silent)
     ∙ g.key (key_pieces is_header ls)
 
--- ---- all of them
+-- ---- all lines
 
 both_none : (xs ys : List ℕ) → xs ++ ys ≡ [] → (xs ≡ []) × (ys ≡ [])
 both_none [] ys e = (refl, e)

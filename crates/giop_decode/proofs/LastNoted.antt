@@ -1,5 +1,5 @@
--- What is noted of a reading, line by line, is what all of its lines give at once: the first
--- request id, and the last of enums and strings.
+-- What is noted of a reading line by line is what all its lines give at once. Of request ids this
+-- is the first, and of enums and strings the last.
 use Rattle.std.proofs.Common.{arith, ◌≡◌, ℕ, zero, suc, ◌+◌, ◌&&◌, Bool, true, false, List, [], ◌∷◌, ◌++◌, take, drop, Option, Some, None, refl, sym, ◌∙◌, ap, append_assoc, append-nil}
 use Rattle.std.specs.Prelude.{cond, flat_map, codes}
 use Rattle.std.specs.List.{cons_option, last_or}
@@ -14,7 +14,7 @@ use Rattle.giop_decode.proofs.LastKeys.{left_key}
 use Rattle.giop_decode.proofs.NotedKeys.{SameButKey, same_but_key}
 use Rattle.giop_decode.proofs.WholeStrings.{read_strings}
 
--- a line, but for an object key
+-- what a line notes beside an object key
 same_note : (is_header : Bool) (h : Noted) (l : Line) → SameButKey (note is_header h l)
     (with_expects (note_value (is_header && is_member (codes "request_id") l.path) h l.value)
     (expects_after is_header l.path l.value h.expects_reply))
@@ -23,7 +23,7 @@ same_note is_header h l =
     (with_expects (note_value (is_header && is_member (codes "request_id") l.path) h l.value)
     (expects_after is_header l.path l.value h.expects_reply)) l.value
 
--- one line more at the front
+-- the last of several values, with one more value in front of them
 last_cons : (o x : Option ℕ) (xs : List ℕ) →
     last_or o (cons_option x xs) ≡ last_or (last_or o (cons_option x [])) xs
 last_cons o None xs = refl
@@ -50,7 +50,7 @@ left_status is_header h (l ∷ ls) =
 
 -- ---- whether a reply is expected
 
--- by one value, from what was said before
+-- one value says whether a reply is expected, or leaves what was said before
 expects_one : (is_header : Bool) (path : List PathSegment) (value : Value) (before : Option Bool) →
     expects_after is_header path value before
     ≡ last_or before (cons_option (expects_after is_header path value None) [])
@@ -154,7 +154,7 @@ outside_name is_header r strings outside =
     left_name is_header nothing_noted (lines_of r)
     ∙ (ap (last_content None []) whole ∙ said_all None strings.contents)
 
--- ---- all of it
+-- ---- all that is noted
 
 without_name_id : (inside : Bool) (h : Noted) → (without_name_if inside h).request_id ≡ h.request_id
 without_name_id true h = refl
@@ -187,7 +187,7 @@ is_left is_header r strings = search (
   left_key,
 )
 
--- What is noted of any reading.
+-- What is noted of any reading is what all its lines give at once.
 pub read_left : (is_header : Bool) (coding : Coding) (path : List PathSegment) (T : Ty) (at : ℕ)
     (s : List ℕ) → IsLeft is_header (read coding path T at s)
     (noted_of is_header (read coding path T at s))

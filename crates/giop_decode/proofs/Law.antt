@@ -1,4 +1,4 @@
--- Reading a list with one octet more is one step on the parts that reading the list has begun.
+-- Reading a list with one more octet is one step on the parts that reading the list has begun.
 use Rattle.std.proofs.Common.{◌≡◌, ℕ, zero, suc, ◌+◌, ◌-◌, ◌<◌, ◌≤◌, List, [], ◌∷◌, ◌++◌, length, take, drop, Bool, true, false, Option, Some, None, refl, sym, ◌∙◌, ap, append_assoc, arith, length-append, ◌⊎◌, inl, inr, add_assoc, add-zero, lt-ltb, le-ltb, le_of_eq, lit<}
 use Rattle.std.proofs.Math.Seq.{take-length, drop-length}
 use Rattle.std.proofs.lemmas.List.{take-append-le, drop-append-le}
@@ -19,12 +19,12 @@ use Rattle.giop_sig.specs.declared.types.Selected.{Selected}
 use Rattle.giop_sig.specs.declared.types.Selected.TheVariants.{Case}
 use Rattle.giop_cdr.specs.declared.prim.Primitive.TheVariants as prims
 
--- a reader for which one octet more is one step
+-- a reader for which one more octet is one step
 abbrev pub Goes : Coding → List PathSegment → (ℕ → List ℕ → Read) → Type 0
 Goes coding path reader = (at : ℕ) (s : List ℕ) (b : ℕ) →
     reader at (s ++ b ∷ []) ≡ advance coding path (reader at s) b
 
--- with_front
+-- lines in front of a reading
 
 pub with_front_twice : (front mid : List Line) (r : Read) →
     with_front front (with_front mid r) ≡ with_front (front ++ mid) r
@@ -55,7 +55,7 @@ pub with_front-within : (front : List Line) (place : OpenPart) (r : Read) →
 with_front-within front place (Done lines at rest) = refl
 with_front-within front place r = refl
 
--- a part, and what follows it
+-- a part and what comes after it
 
 module _ (coding : Coding) (path : List PathSegment) (T : Ty) (count : ℕ) where
   abbrev parts : ℕ → ℕ → ℕ → List ℕ → Read
@@ -73,7 +73,7 @@ module _ (coding : Coding) (path : List PathSegment) (T : Ty) (count : ℕ) wher
   )
   part_goes i more is goes (Fault lines at kind S) b = refl
 
-  -- parts, one from where the other ended
+  -- parts that are read one after the other
   pub parts_go : ((i : ℕ) → Goes coding (inner_path path T i)
       (read coding (inner_path path T i) (part_of T i))) → (more i : ℕ) → more ≡ count - i →
       Goes coding path (parts more i)
@@ -84,16 +84,16 @@ module _ (coding : Coding) (path : List PathSegment) (T : Ty) (count : ℕ) wher
       ∙ part_goes i more is_next (parts_go each more (suc i) is_next)
       (read coding (inner_path path T i) (part_of T i) at s) b
 
--- a union's member, which no other part follows
+-- the member of a union, after which no other part comes
 pub member_goes : (coding : Coding) (path : List PathSegment) (T : Ty) (i : ℕ) (r : Read) (b : ℕ) →
     within (Member T i) (advance coding (inner_path path T i) r b)
     ≡ advance coding path (within (Member T i) r) b
 member_goes coding path T i (Short lines at outer leaf) b = search (arith, with_front-within)
 member_goes coding path T i r b = refl
 
--- octets
+-- blocks of octets
 
--- octets taken, after one more
+-- a block after one more octet, where `on` takes the octet if the block is incomplete
 abbrev pub more_of : (ℕ → List ℕ → ℕ → Block) → Block → ℕ → Block
 more_of on (Partial held at) b = on at held b
 more_of on (Complete octets at rest) b = Complete octets at (rest ++ b ∷ [])
@@ -165,11 +165,11 @@ number_step_blocks phase n at (x ∷ xs) b (inl h) = refl
 number_step_blocks phase n at [] b (inr h) = rw h refl
 number_step_blocks phase n at (x ∷ xs) b (inr h) = refl
 
--- an octet is padding, or begins the number
+-- the octet at this offset is padding, or there is no padding
 pub padding_or : (at n : ℕ) → (0 < padding at n) ⊎ (padding at n ≡ 0)
 padding_or at n = search (arith, cases_lt)
 
--- one more, where some octet of the number has come
+-- once some octet of a number has come, one more octet of the number is one more of its block
 block_more : (phase : ℕ → ℕ) (n at x b : ℕ) (s : List ℕ) →
     more_of (block_step n) (block n at (x ∷ s)) b
     ≡ more_of (number_step phase n) (block n at (x ∷ s)) b
@@ -204,7 +204,7 @@ number_goes phase n at (x ∷ s) b pos =
     (number_goes phase n (at + 1) s b pos)
     (block_goes n at (x ∷ s) b ∙ block_more phase n at x b s)
 
--- content
+-- contents
 
 module _ (coding : Coding) (path : List PathSegment) where
   pub unless_goes : (T : Ty) (why : Option Kind) (at : ℕ) (r : Read) (b : ℕ) →
@@ -249,9 +249,9 @@ module _ (coding : Coding) (path : List PathSegment) where
   pub octets_goes : (kind : OctetKind) (n : ℕ) → Goes coding path (octets kind path n)
   octets_goes kind n at s b = search (arith, content_goes, unless_goes)
 
--- what begins with a number
+-- types that begin with a number
 
--- what follows the number, once that is complete
+-- what comes after the leading number, once the number is complete
 abbrev pub headed_by : Coding → List PathSegment → Ty → Block → Read
 headed_by coding path T g =
     after_leading_number T (λ xs at rest. after coding path T (num coding.order xs) at rest) g

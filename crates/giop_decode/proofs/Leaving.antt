@@ -1,4 +1,4 @@
--- What fits inside a type, and what one octet more leaves of it.
+-- What fits inside a type, and what one more octet leaves of it.
 use Rattle.std.proofs.Common.{◌≡◌, ℕ, zero, suc, ◌+◌, ◌-◌, ◌<◌, ◌≤◌, List, [], ◌∷◌, ◌++◌, length, refl, subst, arith, add-zero, lt-ltb, le-ltb}
 use Rattle.std.proofs.lemmas.Bool.{cases_lt}
 use Rattle.giop_decode.specs.Fits.{leaf_ty, Sound, FitsIn, HasCase, HasContent, HasLeadingNumber, IsOpen, OpenFrom, IsEncapsulation, Surrounds, IsLed}
@@ -13,7 +13,7 @@ use Rattle.giop_decode.proofs.Around.{fit_none, fit_part}
 use Rattle.giop_decode.proofs.OctetResults.{step_now}
 use Rattle.giop_decode.proofs.Sound.{Takes, begun_later, now_leaves, sound_led, ordered_sound, sound_enclosed, sound_followed, sound_part, sound_member, parts_keep, after_keeps, read_keeps, full_piece_sound, last_piece_sound, content_keeps}
 
--- the leaf, with how much depth is left for it
+-- the leaf, and how much depth is left for it
 pub record LeafAt (d : ℕ) (outer : List OpenPart) (leaf : Leaf) : Type 0 where
   pub are_open : OpenFrom d outer
   pub left : ℕ
@@ -67,7 +67,7 @@ leaf_at (suc d) T (Telling U told ∷ outer) leaf fits fit =
     deeper d (Telling U told) outer leaf (rw fits.0.same (fits.0.kind, fit))
     (leaf_at d (part_of T 0) outer leaf fits.1 (fit_first d T fit fits.0.kind))
 
--- one octet more
+-- one more octet
 
 block_step_takes : (n at : ℕ) (held : List ℕ) (b : ℕ) → length held < n →
     Takes n (at + 1) (block_step n at held b)
@@ -133,7 +133,7 @@ leaf_step_sound d coding path T (Content U total offset piece) at b fit fits = s
   content_step_sound,
 )
 
--- What one octet more leaves fits as well.
+-- What one more octet leaves still fits into the type.
 pub step_keeps : (d : ℕ) (coding : Coding) (path : List PathSegment) (T : Ty)
     (outer : List OpenPart)
     (leaf : Leaf) (at b : ℕ) → IsFit d T → FitsIn T outer leaf → Surrounds at outer →

@@ -30,7 +30,8 @@ pub marked_wrong : (coding : Coding) (path : List PathSegment) (T : Ty) (at mark
     after coding path T n at [] ≡ Fault [] at kinds.Enum T
 marked_wrong coding path T at mark n is bad = rw (is, bad) refl
 
--- its line: of a kind that with its word, and of another that of an unsigned long
+-- The line of a number with a mark. If it is a kind, the line has its word; else it is the line of
+-- an unsigned long, with a name if the number has one.
 
 same_marked : (scalar : Scalar) (mark : ℕ) → Single scalar ≡ Single (Marked mark) →
     scalar ≡ Marked mark
@@ -75,7 +76,7 @@ named_value message path word code mark n none named =
     rw (none, named)
     (ap (λ text. headed message path (codes " ulong " ++ text)) (named_before n word code (codes "\n")))
 
--- and it is heard by its mark
+-- the frames hear a number with a mark by its mark
 pub marked_sign : (scalar : Scalar) (n m mark : ℕ) → Single scalar ≡ Single (Marked mark) →
     interpreted_by scalar n ≡ Some (numbers.Unsigned m) →
     sign_of (Number scalar n) ≡ Some (MarkedNumber mark m)

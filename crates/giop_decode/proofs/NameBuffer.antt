@@ -1,4 +1,4 @@
--- What the name buffer can have is kept at each octet.
+-- If the name buffer has only what it can have, so it does after each octet.
 use Rattle.std.proofs.Common.{◌<◌, ◌∷◌, ◌≡◌, ℕ, ◌≤◌, ◌&&◌, Bool, true, false, List, [], length, Option, Some, None, lit<, refl, sym, ◌∙◌, arith, length-append}
 use Rattle.std.specs.Prelude.{cond, replicate, codes}
 use Rattle.std.proofs.lemmas.List.{length-replicate}
@@ -24,7 +24,8 @@ use Rattle.giop_sig.specs.Types.{Scalar, Plain, Enum, Ty, Text, Marked}
 
 -- ---- the buffer and what it stands for
 
--- what is noted where no piece of a string is under way, or one that begins at this offset
+-- what is noted of a name if no piece of a string is under way, or if one is that begins at this
+-- offset
 abbrev AreNoted : Root → Option ℕ → Option (List ℕ) → List ℕ → Type 0
 AreNoted root None name so_far = so_far ≡ []
 AreNoted root (Some offset) name so_far = (name ≡ None) × IsNotedOf root offset (length so_far)
@@ -41,12 +42,12 @@ all_noted : (root : Root) (offset : ℕ) → IsNotedOf root offset offset
 all_noted roots.Body offset = omega arith
 all_noted root offset = refl
 
--- with KEYs all octets of a key are held
+-- if the table has KEYs, all octets of a key are held
 all_held : (C : Table) (octets : List ℕ) → has_keys C ≡ true → held_key C octets ≡ octets
 all_held C [] has = refl
 all_held C (x ∷ octets) has = rw has refl
 
--- no octets of a key are held, or there are KEYs
+-- no octets of a key are held, or the table has KEYs
 abbrev MayHold : Table → Buffer → Type 0
 MayHold C buffer = has_keys C ≡ false → HoldsNoKey buffer
 
@@ -172,7 +173,7 @@ key_quiet root next is_key k expects value is =
     let same = same_but_key is_key (with_expects k expects) value in
     rw (same.name, same.so_far) is
 
--- what is noted, after the line of an octet
+-- after the line of an octet, what is noted of a name agrees with the string that goes on then
 output_noted : (header : Bool) (root : Root) (T : Ty) (was next : Option ℕ) (output : Output)
     (path : List PathSegment) (at : ℕ) (piece : List ℕ) (lines : List Line) (h : Noted) →
     OffsetMoves T was next output (length piece) → IsOutput T path at output piece lines →
@@ -205,7 +206,7 @@ output_noted header root T was next (outputs.Piece offset false) path at piece l
     moves is))
 output_noted header root T was next output path at piece lines h moves says is = search (arith)
 
--- What the name buffer can have, it can have after an octet.
+-- If the name buffer has what it can have, so it does after one more octet.
 pub name_kept : (C : Table) (header : Bool) (root : Root) (T : Ty) (was next : Option ℕ)
     (transition : Transition) (output : Output) (path : List PathSegment) (at : ℕ) (piece : List ℕ)
     (lines : List Line) (old new : Notes) →
@@ -241,7 +242,7 @@ name_kept C header root T was next transition output path at piece lines old new
     (output_noted header root T was (transition_offset T transition) output path at piece lines h
     (moves_on T was transition output (length piece) going moves) says s.noted))
 
--- before the first octet
+-- before the first octet the name buffer has what it can have
 pub nothing_fits : (C : Table) (root : Root) (m : Notes) → HoldsNoted C true m nothing_noted →
     FitsName root None m.buffer m.name.items
 nothing_fits C root m held = search (arith, fits_name)

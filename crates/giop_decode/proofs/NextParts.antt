@@ -1,4 +1,4 @@
--- Numbers that are parts of one part, each of which another follows: what one of them does.
+-- Numbers that are parts of one part, with another number after each: what taking one of them does.
 use Rattle.std.proofs.Common.{Bool, ◌≡◌, Result, Ok, IsErr, ℕ, suc, ◌+◌, ◌-◌, ◌%◌, ◌<◌, false, List, [], ◌∷◌, ◌++◌, length, take, get_or, Option, Some, None, refl, sym, ◌∙◌, ap, subst, arith, add-one, append-nil, append_assoc, length-append, codes, decimal}
 use Rattle.std.proofs.Math.Seq.{take-append_seam}
 use Rattle.std.proofs.lemmas.List.{take_all, take_more}
@@ -63,14 +63,14 @@ first_none : (o : Option ℕ) → first_of o None ≡ o
 first_none None = refl
 first_none (Some n) = refl
 
--- nothing is noted of a primitive in no header
+-- outside a header nothing is noted of a primitive
 plain_noted : (C : Table) (asked : Bool) (m : Notes) (h : Noted) (p : Primitive) (n at : ℕ)
     (path : List PathSegment) → HoldsNoted C asked m h →
     HoldsNoted C asked m (noted false h (line at path (Number (Plain p) n) ∷ []))
 plain_noted C asked m h prims.ULong n at path r = search (arith, first_none)
 plain_noted C asked m h p n at path r = search (arith)
 
--- the frames around the innermost one, and that one
+-- the frames around the innermost frame are all but the last frame
 above_push : (frames : List Frame) (f : Frame) → frames_above (frames ++ f ∷ []) ≡ frames
 above_push frames f =
     let all : length (frames ++ f ∷ []) - 1 ≡ length frames =
@@ -128,14 +128,14 @@ number_text_is : (message : ℕ) (place : List ℕ) (p : Primitive) (n : ℕ) (n
 unfolding kind_line
 number_text_is message place p n number e = rw e refl
 
--- the line after what it begins with
+-- the text of a line after what the line begins with
 pub line_is : (message : ℕ) (place segment kind text : List ℕ) →
     headed message place [] ++ (segment ++ (kind ++ (text ++ codes "\n")))
     ≡ kind_line message (place ++ segment) kind text
 unfolding kind_line
 line_is message place segment kind text = search (arith, codes, headed_is, decimal, append_assoc)
 
--- the innermost frame, in no encapsulation
+-- the innermost frame, if no frame is of an encapsulation
 module _ (C : Table) (d : Decoder) (of : TypeId) (frame : Frame) (f : Fits C d)
     (leaf : d.leaf ≡ Some (innermost.Number of))
     (outside : d.inside ≡ withins.Nothing) (outer : d.outer.items ≡ frames_above d.outer.items ++
@@ -171,7 +171,7 @@ module _ (C : Table) (d : Decoder) (of : TypeId) (frame : Frame) (f : Fits C d)
         place_in_room C (24 - length (frames_above d.outer.items)) room frame.of.0 (frame.index + 1)
         (rw add-one (follows below).placed)
 
-    -- a type with another part is no union
+    -- a type with one more part is no union
     pub bare_next : frame.index + 1 < frame.count → IsUnion (shape_in (tree C frame.of.0)) → ⊥
     bare_next below = counted_bare (tree C frame.of.0) frame.index frame.count
         (popped_frame.within 24) (omega (arith, below))
@@ -197,12 +197,12 @@ module _ (C : Table) (d : Decoder) (part : PartAhead) (f : Fits C d)
   pub taken_together : TakenTogether C d octets part.of part.count ended [] d.carry d.piece.items
   taken_together = search (arith, comes_number, free_coding_by, free, ahead_free, whole_here)
 
-  -- the decoder at the last of the number's octets: none was counted
+  -- the decoder at the last octet of the number; no octet was counted, as there is no encapsulation
   pub part_at_last : (at : ℕ) → at ≡ (d.at + (part.count - 1)) % 8 →
       IsAtLast d (at_last d at d.outer) part.count
   part_at_last at e = search (arith, is_at_last, free_ticked_by, free)
 
-  -- how many octets come before the last of the number's, and where the decoder is then
+  -- how many octets come before the number's last one, and the decoder at that last one
   abbrev last : ℕ
   last = part.count - 1
 
@@ -212,7 +212,7 @@ module _ (C : Table) (d : Decoder) (part : PartAhead) (f : Fits C d)
   on : IsAtLast d there part.count
   on = search (arith, part_at_last)
 
-  -- and after them
+  -- the decoder after all octets of the number
   pub part_behind : (at : ℕ) → at ≡ (d.at + part.count) % 8 →
       IsBehind C there (at_last d at d.outer) part.of.0 ended []
   part_behind at e =
@@ -221,7 +221,7 @@ module _ (C : Table) (d : Decoder) (part : PartAhead) (f : Fits C d)
       (heard_free C d.outer.items part.of.0 (outputs.Number part.number) (d.piece.items ++ []) free
       f.known_outer) refl refl refl refl
 
-  -- its path, and its line
+  -- the path of the number, and its line
   abbrev place : List ℕ
   place = (root_word d.head.root ++ frames_text C above)
       ++ frame_text C part.frame

@@ -1,4 +1,4 @@
--- Full pieces of an octet sequence, after each of which more comes: what one of them does.
+-- Full pieces of an octet sequence, with another piece after each: what taking one of them does.
 use Rattle.std.proofs.Common.{inr, inl, Bool, ◌≡◌, Result, Ok, IsErr, ℕ, ◌+◌, ◌-◌, ◌%◌, ◌<◌, true, false, List, [], ◌∷◌, ◌++◌, length, take, Some, refl, sym, ◌∙◌, ap, subst, arith, append-nil, codes, decimal}
 use Rattle.std.proofs.Math.Bool.{and-false}
 use Rattle.giop_decode.specs.declared.frame.Within.TheVariants as withins
@@ -42,7 +42,7 @@ use Rattle.giop_print.specs.Paths.{root_word}
 use Rattle.giop_sig.specs.Table.{Table}
 use Rattle.giop_sig.specs.Types.{Octets, Raw}
 
--- the line of a full piece after what it begins with
+-- the text of a full piece's line after what the line begins with
 pub line_is : (message offset : ℕ) (place octets rest : List ℕ) →
     rest ≡ codes " octets @" ++ (decimal offset ++ (spaced_hex (octets ++ []) ++ (more_word true
     ++ codes "\n"))) →
@@ -85,14 +85,14 @@ module _ (C : Table) (d : Decoder) (ahead : PieceAhead) (f : Fits C d)
       (ahead_free (length octets - 1) d.outer.items free f.ahead) h.more
       (ap (λ xs. 32 - length xs) (sym h.none_held)) h.whole
 
-  -- the decoder at the last of the piece's octets: none was counted
+  -- the decoder at the last octet of the piece; no octet was counted, as there is no encapsulation
   abbrev there : Decoder
   there = at_last d ((d.at + 31) % 8) d.outer
 
   on : IsAtLast d there 32
   on = search (arith, is_at_last, free_ticked_by, free)
 
-  -- its path, and its line
+  -- the path of the piece, and its line
   abbrev place : List ℕ
   place = root_word d.head.root ++ frames_text C d.outer.items
 
@@ -131,7 +131,7 @@ module _ (C : Table) (d : Decoder) (ahead : PieceAhead) (f : Fits C d)
       false ≡ names_operation (is_header_root d.head.root) lines
   unnamed here at lines says = search (arith, given, and-false, codes)
 
-  -- nothing is noted of it
+  -- nothing is noted of the piece
   kept_by : IsQuiet C d.head.root → (asked : Bool) (o : Noted) (at : ℕ) (path : List PathSegment) →
       HoldsNoted C asked d.notes o → HoldsNoted C asked d.notes
       (noted (is_header_root d.head.root) o

@@ -5,7 +5,7 @@ use Rattle.giop_decode.specs.Noted.{Noted, key_ended, note_key, with_key_piece}
 use Rattle.giop_decode.specs.ReadResult.{Value, Piece}
 use Rattle.giop_sig.specs.Types.{Octets, Raw}
 
--- the same but for the object key
+-- two notes are the same but for the object key
 pub record SameButKey (k h : Noted) : Type 0 where
   pub request_id : k.request_id ≡ h.request_id
   pub status : k.status ≡ h.status

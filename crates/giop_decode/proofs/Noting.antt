@@ -39,7 +39,7 @@ pub leaf_inside : (C : Table) (frames : List Frame) (leaf : Innermost) (carry pi
 leaf_inside C frames (innermost.Content of total offset) carry piece = search (arith, content_in)
 leaf_inside C frames _ carry piece = refl
 
--- an encapsulation's end in a string cuts it off
+-- an encapsulation that ends inside a string cuts the string off
 pub cut_inside : (leaf : Leaf) → is_text (cut_off leaf) ≡ in_content leaf
 cut_inside (Content T total offset piece) = search (arith, content_in)
 cut_inside _ = refl
@@ -79,7 +79,7 @@ without_name_twice : (was : Bool) (h : Noted) →
 without_name_twice true h = refl
 without_name_twice false h = refl
 
--- a piece of a string, or of octets, which are in no string
+-- what is noted of a piece: a piece of a string, or one of octets, which are in no string
 piece_noted : (header : Bool) (T : Ty) (was more : Bool) (h : Noted) (path : List PathSegment)
     (at offset : ℕ) (octets : List ℕ) → (was ≡ true → is_text T ≡ true) →
     noted header (without_name_if was h) (line at path (Piece T offset octets more) ∷ [])
@@ -131,7 +131,7 @@ output_noted header T was transition (outputs.Piece offset more) path at piece l
     search (arith, piece_noted)
 output_noted header T was transition _ path at piece lines h v says k = rw (v.0, v.1) refl
 
--- What is noted of a reading, after the lines of its front and of one octet.
+-- What is noted of a reading is what its earlier lines note and then the lines of one octet.
 pub noted_on : (header : Bool) (T : Ty) (leaf : Innermost) (transition : Transition)
     (output : Output) (path : List PathSegment) (at : ℕ) (piece : List ℕ) (front lines : List Line)
     (r : Read) → OutputFitsString T (leaf_in_string T leaf) transition output →
@@ -144,7 +144,7 @@ noted_on header T leaf transition output path at piece front lines r v says insi
 
 -- ---- pieces and members
 
--- A piece of no string and no object key is not noted, and names nothing.
+-- A piece of neither a string nor an object key isn't noted, and names no operation.
 
 pub silent_piece : (C : Table) (asked header : Bool) (T : Ty) (path : List PathSegment)
     (at offset : ℕ) (octets : List ℕ) (more : Bool) (h : Noted) (m : Notes) →
@@ -160,7 +160,7 @@ silent_piece C asked header (Octets WideText) path at offset octets more h m oth
 silent_piece C asked header (Octets WideChar) path at offset octets more h m other key held = held
 silent_piece C asked header T path at offset octets more h m other key held = held
 
--- Where a table has no KEYs nothing is held of a key, and none has an interface.
+-- If a table has no KEYs, nothing is held of a key, and no key has an interface.
 keyless : (C : Table) (so_far : List ℕ) → has_keys C ≡ false → held_key C so_far ≡ []
 keyless C [] none = refl
 keyless C (x ∷ so_far) none = rw none refl
@@ -213,7 +213,7 @@ pub unnamed_piece : (header : Bool) (T : Ty) (path : List PathSegment) (at offse
 unnamed_piece header (Text bound) path at offset octets more other = absurd (other bound refl)
 unnamed_piece header T path at offset octets more other = search (arith, and-false)
 
--- a piece that isn't the last, and the last
+-- the last piece of a string ends the string
 pub piece_last : (h : Noted) (octets : List ℕ) (more : Bool) → more ≡ false →
     ended (with_piece h octets) ≡ noted_piece h octets more
 piece_last h octets more last = rw last refl
@@ -223,7 +223,7 @@ pub key_both : (h : Noted) (held rest : List ℕ) →
     with_key_piece (with_key_piece h held) rest ≡ with_key_piece h (held ++ rest)
 key_both h held rest = search (arith, append_assoc)
 
--- a piece of an object key that isn't the last, and the last
+-- a piece of an object key: one that isn't the last, and the last one
 pub key_more : (h : Noted) (octets : List ℕ) (more : Bool) → may_have_key h ≡ true → more ≡ true →
     with_key_piece h octets ≡ noted_key h octets more
 key_more h octets more may goes_on = rw (may, goes_on) refl
@@ -232,7 +232,7 @@ pub key_last : (h : Noted) (octets : List ℕ) (more : Bool) → may_have_key h 
     more ≡ false → key_ended (with_key_piece h octets) ≡ noted_key h octets more
 key_last h octets more may last = rw (may, last) refl
 
--- a piece in two parts is one piece
+-- a piece of a string in two parts is one piece
 pub piece_both : (h : Noted) (held rest : List ℕ) →
     with_piece (with_piece h held) rest ≡ with_piece h (held ++ rest)
 piece_both h held rest = search (arith, append_assoc)
@@ -256,14 +256,14 @@ no_member name C here [] h = refl
 no_member name C here (f ∷ []) h = absurd (h refl)
 no_member name C here (f ∷ g ∷ outer) h = search (arith, deep)
 
--- a part with two around it is no object key where the outer one isn't the target
+-- a part with two parts around it is no object key if the outer of them isn't the target
 pub no_target : (C : Table) (here : ℕ) (outer : List Frame) (d : Frame) → length outer ≡ 2 →
     is_name (codes "target") (segment_in (open_part C 24 here (slice_index_or outer 0 d))) ≡ false →
     is_key_path (path_in [] (open_parts C here outer)) ≡ false
 no_target C here (f ∷ g ∷ []) d h other = rw other refl
 no_target C here _ d h other = absurd (omega arith)
 
--- a part with more of them around it is no object key
+-- a part with more than two parts around it is no object key
 deeper : (x y z : PathSegment) (zs : List PathSegment) (ps : List OpenPart) →
     false ≡ is_key_path (path_in (x ∷ y ∷ z ∷ zs) ps)
 deeper x y z zs [] = refl
@@ -289,7 +289,7 @@ switch_member name (Index i ∷ y ∷ path) tag = refl
 switch_member name (Switch other ∷ y ∷ path) tag = refl
 switch_member name (Held ∷ y ∷ path) tag = refl
 
--- and a number that is no member says nothing of a reply
+-- so the number of a discriminator doesn't say whether a reply is expected
 switch_expects : (header : Bool) (path : List PathSegment) (tag : Option (List ℕ)) (scalar : Scalar)
     (n : ℕ) (before : Option Bool) →
     expects_after header (path ++ Switch tag ∷ []) (Number scalar n) before ≡ before
@@ -299,7 +299,7 @@ switch_expects false path tag (Plain prims.Boolean) n before = refl
 switch_expects false path tag (Plain prims.Octet) n before = refl
 switch_expects header path tag scalar n before = refl
 
--- nor does a number change it otherwise
+-- nor does noting a number change whether a reply is expected
 pub value_expects : (is_id : Bool) (h : Noted) (scalar : Scalar) (n : ℕ) →
     (note_value is_id h (Number scalar n)).expects_reply ≡ h.expects_reply
 value_expects is_id h (Plain prims.ULong) n = refl

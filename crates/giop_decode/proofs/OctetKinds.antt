@@ -1,20 +1,20 @@
--- The kinds of octets that have their number in front.
+-- The kinds of octets that come after their number.
 use Rattle.std.proofs.Common.{◌≡◌, ◌<◌, lit<}
 use Rattle.giop_sig.specs.Types.{OctetKind, Raw, WideText, WideChar, Octets, Ty, HasShape, IsUnion, octets_shape, size_width}
 
--- the number takes some octet
+-- the number has at least one octet
 pub size_pos : (kind : OctetKind) → 0 < size_width kind
 size_pos (Raw bound) = lit< tt
 size_pos WideText = lit< tt
 size_pos WideChar = lit< tt
 
--- they are no union
+-- octets of a kind are no union
 pub octets_no_union : (kind : OctetKind) → IsUnion (octets_shape kind) → ⊥
 octets_no_union (Raw bound) u = u
 octets_no_union WideText u = u
 octets_no_union WideChar u = u
 
--- a type has the shape of its kind, and is known by it
+-- the type of a kind has the kind's shape, and a type with that shape is the kind's type
 pub octets_has : (T : Ty) (kind : OctetKind) → T ≡ Octets kind → HasShape T (octets_shape kind)
 octets_has T (Raw bound) is = is
 octets_has T WideText is = is

@@ -1,4 +1,4 @@
--- A step has at most one line, which is at its octet, and the reading of no octets has none.
+-- A step has at most one line, which is at the step's octet. Reading no octets gives no line.
 use Rattle.std.proofs.Common.{◌≡◌, ℕ, zero, suc, ◌+◌, ◌-◌, ◌<◌, Bool, true, false, List, [], ◌∷◌, ◌++◌, take, drop, get_or, Option, Some, None, refl, append-nil, arith, add-zero, lit<, ltb}
 use Rattle.std.specs.Prelude.{cond}
 use Rattle.std.specs.List.{AllByRecursion as Each}
@@ -29,7 +29,7 @@ faulted_none n kinds.EncapShort = tt
 faulted_none n kinds.Untyped = tt
 faulted_none n kind = refl
 
--- a fault after a value that was complete, and may have a line
+-- a fault that comes after a complete value, so there may be a line
 abbrev pub IsLate : Kind → Type 0
 IsLate kinds.EncapShort = Unit {0}
 IsLate kinds.Untyped = Unit {0}
@@ -41,7 +41,7 @@ late_faulted n kinds.EncapShort lines late h = h
 late_faulted n kinds.Untyped lines late h = h
 late_faulted n why lines late h = absurd late
 
--- no line, though an encapsulation may have ended, or octets of no type may follow
+-- a reading without a line, in which an encapsulation may have ended or octets of no type may come
 abbrev pub Mute : ℕ → Read → Type 0
 Mute n (Done lines at rest) = (lines ≡ []) × (at ≡ n) × (rest ≡ [])
 Mute n (Short lines at outer leaf) = (lines ≡ []) × (at ≡ n)
@@ -91,7 +91,7 @@ now_unless : (n : ℕ) (T : Ty) (why : Option Kind) (r : Read) → IsOctetResult
 now_unless n T None r h = h
 now_unless n T (Some kind) r h = (faulted_none n kind, refl)
 
--- no octets
+-- reading no octets
 
 pub quiet_parts : (n : ℕ) (part : ℕ → ℕ → List ℕ → Read) →
     ((i : ℕ) → IsEmptyResult n (part i n [])) →
@@ -141,7 +141,7 @@ pub parts_quiet : (coding : Coding) (path : List PathSegment) (T : Ty) (count n 
     IsEmptyResult n (parts_from (part_at coding path T count) more i n [])
 parts_quiet coding path T count n more i = search (arith, quiet_parts, part_quiet)
 
--- one octet
+-- reading one octet
 
 abbrev BlockNow : ℕ → Block → Type 0
 BlockNow n (Partial held at) = at ≡ n
@@ -183,7 +183,7 @@ full_now : (n : ℕ) (T : Ty) (path : List PathSegment) (total offset : ℕ) (ne
 full_now n T path total offset next (Partial piece at) h k = (tt, h)
 full_now n T path total offset next (Complete xs at rest) h k = search (arith, now_front)
 
--- a content of which some octet is to come
+-- a content with octets still to come
 content_quiet : (n : ℕ) (T : Ty) (path : List PathSegment) (total full offset : ℕ) →
     offset < total →
     IsEmptyResult n (content T path total full offset n [])
@@ -262,7 +262,7 @@ mute_enclosed n path T inner end (Fault lines at kinds.Untyped S) h = search (
 )
 mute_enclosed n path T inner end (Fault lines at why S) h = h
 
--- the value has taken no octet
+-- an encapsulation whose value has taken no octet
 quiet_enclosed : (n : ℕ) (path : List PathSegment) (T : Ty) (inner : Coding) (end : ℕ)
     (left : ℕ → List ℕ) (r : Read) →
     IsEmptyResult n r → Mute n (enclosed path T inner end left r [])
@@ -273,7 +273,7 @@ quiet_enclosed n path T inner end left (Short lines at outer leaf) h =
     mute_by n (ltb at end) lines at (Inside T inner end ∷ outer) leaf (cut_off leaf) h.0 h.1
 quiet_enclosed n path T inner end left (Fault lines at why S) h = absurd h
 
--- what follows a part that tells it
+-- what comes after a part that tells it
 following_mute : (n : ℕ) (T : Ty) (what : Sequel) (part : ℕ → ℕ → List ℕ → Read) →
     ((i : ℕ) → IsEmptyResult n (part i n [])) → Mute n (following T what part n [])
 following_mute n T (Then i) part each = quiet_mute n (part i n []) (each i)

@@ -1,11 +1,11 @@
--- Pieces of strings are those of one list of contents at most.
+-- Pieces of strings are the pieces of at most one list of contents.
 use Rattle.std.proofs.Common.{arith, ◌≡◌, ℕ, zero, suc, ◌+◌, true, List, [], ◌∷◌, ◌++◌, length, take, drop, refl, sym, ap, ◌∙◌, append_assoc, true≢false}
 use Rattle.std.specs.Prelude.{flat_map}
 use Rattle.std.proofs.lemmas.List.{take-append-drop}
 use Rattle.giop_decode.specs.NotedFromLines.{TextPiece, AreUnended, piece, cut_from, pieces_of}
 use Rattle.giop_decode.specs.Pieces.{full_pieces}
 
--- what is in front of two lists, and the rests of these
+-- equal lists have equal first elements and equal rests
 heads : (p q : TextPiece) (ps qs : List TextPiece) → p ∷ ps ≡ q ∷ qs → (p ≡ q) × (ps ≡ qs)
 heads p q ps qs e = (cc, cc)
 
@@ -32,7 +32,7 @@ pieces_end : (c : List ℕ) (cs : List (List ℕ)) (begun other : List TextPiece
     other ≡ (pieces_of c ++ flat_map pieces_of cs) ++ begun → ⊥
 pieces_end c cs begun other h e = search (arith, cut_ends, append_assoc)
 
--- These contents are the only ones.
+-- Two lists of contents that have the same pieces are the same list.
 pub contents_one : (cs ds : List (List ℕ)) (begun other : List TextPiece) → AreUnended begun →
     AreUnended other → flat_map pieces_of cs ++ begun ≡ flat_map pieces_of ds ++ other → cs ≡ ds
 contents_one [] [] begun other h k e = refl

@@ -17,7 +17,7 @@ use Rattle.giop_decode.proofs.Surrounding.{inside_ticked, known_ticked, leaf_tic
 use Rattle.giop_decode.proofs.Linking.{link_ticked}
 use Rattle.giop_sig.specs.Table.{Table}
 
--- a decoder whose held octets are these
+-- the decoder with these held octets in place of its own
 abbrev pub held_in : Decoder → List ℕ → ArrayVec ℕ → Decoder
 held_in d carry piece = record {
   order = d.order;
@@ -39,7 +39,7 @@ Holds coding C d new leaf here octet = (path : List PathSegment) →
     (leaf_of C d.outer.items leaf d.carry d.piece.items) here octet
     ≡ Short [] (here + 1) [] (leaf_of C d.outer.items leaf new.carry new.piece.items)
 
--- an octet at which no encapsulation ends, and which is counted in each
+-- an octet that is counted in each encapsulation, and at which none ends
 module _ (C : Table) (d new : Decoder) (leaf : Innermost) (octet : ℕ)
     (on : HaveOctetsLeft (ticked d.outer.items)) (f : Fits C d) (e : d.leaf ≡ Some leaf)
     (e' : new.leaf ≡ Some leaf) (counts : new.outer.items ≡ ticked d.outer.items) where

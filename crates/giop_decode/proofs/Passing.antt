@@ -1,4 +1,4 @@
--- Octets that are taken together, the last of which is passed: they are taken as a run.
+-- Octets that are taken together and of which the last is passed are taken as a run.
 use Rattle.std.proofs.Common.{true, false, ◌≡◌, Result, Ok, IsErr, ℕ, ◌+◌, ◌-◌, ◌<◌, List, ◌++◌, length, take, get_or, sym, subst, arith, ap, ◌∙◌}
 use Rattle.giop_decode.specs.declared.decoder.Decoder.{Decoder}
 use Rattle.giop_decode.specs.declared.leaf.Step.{Step}
@@ -22,7 +22,7 @@ use Rattle.giop_sig.specs.Types.{Ty}
 use Rattle.giop_sig.specs.Table.{Table}
 use Rattle.giop_sig.specs.declared.types.TypeId.{TypeId}
 
--- a decoder before them, and at the last of them
+-- a decoder before these octets, and one at the last of them
 module _ (C : Table) (d : Decoder) (octets : List ℕ) (of : TypeId) (count : ℕ) (step : Step)
     (rest : List ℕ) (f : Fits C d) (m : Decoder)
     (h : TakenTogether C d octets of count step rest m.carry m.piece.items)
@@ -58,7 +58,7 @@ module _ (C : Table) (d : Decoder) (octets : List ℕ) (of : TypeId) (count : �
   below : count - 1 < length octets
   below = search (arith)
 
-  -- all but the last
+  -- all octets but the last are taken
   pub before_so_far : (a : OutLog) → TakenSoFar C d before octets (count - 1) a a
   before_so_far a =
       gathered_so_far C d before octets (count - 1) a (let b = below in omega (arith, b))

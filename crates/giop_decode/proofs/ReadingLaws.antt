@@ -1,6 +1,6 @@
 -- What the crates above may use of the reading of a value, beside its contracts: lemmas on the
--- public definitions, each proved in the file that it names. No other file of this crate's proofs
--- can be cited from outside.
+-- public definitions, each proved in the file that it names. Of the other files of this crate's
+-- proofs only `NotedKeys` can be cited from outside.
 use Rattle.std.specs.List.{AllByRecursion as Each}
 use Rattle.std.proofs.Common.{◌≡◌, ℕ, suc, ◌+◌, ◌<◌, Bool, false, List, [], ◌∷◌, ◌++◌, length, Option}
 use Rattle.giop_cdr.specs.declared.order.Order.{Order}
@@ -36,23 +36,23 @@ use Rattle.giop_decode.proofs.Runs as runs
 use Rattle.giop_decode.proofs.Depths as depths
 use Rattle.giop_decode.proofs.Versions as versions
 
--- The laws of `reading_laws`: one octet more is one step;
+-- The laws of `reading_laws`: one more octet is one step;
 pub read_goes : (coding : Coding) (path : List PathSegment) (T : Ty) (at : ℕ) (s : List ℕ) (b : ℕ) →
     read coding path T at (s ++ b ∷ []) ≡ advance coding path (read coding path T at s) b
 read_goes coding path T at s b = enclosing.read_goes coding path T at s b
 
--- a step has at most one line, which stands at its octet;
+-- a step has at most one line, which is at its octet;
 pub step_now : (coding : Coding) (path : List PathSegment) (outer : List OpenPart) (leaf : Leaf)
     (at b : ℕ) →
     IsOctetResult (at + 1) (step coding path outer leaf at b)
 step_now coding path outer leaf at b = now.step_now coding path outer leaf at b
 
--- the parts begun fit in the type.
+-- the parts that have begun fit into the type.
 pub read_keeps : (d : ℕ) (coding : Coding) (path : List PathSegment) (T : Ty) → IsFit d T →
     (at : ℕ) (s : List ℕ) → Sound T (at + length s) (read coding path T at s)
 read_keeps d coding path T fit at s = sound.read_keeps d coding path T fit at s
 
--- Lines in front, and what is noted of them.
+-- Lines before a reading, and what is noted of them.
 
 pub lines_front : (front : List Line) (r : Read) →
     lines_of (with_front front r) ≡ front ++ lines_of r
@@ -66,7 +66,7 @@ pub front_inside : (front : List Line) (r : Read) →
     ends_in_string (with_front front r) ≡ ends_in_string r
 front_inside front r = hearing.front_inside front r
 
--- The reading of one octet is one inside a part, too.
+-- The result of one octet is such a result inside a part, too.
 pub now_within : (n : ℕ) (place : OpenPart) (r : Read) → IsOctetResult n r →
     IsOctetResult n (within place r)
 now_within n place r h = now.now_within n place r h
@@ -80,13 +80,13 @@ pub switch_member : (name : List ℕ) (path : List PathSegment) (tag : Option (L
     is_member name (path ++ Switch tag ∷ []) ≡ false
 switch_member name path tag = hearing.switch_member name path tag
 
--- No octets give no line: of a value, of its parts, or of those from an index on.
+-- No octets give no line: neither of a value, nor of its parts, nor of the parts from an index on,
 
 pub read_quiet : (coding : Coding) (path : List PathSegment) (T : Ty) (n : ℕ) →
     IsEmptyResult n (read coding path T n [])
 read_quiet coding path T n = now.read_quiet coding path T n
 
--- and of what is left of an encapsulation
+-- nor of what is left of an encapsulation
 pub rest_quiet : (n : ℕ) (path : List PathSegment) (T : Ty) (k : ℕ) →
     IsEmptyResult n (rest_of path T k n [])
 rest_quiet n path T k = now.rest_quiet n path T k
@@ -108,7 +108,7 @@ pub parts_quiet : (coding : Coding) (path : List PathSegment) (T : Ty) (count n 
     IsEmptyResult n (parts_from (part_at coding path T count) more i n [])
 parts_quiet coding path T count n more i = now.parts_quiet coding path T count n more i
 
--- A number, and a block of octets, of which some are to come.
+-- A number and a block of octets, with octets still to come.
 
 pub width_pos : (scalar : Scalar) → 0 < width scalar
 width_pos scalar = law.width_pos scalar
@@ -119,7 +119,7 @@ number_none phase w n = law.number_none phase w n
 pub block_waits : (n at : ℕ) (s : List ℕ) → length s < n → block n at s ≡ Partial s (at + length s)
 block_waits n at s h = law.block_waits n at s h
 
--- Where a part has ended and another follows, that one is begun.
+-- When a part has ended and another part follows it, that other part begins.
 pub next_part : (coding : Coding) (path : List PathSegment) (d : ℕ) (T : Ty) (i count at : ℕ) →
     IsFit (suc d) T → HasParts T count → suc i < count →
     resumed coding path (Part T i count) (Done [] at [])
@@ -137,7 +137,8 @@ pub each_append : {A : Type 0} (P : A → Type 0) (xs ys : List A) → Each P xs
     Each P (xs ++ ys)
 each_append P xs ys h k = now.each_append P xs ys h k
 
--- The text of the lines that octets more give: of none, and of two lists one after the other.
+-- The text of the lines that more octets give: for no octets, and for two lists one after the
+-- other.
 
 pub text_none : (message : ℕ) (root : Root) (coding : Coding) (T : Ty) (at : ℕ) (s : List ℕ) →
     lines_text message root (added_lines_of_run coding T at s []) ≡ []
@@ -149,19 +150,18 @@ pub text_both : (message : ℕ) (root : Root) (coding : Coding) (T : Ty) (at : �
     (added_lines_of_run coding T at (s ++ xs) ys)
 text_both message root coding T at s xs ys = runs.text_both message root coding T at s xs ys
 
--- The parts of a decoder that are begun and not ended are fewer than the types of the table are
--- deep.
+-- A decoder has fewer parts that have begun and not ended than the types of the table are deep.
 pub fits_depth : (C : Table) (d : Decoder) → IsTable C → Fits C d →
     length d.outer.items < catalogue_depth C
 fits_depth C d laws fits =
     depths.fits_depth (seen d.narrow C) d (versions.table_seen d.narrow C laws) fits
 
--- a frame of a part of a type in one room is of one in each
+-- a frame that is at a part of a type in one room is at a part of it in each room
 pub within_in_room : (C : Table) (a b of : ℕ) (inside : Option Order) (i count : ℕ) →
     IsWithin inside i count (tree_at C a of) → IsWithin inside i count (tree_at C b of)
 within_in_room C a b of inside i count h = rooms.within_in_room C a b of inside i count h
 
--- ---- a whole
+-- ---- reading a whole
 
 pub reading_goes : (coding : Coding) (path : List PathSegment) (T : Ty) (at : ℕ) (s : List ℕ)
     (b : ℕ) → reading coding path T at (s ++ b ∷ [])

@@ -1,4 +1,4 @@
--- What holds of a type in one room holds in each.
+-- What holds of a type in one room holds of it in each room.
 use Rattle.std.proofs.Common.{◌≡◌, ℕ, suc, ◌-◌, ◌<◌, List, length, Option, Some, None, refl, subst, arith, ◌∙◌}
 use Rattle.giop_decode.specs.declared.frame.Frame.{Frame}
 use Rattle.giop_decode.specs.declared.frame.Stage.{Stage}
@@ -16,7 +16,7 @@ use Rattle.giop_decode.proofs.OctetKinds.{octets_has, octets_is}
 use Rattle.giop_sig.specs.declared.types.Shape.{Shape}
 use Rattle.giop_sig.specs.declared.types.Shape.TheVariants as shapes
 
--- a number of a type is one of the same type
+-- a number of a type is a number of each equal type
 abbrev pub number_moved : (S T : Ty) (number : Taken) → IsNumberOf S number → T ≡ S →
     IsNumberOf T number
 number_moved S T number is same = record {
@@ -35,30 +35,30 @@ held_has _ kind = absurd kind
 has_held : (T : Ty) → HasShape T shapes.Encapsulation → IsEncapsulation T
 has_held T has = rw has.1 tt
 
--- what holds wherever there is room holds in these frames
+-- what holds in each room above 0 holds inside these frames
 pub in_frames : (P : ℕ → Type 0) (frames : List Frame) → length frames < 24 →
     ((room : ℕ) → P (suc room)) → P (24 - length frames)
 in_frames P frames few all =
     let one : suc (23 - length frames) ≡ 24 - length frames = omega (arith, few) in
     subst P one (all (23 - length frames))
 
--- a place of a type in one room is one in each
+-- a place of a type in one room is a place of it in each room
 pub place_in_room : (C : Table) (a b of i : ℕ) → HasPlace (shape_in (tree_at C a of)) i →
     HasPlace (shape_in (tree_at C b of)) i
 place_in_room C a b of i has = subst (λ s. HasPlace s i) (shape_room C a b of) has
 
--- a union in one room is one in each
+-- a type that is a union in one room is a union in each room
 pub union_in_room : (C : Table) (a b of : ℕ) → IsUnion (shape_in (tree_at C a of)) →
     IsUnion (shape_in (tree_at C b of))
 union_in_room C a b of is = subst IsUnion (shape_room C a b of) is
 
--- so what is none in one room is none
+-- so a type that is no union in one room is none at all
 pub bare_in_room : (C : Table) (a of : ℕ) → (IsUnion (shape_in (tree_at C a of)) → ⊥) →
     IsUnion (shape_in (tree C of)) → ⊥
 bare_in_room C a of none is = none (union_in_room C 24 a of is)
 
--- such a type begins with its first part, has so many parts, is an encapsulation, or begins with a
--- part that tells what follows
+-- A type is no union if it begins with its first part, if it has a number of parts, if it is an
+-- encapsulation, or if it begins with a part that tells what comes after it.
 
 pub whole_bare : (T : Ty) (count : ℕ) (told : Option Stage) → IsWhole T count told →
     IsUnion (shape_in T) → ⊥
@@ -87,19 +87,19 @@ uncounted (shapes.Union count) is = tt
 uncounted shapes.Tagged is = tt
 uncounted s is = absurd is
 
--- or its parts are counted
+-- nor is it a union if its parts are counted
 pub counted_bare : (T : Ty) (i count : ℕ) → IsWithin None i count T → 0 < count →
     IsUnion (shape_in T) → ⊥
 counted_bare T i count within some union =
     let e = within.2 (uncounted (shape_in T) union) in absurd (omega (arith, some, e))
 
--- and an encapsulation is
+-- a type that is an encapsulation in one room is an encapsulation in each room
 pub held_in_room : (C : Table) (a b of : ℕ) → IsEncapsulation (tree_at C a of) →
     IsEncapsulation (tree_at C b of)
 held_in_room C a b of kind = has_held (tree_at C b of)
     (has_shape_room C a b of shapes.Encapsulation (held_has (tree_at C a of) kind))
 
--- and a number begins a type in each that begins with one in one room
+-- a type that begins with a number in one room begins with a number in each room
 
 abbrev IsHead : Shape → Type 0
 IsHead (shapes.Members count) = ⊥
@@ -135,7 +135,7 @@ pub head_in_room : (C : Table) (a b of : ℕ) → HasLeadingNumber (tree_at C a 
 head_in_room C a b of h =
     head_shape (tree_at C b of) (subst IsHead (shape_room C a b of) (shape_head (tree_at C a of) h))
 
--- so a frame is of a part of a type in each
+-- so a frame that is at a part of a type in one room is at a part of it in each room
 pub within_in_room : (C : Table) (a b of : ℕ) (inside : Option Order) (i count : ℕ) →
     IsWithin inside i count (tree_at C a of) → IsWithin inside i count (tree_at C b of)
 within_in_room C a b of None i count h = (
@@ -145,7 +145,7 @@ within_in_room C a b of None i count h = (
 )
 within_in_room C a b of (Some order) i count h = (held_in_room C a b of h.0, h.1, h.2)
 
--- or of one that begins with a part that tells what follows
+-- the same for a type that begins with a part that tells what comes after it
 
 led_has : (T : Ty) → IsLed T → HasShape T shapes.Led
 led_has (Led h F parts) kind = (h, F, parts, refl)

@@ -1,4 +1,4 @@
--- The laws of reading a whole, which ends where octets of no type follow.
+-- The laws of reading a whole. A whole ends at the offset from which octets of no type follow.
 use Rattle.std.proofs.Common.{◌≡◌, ℕ, ◌+◌, List, [], ◌∷◌, ◌++◌, length, refl, sym, ◌∙◌, ap, append_assoc, append-nil, arith}
 use Rattle.giop_decode.specs.declared.progress.Kind.TheVariants as kinds
 use Rattle.giop_decode.specs.ReadResult.{Coding, PathSegment, Line, OpenPart, Leaf, Read, Done, Short, Fault, lines_of}

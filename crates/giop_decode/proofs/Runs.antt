@@ -18,7 +18,7 @@ use Rattle.giop_print.specs.declared.path.Root.{Root}
 use Rattle.giop_sig.specs.Types.{Ty}
 use Rattle.giop_sig.specs.Table.{Table}
 
--- ---- their lines
+-- ---- the lines of a run
 
 lines_text_both : (message : ℕ) (root : Root) (xs ys : List Line) →
     lines_text message root (xs ++ ys) ≡ lines_text message root xs ++ lines_text message root ys
@@ -63,7 +63,7 @@ pub text_both : (message : ℕ) (root : Root) (coding : Coding) (T : Ty) (at : �
     (added_lines_of_run coding T at (s ++ xs) ys)
 text_both message root coding T at s xs ys = search (arith, dues_both, lines_text_both)
 
--- ---- the answers to them
+-- ---- the answers to a run
 
 pub answered_both : (coding : Coding) (T : Ty) (at : ℕ) (root : Root) (s xs ys : List ℕ)
     (p : Progress) → AreAnswered coding T at root s xs progress.More →
@@ -170,7 +170,8 @@ writes_near (Err v) T coding at message root s near octets a b e within h = sear
   broken_near,
 )
 
--- of any list that the decoder before reads
+-- what is taken of the first octets is taken of all octets, for each list that the decoder has read
+-- before
 pub takes_near : {E : Type 0} (r : Result (ℕ × Progress) E) (C : Table) (old new : Decoder)
     (near octets : List ℕ) → near ≡ take (length near) octets →
     IfOk r (λ taken. taken.0 ≤ length near) →

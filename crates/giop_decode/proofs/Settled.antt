@@ -1,4 +1,4 @@
--- A transition does in a room what it says, whether elements have room there or not.
+-- A transition does in each room what it says, whether elements have room there or not.
 use Rattle.std.proofs.Common.{◌≡◌, ℕ, Bool, true, false, List, refl}
 use Rattle.giop_decode.specs.DecoderSteps.{IsNotRefused, transition_result}
 use Rattle.giop_decode.specs.NotingSteps.{transition_in_string, transition_offset}

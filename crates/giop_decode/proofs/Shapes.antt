@@ -66,7 +66,7 @@ aligned prims.Float = inr (inr (inl refl))
 aligned prims.Double = inr (inr (inr refl))
 aligned p = inl refl
 
--- a type is the struct without members if its shape has none
+-- a type is the struct without members if its shape has no members
 pub empty_is : (T : Ty) (n : ℕ) → HasShape T (shapes.Members n) → n ≡ 0 → IsEmptyStruct T
 empty_is T n h e = rw (h.2, e) tt
 

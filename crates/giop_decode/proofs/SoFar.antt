@@ -1,4 +1,4 @@
--- Octets that are taken so far, and those that are taken after them.
+-- Octets that have been taken so far, and the octets that are taken after them.
 use Rattle.std.proofs.Common.{◌≡◌, Result, Ok, Err, IsErr, ℕ, ◌+◌, ◌<◌, ◌≤◌, List, ◌++◌, length, take, drop, get_or, ap, subst, append-nil, take-add, length-append, length-drop, arith}
 use Rattle.std.specs.Prelude.{IfOk}
 use Rattle.std.proofs.lemmas.Bool.{false≢true}
@@ -20,8 +20,8 @@ use Rattle.giop_print.specs.declared.path.Root.{Root}
 use Rattle.giop_sig.specs.Types.{Ty}
 use Rattle.giop_sig.specs.Table.{Table}
 
--- So many of these octets are taken, by a decoder that became this one, and the value goes on
--- after them.
+-- The decoder `old` has taken `n` of these octets and has become `new`, and the value goes on after
+-- them.
 pub record TakenSoFar (C : Table) (old new : Decoder) (octets : List ℕ) (n : ℕ)
     (before after : OutLog) : Type 0 where
   pub within : n ≤ length octets
@@ -37,14 +37,14 @@ pub record TakenSoFar (C : Table) (old new : Decoder) (octets : List ℕ) (n : �
       Wrote before after
       (lines_text message root (added_lines_of_run coding T at s (take n octets)))
 
--- the octet after so many is taken with this answer
+-- the octet after the first n octets is taken with this answer
 abbrev pub AllTake : Table → Decoder → Decoder → List ℕ → ℕ → Progress → Type 0
 AllTake C old new octets n p =
     (T : Ty) (coding : Coding) (at message : ℕ) (root : Root) (s : List ℕ) →
     Reads C T coding at message root old s →
     Takes C T coding at message root new (s ++ take n octets) (get_or octets n 0) p
 
--- and this holds of the text of its lines
+-- and this holds of the text of that octet's lines
 abbrev pub AllSay : Table → Decoder → List ℕ → ℕ → (List ℕ → Type 0) → Type 0
 AllSay C old octets n Says =
     (T : Ty) (coding : Coding) (at message : ℕ) (root : Root) (s : List ℕ) →
@@ -70,7 +70,7 @@ gathered_so_far C d new octets n a within f h =
           rw (said_none message root _ (h T coding at message root s r).quiet) (wrote-nil a);
     }
 
--- the lines of the octet after so many, by one step on the decoder's fields
+-- the lines of the octet after the first n octets are those of one step on the decoder's fields
 pub step_says : (C : Table) (old mid : Decoder) (octets : List ℕ) (n : ℕ) → Fits C mid →
     ((T : Ty) (coding : Coding) (at message : ℕ) (root : Root) (s : List ℕ) →
     Reads C T coding at message root old s →
@@ -108,7 +108,7 @@ near_within (Ok v) near octets e h =
     omega (arith, all, both, ap length e, h)
 near_within (Err v) near octets e h = tt
 
--- some of the first octets are some of all
+-- what is taken of the first octets is taken of all octets
 pub near_some : {E : Type 0} (r : Result (ℕ × Progress) E) (C : Table) (old new : Decoder)
     (near octets : List ℕ) (a b : OutLog) → near ≡ take (length near) octets →
     TakesSome C old new near a b r → TakesSome C old new octets a b r
@@ -139,7 +139,7 @@ module _ (C : Table) (old mid : Decoder) (octets : List ℕ) (n : ℕ) (a b : Ou
         done = λ is. cc;
       }
 
-  -- ---- and a run after them
+  -- ---- and then a run
 
   module _ (new : Decoder) (c : OutLog) where
     pub then_some : {E : Type 0} (m : ℕ) (p : Progress) →
@@ -184,7 +184,7 @@ module _ (C : Table) (old mid : Decoder) (octets : List ℕ) (n : ℕ) (a b : Ou
         TakesSome {E = E} C mid new (drop n octets) b c (Err e) → TakesSome C old new octets a c r
     then_broken r e is t = search (arith, then_fails, broken, drop)
 
-    -- ---- and one octet after them
+    -- ---- and then one octet
 
     pub then_one : {E : Type 0} (p : Progress) → n < length octets → AllTake C old new octets n p →
         AllSay C old octets n (Wrote b c) → (GoesOn p → Fits C new) →
@@ -214,7 +214,7 @@ module _ (C : Table) (old mid : Decoder) (octets : List ℕ) (n : ℕ) (a b : Ou
         (h.answers T coding at message root s k)
         (h.text T coding at message root s k) (says T coding at message root s k))
 
--- a run after which the value goes on
+-- a run after which the value goes on is what has been taken so far
 pub so_far : {E : Type 0} (C : Table) (old new : Decoder) (octets : List ℕ) (n : ℕ) (p : Progress)
     (a b : OutLog) → p ≡ progress.More → TakesSome {E = E} C old new octets a b (Ok (n, p)) →
     TakenSoFar C old new octets n a b

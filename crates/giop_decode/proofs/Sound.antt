@@ -50,7 +50,7 @@ sound_member T end i (Done lines at rest) kind h = h
 sound_member T end i (Short lines at outer leaf) kind h = search (arith)
 sound_member T end i (Fault lines at k S) kind h = tt
 
--- octets taken: the offset at the end, and how many
+-- a block of n octets: the offset at which its reading ends, and how many octets it has
 abbrev pub Takes : ℕ → ℕ → Block → Type 0
 Takes n end (Partial held at) = (at ≡ end) × (length held < n)
 Takes n end (Complete xs at rest) = (at + length rest ≡ end) × (length xs ≡ n)
@@ -140,7 +140,7 @@ selected_keeps : (coding : Coding) (path : List PathSegment) (T : Ty) (selected 
 selected_keeps coding path T (Case i) kind each at s = search (arith, sound_member)
 selected_keeps coding path T _ kind each at s = refl
 
--- what follows a number, where the parts' readings keep
+-- the elements of a sequence, after their count, if the reading of each element keeps what fits
 pub elements_keep : (coding : Coding) (path : List PathSegment) (bound : Option ℕ) (T : Ty)
     (n : ℕ) →
     ((i : ℕ) → Keeps T (read coding (path ++ Index i ∷ []) T)) →
@@ -152,7 +152,8 @@ elements_keep coding path bound T n each at s = search (
   parts_keep,
 )
 
--- if the elements have room, their readings do
+-- the same for elements that may have no room; if they have room, the reading of each keeps what
+-- fits
 pub recursion_keeps : (coding : Coding) (path : List PathSegment) (bound : Option ℕ) (fits : Bool)
     (T : Ty) (n : ℕ) →
     (fits ≡ true → (i : ℕ) → Keeps T (read coding (path ++ Index i ∷ []) T)) →
@@ -186,7 +187,7 @@ encapsulation_content : (T : Ty) → IsEncapsulation T → HasContent T
 encapsulation_content (Encapsulation T) h = tt
 encapsulation_content T h = absurd h
 
--- where octets of no type follow, these are left up to here
+-- if octets of no type come, the octets that are left end at `here`
 abbrev pub Leaves : ℕ → (ℕ → List ℕ) → Read → Type 0
 Leaves here left (Fault lines at kinds.Untyped S) = at + length (left at) ≡ here
 Leaves here left r = Unit {0}
@@ -205,8 +206,8 @@ now_leaves n (Fault lines at kind S) h = tt
 now_leaves n (Done lines at rest) h = tt
 now_leaves n (Short lines at outer leaf) h = tt
 
--- a value in an encapsulation, read up to here, and what follows it: no octets while the
--- encapsulation goes on
+-- A value in an encapsulation that was read up to `here`, and the octets after it. While the
+-- encapsulation goes on, there are no octets after it.
 pub sound_enclosed : (T : Ty) (path : List PathSegment) (inner : Coding) (end here : ℕ)
     (left : ℕ → List ℕ) →
     IsEncapsulation T → HasBegun inner here → (r : Read) (more : List ℕ) →
@@ -277,7 +278,7 @@ inside_sound T path value inner n at s kind began keeps ends = go (cases_lt (len
         (λ below. absurd (omega (arith, l, below)))
         (ends_leave at (take n s) (value inner at (take n s)) (ends (take n s))))
 
--- the same of what an encapsulation holds, in each order and from each origin
+-- the value in an encapsulation keeps what fits, in each byte order and from each origin
 abbrev pub HeldKeeps : Ty → List PathSegment → Type 0
 HeldKeeps T path = (inner : Coding) → Keeps (part_of T 0) (held path T inner)
 

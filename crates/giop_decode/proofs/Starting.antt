@@ -87,7 +87,7 @@ first_fits C of d first known_root fit goes_on empty none are stand ahead inside
       name = nothing_fits C d.head.root d.notes none_noted;
     }
 
--- what can stand at the root, and isn't the empty struct, fits
+-- a type that can be at the root fits, unless it is the empty struct
 pub fit_some : (T : Ty) → IsRoot T → (IsEmptyStruct T → ⊥) → IsFit 24 T
 fit_some T (inl fit) some = fit
 fit_some T (inr empty) some = absurd (some empty)

@@ -1,4 +1,5 @@
--- The steps that a number does: at a broken rule, and at what ends or begins with it.
+-- The steps of a number: if a rule is broken, if a value ends with the number, and if one begins
+-- with it.
 use Rattle.std.proofs.Common.{◌≡◌, ℕ, suc, ◌<◌, ◌≤◌, Bool, false, true, List, [], ◌∷◌, Option, Some, refl, arith, le-ltb}
 use Rattle.giop_cdr.specs.declared.order.Order.{Order}
 use Rattle.giop_cdr.specs.declared.prim.Primitive.{Primitive}

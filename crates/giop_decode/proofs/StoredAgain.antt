@@ -68,7 +68,7 @@ fixed_again : (d e : Decoder) (leaf : Innermost) → IsRestored d e →
 unfolding fixed_octets
 fixed_again d e leaf r = search (arith, kept_again)
 
--- both are stored in the same octets
+-- both decoders are stored in the same octets
 pub stored_same : (d e : Decoder) (fixed frames fixed_e frames_e : List ℕ) → IsRestored d e →
     Stored d fixed frames → Stored e fixed_e frames_e → (fixed_e ≡ fixed) × (frames_e ≡ frames)
 stored_same d e fixed frames fixed_e frames_e r h k = search (arith, fixed_again)

@@ -1,5 +1,5 @@
--- The test of a restored decoder is exact: it passes exactly if the decoder fits the table; how
--- many parts that are begun fit in a type.
+-- The test of a restored decoder is exact: it passes exactly if the decoder fits the table. At the
+-- end, how many parts that have begun fit into a type.
 use Rattle.std.proofs.Common.{◌≡◌, ◌∙◌, ap, drop, get_or, take, ℕ, zero, suc, true, pred, ◌+◌, ◌-◌, ◌<◌, ◌≤◌, List, [], ◌∷◌, length, Option, Some, None, refl, sym, subst, arith}
 use Rattle.std.specs.Prelude.{Bool, IfSome, IsTrue, ◌↔◌}
 use Rattle.std.proofs.Math.Seq.{take-length}
@@ -146,7 +146,7 @@ frame_is (Some stage) here inside T i count outer leaf within ahead fits =
 
 -- ---- a chain
 
--- parts in so much room, of which so much is left for the innermost part
+-- parts that begin in this room, of which `left` is left for the innermost part
 record ChainFits (C : Table) (room left here id : ℕ) (frames : List Frame) (leaf : Innermost)
     (carry piece : List ℕ) : Type 0 where
   fits : FitsIn (tree_at C room id) (parts_in_room C room here frames)
@@ -155,7 +155,7 @@ record ChainFits (C : Table) (room left here id : ℕ) (frames : List Frame) (le
   known_outer : AreKnown C frames
   link : LinkIn C room id frames (leaf_type leaf)
 
--- what can follow is a type of the table
+-- what can come after a part that tells it is a type of the table
 follow_part : (T : Ty) (i count : ℕ) → shape_in T ≡ shapes.Led → HasPart T i count →
     CanFollow (hearing_in T) i
 follow_part (Led h F parts) i count led has = has.0
@@ -174,7 +174,7 @@ follow_known C room id (suc k) led can =
     let below = follows_known C room k (led_follows C room id led can.0 k can.1) in
     omega (arith, below)
 
--- so is a case
+-- so is the case of such a type
 
 case_follow : (T : Ty) (i : ℕ) → shape_in T ≡ shapes.Led → HasCase T i → CanFollow (hearing_in T) i
 case_follow (Led h F parts) i led has = has
@@ -188,7 +188,7 @@ case_known C room id i has led =
     let here = shape_room C (suc room) 24 id ∙ led in
     follow_known C room id i here (case_follow (tree_at C (suc room) id) i here has)
 
--- and what the table says can follow does
+-- what the table lets come after such a part can come after it, and the other way round
 
 pub can_start : (h : Hearing) (i : ℕ) → CanFollow h i → 0 < i
 can_start h zero can = absurd can
@@ -216,7 +216,7 @@ pub led_part : (T : Ty) (i count : ℕ) → HasShape T shapes.Led → HasPart T 
     CanFollow (hearing_in T) i × (count ≡ 0)
 led_part T i count h has = rw h.3 (rw h.3 at has)
 
--- and elements are parts if they have room
+-- elements are parts if they have room
 
 pub part_recursive : (T : Ty) (bound : Option ℕ) (i count : ℕ) → HasShape T (shapes.Recursive bound)
     → i < count → elements_fit T ≡ true → HasPart T i count
@@ -226,7 +226,7 @@ pub recursive_part : (T : Ty) (bound : Option ℕ) (i count : ℕ) → HasShape 
     → HasPart T i count → (i < count) × (elements_fit T ≡ true)
 recursive_part T bound i count h has = let e = rw h.2 at has in (e.1, rw h.2 e.0)
 
--- so a frame is of a part that is
+-- the part that a frame is at is a type of the table, if another part told it
 pub frame_known : (C : Table) (room id : ℕ) (told : Option Stage) (inside : Option Order)
     (i count : ℕ) → HasFrameAs told inside (tree_at C (suc room) id) i count →
     shape_in (tree C id) ≡ shapes.Led → part_index told inside i ≤ length C.types
@@ -236,7 +236,7 @@ frame_known C room id None None i count has led =
 frame_known C room id None (Some order) i count has led = omega arith
 frame_known C room id (Some stage) inside i count has led = omega arith
 
--- and of one that is there
+-- and it is a place of the frame's type
 pub frame_there : (C : Table) (room id : ℕ) (told : Option Stage) (inside : Option Order)
     (i count : ℕ) → HasFrameAs told inside (tree_at C (suc room) id) i count →
     HasPlace (shape_in (tree C id)) (part_index told inside i)
@@ -244,7 +244,7 @@ frame_there C room id told inside i count has =
     place_in_room C (suc room) 24 id (part_index told inside i)
     (frame_place_as told inside (tree_at C (suc room) id) i count has)
 
--- frames of which there is a first one
+-- if there is a first frame, the frames are it and the rest
 pub first_rest : (frames : List Frame) (d : Frame) → 1 ≤ length frames →
     frames ≡ get_or frames 0 d ∷ take (length frames - 1) (drop 1 frames)
 first_rest [] d some = absurd (omega arith)
@@ -252,7 +252,7 @@ first_rest (f ∷ frames) d some =
     let e : length (f ∷ frames) - 1 ≡ length frames = omega arith in
     ap (λ fs. f ∷ fs) (sym (ap (λ n. take n frames) e ∙ take-length frames))
 
--- one frame of a chain, and those after it
+-- the first frame of a chain, and the frames after it
 pub chained_more : (C : Table) (room left id part : ℕ) (frames rest : List Frame) (f : Frame)
     (leaf : Innermost) (goes : Bool) → frames ≡ f ∷ rest → suc left ≡ room → f.of.0 ≡ id →
     HasFrameAs f.told f.inside (tree_at C (suc left) id) f.index f.count →
@@ -269,7 +269,7 @@ chained_more C room left id part frames rest f leaf goes is one same has number 
       λ chain. rests.1 (subst (λ p. Chained C left p rest leaf) (sym number) chain.2),
     ))
 
--- a part of a type that has room
+-- the part that a frame is at, of a type that has room
 module _ (C : Table) (room id : ℕ) (f : Frame) (laws : IsTable C) (known : id < length C.types)
     (some : 0 < room) (has : HasFrameAs f.told f.inside (tree_at C room id) f.index f.count) where
   abbrev i : ℕ
@@ -388,7 +388,7 @@ stand_above here (f ∷ frames) h =
       stand_above here frames (omega (arith, sum)),
     )
 
--- ---- how many
+-- ---- how many frames
 
 -- room is left for the innermost part's frame
 pub fits_few : (C : Table) (d : Decoder) → Fits C d → length d.outer.items < 24

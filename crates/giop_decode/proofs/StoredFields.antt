@@ -151,7 +151,7 @@ fields_stand d leaf fixed is range =
       narrow = (_, narrow);
     }
 
--- the fields, written one after the other
+-- the octets after all fields were written, one after the other
 pub fields_written : (d : Decoder) (leaf : Innermost) (carry piece o0 o1 o2 o3 o4 o5 o6 o7 o8
     o9 : List ℕ) → carry ≡ d.carry → piece ≡ d.piece.items → o0 ≡ [] →
     o1 ≡ o0 ++ order_octet d.order ∷ [] → o2 ≡ o1 ++ root_octet d.head.root ∷ [] →
@@ -162,7 +162,7 @@ unfolding fixed_octets
 fields_written d leaf carry piece o0 o1 o2 o3 o4 o5 o6 o7 o8 o9 a b e0 e1 e2 e3 e4 e5 e6 e7 e8 e9 =
     search (arith, append_assoc)
 
--- the fields of a frame, put one after the other
+-- the octets after all fields of a frame were put, one after the other
 pub put_together : (o a b c z : List ℕ) (i t : ℕ) →
     (((((o ++ a) ++ b) ++ c) ++ i ∷ []) ++ t ∷ []) ++ z ≡ o ++ (a ++ b ++ c ++ i ∷ t ∷ z)
 put_together o a b c z i t = simp append_assoc

@@ -15,7 +15,7 @@ use Rattle.giop_octets.specs.Fields.{four}
 use Rattle.giop_octets.proofs.FieldLaws.{four_long, behind}
 use Rattle.giop_sig.specs.Table.{interface_id, type_id}
 
--- n is the number of four octets at this offset
+-- n is the number of the four octets at this offset
 abbrev ReadsFour : ℕ → List ℕ → ℕ → Type 0
 ReadsFour at octets n = (m : ℕ) (rest : List ℕ) → m < 2 ^ 32 → drop at octets ≡ four m ++ rest →
     n ≡ m
@@ -25,7 +25,7 @@ four_fields a b c d e = simp append_assoc
 
 -- ---- the innermost part
 
--- the numbers after its tag
+-- the three numbers after the tag of an innermost part
 numbers_stand : (at tag a b c : ℕ) (octets rest : List ℕ) →
     drop at octets ≡ (tag ∷ four a ++ four b ++ four c) ++ rest →
     (drop (at + 1) octets ≡ four a ++ (four b ++ (four c ++ rest)))
@@ -71,7 +71,7 @@ module _ (at of tag : ℕ) (octets rest : List ℕ)
 
 -- ---- the number of an enum, or of an interface
 
--- the number after its tag
+-- the number after the tag
 number_stands : (at tag n : ℕ) (octets rest : List ℕ) → drop at octets ≡ (tag ∷ four n) ++ rest →
     drop (at + 1) octets ≡ four n ++ rest
 number_stands at tag n octets rest is = behind at 1 octets (tag ∷ []) _ is refl
@@ -127,7 +127,7 @@ frame_again f of index count inside told octets rest range is of_is index_is cou
     (behind 12 1 octets (inside_octet f.inside ∷ []) _ fourth refl) in
     rw (a, b, c, d, e) refl
 
--- frames that are left to read, in front of the last
+-- the frames that are still to be read, before the last one
 pub record Left (all items : List Frame) (own : Frame) (octets : List ℕ) : Type 0 where
   pub left : List Frame
   pub range : AllByRecursion FrameHasRange left
@@ -158,7 +158,8 @@ frame_more all items new own f octets after l long is pushed read =
           ∙ ap (λ (xs : List Frame). xs ++ gs) (sym pushed);
     }
 
--- none are left where there is less than two frames, or no room
+-- no frame is left if there are octets of less than two frames, or if there is no room for more
+-- frames
 pub frames_ended : (all items : List Frame) (own : Frame) (octets : List ℕ) →
     Left all items own octets → length all < 24 →
     (2 * frame_size ≤ length octets → length items ≡ 24) → items ≡ all

@@ -23,7 +23,7 @@ use Rattle.giop_sig.specs.Table.{Table}
 use Rattle.giop_sig.specs.Trees.{tree_at}
 use Rattle.giop_sig.specs.Types.{Led, Ty, Union}
 
--- ---- an octet more
+-- ---- one more octet
 
 place_ticked : (here : ℕ) (inside : Option Order) (T : Ty) (i count : ℕ) →
     IfSome inside (λ order. i < count) →
@@ -78,7 +78,7 @@ pub length_ticked : (frames : List Frame) → length (ticked frames) ≡ length 
 length_ticked [] = refl
 length_ticked (f ∷ frames) = ap suc (length_ticked frames)
 
--- counting takes no room
+-- counting an octet leaves as much room as before
 pub tree_ticked : (C : Table) (frames : List Frame) (of : ℕ) →
     tree_in C (ticked frames) of ≡ tree_in C frames of
 tree_ticked C frames of = ap (λ n. tree_at C (24 - n) of) (length_ticked frames)
@@ -89,7 +89,7 @@ leaf_ticked C old new leaf carry piece counts =
     ap (λ T. leaf_by T leaf carry piece) (sym (ap (λ fs. tree_in C fs (leaf_type leaf)) counts
     ∙ tree_ticked C old (leaf_type leaf)))
 
--- ---- where none has ended
+-- ---- if no encapsulation has ended
 
 neither : (a b : Bool) → a || b ≡ false → (a ≡ false) × (b ≡ false)
 neither true b h = let e = h in cc
@@ -144,7 +144,7 @@ surrounds C room here (f ∷ frames) k a s = (
   surrounds C (pred room) here frames k.1 a.1 s.1,
 )
 
--- ---- a part that goes on in these frames
+-- ---- a part that goes on inside these frames
 
 resumed_short : (coding : Coding) (path : List PathSegment) (T : Ty) (i count : ℕ)
     (lines : List Line)
@@ -196,7 +196,7 @@ shut_as coding path None inside T i count ended at outer leaf k =
 shut_as coding path (Some stage) inside T i count true at outer leaf k = rw k.1 refl
 shut_as coding path (Some stage) inside T i count false at outer leaf k = rw k.1 refl
 
--- without a line: that would be heard
+-- a reading without a line, since the frames would hear a line
 pub around_unless_ended : (C : Table) (room : ℕ) (coding : Coding) (path : List PathSegment)
     (at : ℕ) (frames : List Frame) (inner : List OpenPart) (leaf : Leaf) → AreKnown C frames →
     around coding path (parts_in_room C room at frames) (Short [] at inner leaf)
@@ -228,7 +228,7 @@ pub heard_in_open : (lines : List Line) (here : ℕ) (inside : Option Order) (T 
 heard_in_open lines here None T i count = heard_in_part lines T i count
 heard_in_open lines here (Some order) T i count = refl
 
--- one frame more
+-- one more frame
 pub or_false : (b : Bool) → b || false ≡ b
 or_false true = refl
 or_false false = refl
@@ -267,7 +267,7 @@ by_held true b = refl
 by_held false true = refl
 by_held false false = refl
 
--- one more that is no encapsulation, and one that is
+-- one more frame that is of no encapsulation, and one that is of an encapsulation
 pub push_more : (frames : List Frame) (f : Frame) → f.inside ≡ None →
     is_inside (frames ++ f ∷ []) ≡ within_more (is_some_stage f.told) (is_inside frames)
 push_more frames f none =
@@ -335,7 +335,8 @@ most_by false true true t withins.Nothing h = absurd h
 most_by false true false t most h = h
 most_by false false s t most h = tt
 
--- a frame in the place of another, that is no encapsulation either and tells nothing
+-- A frame is put in the place of another. Both are of no encapsulation, and the new one doesn't
+-- tell what comes after it.
 pub most_replaced : (frames : List Frame) (f g : Frame) (most : Within) → f.inside ≡ None →
     g.inside ≡ None → g.told ≡ None → IsAtMost (is_inside (frames ++ f ∷ [])) most →
     IsAtMost (is_inside (frames ++ g ∷ [])) most
@@ -346,7 +347,7 @@ most_replaced frames f g most none gone quiet h =
     most
     was))
 
--- where a part begins in them
+-- a part begins inside the frames
 pub most_begun : (t : Bool) (mid new was now : Within) → new ≡ within_more t mid →
     now ≡ within_more t was → IsAtMost mid was → IsAtMost new now
 most_begun t mid new was now is e h = rw (is, e) (more_most t mid was h)
@@ -372,7 +373,7 @@ part_coding c (Union n scalar select names cases) i count = refl
 part_coding c (Led h F parts) i count = refl
 part_coding c T i count = refl
 
--- a coding as a decoder has it, at an offset
+-- the order and the alignment of a coding at an offset, as a decoder has them
 pub record IsCoded (here : ℕ) (c : Coding) (by : Order × ℕ) : Type 0 where
   pub order : c.order ≡ by.0
   pub at : c.phase here % 8 ≡ by.1
@@ -400,7 +401,7 @@ coded_in C room here c order at (f ∷ frames) k s h =
     (coded_as C f.told here c (order, at) f.inside (tree_at C room f.of.0) f.index f.count
     (k.0.within room) s.0 h)
 
--- ---- where there is none
+-- ---- if there is no encapsulation
 
 either_none : (told : Option Stage) (inside : Option Order) (a b : Bool) →
     is_some_stage told || a ≡ false → is_some_order inside || b ≡ false →
@@ -453,7 +454,7 @@ quiet_first : (told : Option Stage) (rest : Bool) → is_some_stage told || rest
 quiet_first None rest h = (refl, h)
 quiet_first (Some stage) rest h = absurd cc
 
--- where no frame tells what follows, nothing is heard
+-- if no frame tells what comes after it, nothing is heard
 pub unheard : (C : Table) (room here : ℕ) (lines : List Line) (frames : List Frame) →
     tells_one frames ≡ false →
     heard_parts lines (parts_in_room C room here frames) ≡ parts_in_room C room here frames
@@ -462,7 +463,7 @@ unheard C room here lines (f ∷ frames) h =
     let n = quiet_first f.told (tells_one frames) h in
     search (arith, unheard_as, unheard C (pred room) here lines frames n.1)
 
--- counting an octet doesn't change what frames are
+-- counting an octet doesn't change what the frames ask of an octet
 tells_ticked : (frames : List Frame) → tells_one (ticked frames) ≡ tells_one frames
 tells_ticked [] = refl
 tells_ticked (f ∷ frames) = ap (λ b. is_some_stage f.told || b) (tells_ticked frames)
@@ -490,7 +491,7 @@ coding_push order at [] f = refl
 coding_push order at (g ∷ frames) f = let c = coding_of (order, at) g.inside g.index in
     coding_push c.0 c.1 frames f
 
--- the frames below an index are counted so, and the others aren't
+-- the frames before an index are counted by `tick`, and the others are as before
 pub record IsCounted (tick : Frame → Frame) (i : ℕ) (now old : List Frame) : Type 0 where
   pub front : take i now ≡ map tick (take i old)
   pub back : drop i now ≡ drop i old
@@ -537,7 +538,7 @@ counted_more tick i now old d y h below is =
       same = length-set now i y ∙ h.same;
     }
 
--- several octets counted together
+-- several octets are counted together
 ahead_ticked_get : (n : ℕ) (frames : List Frame) (i : ℕ) (d : Frame) →
     HaveOctetsLeft (ticked_by n frames) → i < length frames →
     HasOctetsLeft (tick_by_of n (get_or frames i d))
@@ -558,7 +559,7 @@ pub coding_next : (order : Order) (at : ℕ) (outer : List Frame) (i : ℕ) (d :
 coding_next order at outer i d below =
     rw (take_more outer i d below, coding_push order at (take i outer) (get_or outer i d)) refl
 
--- the reading after a part has ended, with some lines
+-- the reading after a part has ended, if it has these lines
 abbrev pub gone_behind : Table → List Line → ℕ → List Frame → Option Innermost → Read
 gone_behind C lines at frames None = Done lines at []
 gone_behind C lines at frames (Some leaf) = gone_to C lines at frames (leaf_of C frames leaf [] [])
@@ -587,7 +588,7 @@ pub gone_stopped : (C : Table) (frames : List Frame) (carry piece : List ℕ)
 gone_stopped C frames carry piece None at no_carry no_piece = refl
 gone_stopped C frames carry piece (Some leaf) at no_carry no_piece = rw (no_carry, no_piece) refl
 
--- with lines, where no frame hears them
+-- the same with lines, if no frame hears them
 pub around_free : (C : Table) (coding : Coding) (path : List PathSegment) (at : ℕ)
     (frames : List Frame) (lines : List Line) (leaf : Leaf) → is_inside frames ≡ withins.Nothing →
     AreKnown C frames → around coding path (open_parts C at frames) (Short lines at [] leaf)

@@ -1,4 +1,4 @@
--- What comes next after a part that tells what follows it.
+-- What comes after a part that tells it.
 use Rattle.std.proofs.Common.{◌≡◌, ℕ, zero, suc, ◌+◌, ◌-◌, ◌<◌, List, [], ◌∷◌, ◌++◌, length, Option, Some, None, refl, sym, ◌∙◌, ap, subst, arith, append_assoc, length-append}
 use Rattle.giop_cdr.specs.declared.order.Order.{Order}
 use Rattle.giop_decode.specs.declared.frame.Frame.{Frame}
@@ -27,13 +27,13 @@ use Rattle.giop_sig.specs.Table.{Table, part_number}
 use Rattle.giop_sig.specs.Trees.{tree_at}
 use Rattle.giop_sig.specs.Types.{Ends, Led, Sequel, Stops, Then, Told, Ty, Union, part_of, sequel}
 
--- an open part of no encapsulation
+-- an open part that is of no encapsulation
 abbrev pub IsOutside : OpenPart → Type 0
 IsOutside (Inside T inner end) = ⊥
 IsOutside place = Unit {0}
 
 module _ (coding : Coding) (path : List PathSegment) (ps : List OpenPart) where
-  -- the part that was told follows
+  -- the part that was told comes next
   goes_then : (d : ℕ) (T : Ty) (told : Told) (i at : ℕ) → sequel (hearing_in T) told ≡ Then i →
       IsFit d (part_of T (suc i)) →
       around coding path (ps ++ Telling T told ∷ []) (Done [] at [])
@@ -47,7 +47,7 @@ module _ (coding : Coding) (path : List PathSegment) (ps : List OpenPart) where
             (part_of T (suc i)) at fit,
       ) refl)
 
-  -- no part follows
+  -- no part comes next
   goes_ended : (T : Ty) (told : Told) (at : ℕ) → sequel (hearing_in T) told ≡ Ends →
       around coding path (ps ++ Telling T told ∷ []) (Done [] at [])
       ≡ around coding path ps (Done [] at [])
@@ -55,7 +55,7 @@ module _ (coding : Coding) (path : List PathSegment) (ps : List OpenPart) where
       around-append coding path ps (Telling T told) (Done [] at [])
       ∙ ap (around coding path ps) (rw e refl)
 
-  -- octets of no type follow
+  -- octets of no type come next
   goes_untyped : (T : Ty) (told : Told) (at : ℕ) → sequel (hearing_in T) told ≡ Stops →
       around coding path (ps ++ Telling T told ∷ []) (Done [] at [])
       ≡ around coding path ps (Fault [] at kinds.Untyped T)
@@ -63,7 +63,7 @@ module _ (coding : Coding) (path : List PathSegment) (ps : List OpenPart) where
       around-append coding path ps (Telling T told) (Done [] at [])
       ∙ ap (around coding path ps) (rw e refl)
 
-  -- these end each part around,
+  -- they end each part around them,
   untyped_out : (place : OpenPart) (at : ℕ) (S : Ty) → IsOutside place →
       around coding path (ps ++ place ∷ []) (Fault [] at kinds.Untyped S)
       ≡ around coding path ps (Fault [] at kinds.Untyped S)
@@ -75,7 +75,7 @@ module _ (coding : Coding) (path : List PathSegment) (ps : List OpenPart) where
   untyped_out (Telling T told) at S outside =
       around-append coding path ps (Telling T told) (Fault [] at kinds.Untyped S)
 
-  -- up to an encapsulation, whose value has ended
+  -- up to an encapsulation, in which they end the value
   untyped_held : (T : Ty) (inner : Coding) (end at : ℕ) (S : Ty) →
       around coding path (ps ++ Inside T inner end ∷ []) (Fault [] at kinds.Untyped S)
       ≡ around coding path (ps ++ Inside T inner end ∷ []) (Done [] at [])
@@ -92,7 +92,7 @@ outside_as None here T i count = tt
 
 -- ---- a part that comes next
 
--- in a frame that is no encapsulation's
+-- the part begins in a frame that is of no encapsulation
 pub begun_at : (C : Table) (coding : Coding) (path : List PathSegment) (at : ℕ)
     (rest new : List Frame) (g : Frame) (p : OpenPart) (P : Ty) → AreKnown C rest →
     new ≡ rest ++ g ∷ [] → g.inside ≡ None → open_part C (24 - length rest) at g ≡ p →
@@ -105,14 +105,14 @@ begun_at C coding path at rest new g p P known is none place =
     ∙ (rooted_to (has_ended rest) [] at (open_parts C at rest ++ p ∷ start_outer P) (start_leaf P)
     ∙ rw (ended, is, places_push C 24 at rest g, place, append_assoc) refl)
 
--- which begins with its first number
+-- the part begins with its first number
 pub begun_gone : (C : Table) (at : ℕ) (mid new : List Frame) (T : Ty) (first : TypeId) →
     has_ended new ≡ has_ended mid → open_parts C at new ≡ open_parts C at mid ++ start_outer T →
     start_leaf T ≡ LeadingNumber (tree_in C new first.0) [] →
     begun_in C at mid T ≡ gone_on C at new (Some (innermost.Number first))
 begun_gone C at mid new T first ended begun leaf = rw (ended, begun, leaf) refl
 
--- ---- after a part that has told what follows
+-- ---- after a part has told what comes after it
 
 can_follow : (T : Ty) (told : Told) (i : ℕ) → IsLed T → sequel (hearing_in T) told ≡ Then i →
     HasCase T (suc i)
@@ -127,7 +127,8 @@ follows_part : (T : Ty) (i : ℕ) → IsLed T → part_in T i 0 ≡ Member T i
 follows_part (Led h F parts) i led = refl
 follows_part T i led = absurd led
 
--- a frame whose first part has told what follows, in the room of the frames around it
+-- a frame whose first part has told what comes after it, in the room that the frames around it
+-- leave
 module _ (C : Table) (old rest : List Frame) (f : Frame) (stage : Stage) (start : ℕ)
     (is : old ≡ rest ++ f ∷ []) (tells : f.told ≡ Some stage)
     (P : TellPopped C start rest f stage) where
@@ -140,7 +141,7 @@ module _ (C : Table) (old rest : List Frame) (f : Frame) (stage : Stage) (start 
   room_is : (n : ℕ) → n ≡ length old → suc (24 - n) ≡ 24 - length rest
   room_is n e = omega (arith, e, P.few, ap length is, length-append rest (f ∷ []))
 
-  -- what follows, in the room that is left behind the frame
+  -- what comes next, if the frame's room is counted from all frames
   pub told_here : (n : ℕ) (what : Sequel) → n ≡ length old →
       sequel (hearing_in (tree_at C (suc (24 - n)) f.of.0)) told ≡ what →
       sequel (hearing_in T) told ≡ what
@@ -231,7 +232,7 @@ module _ (C : Table) (old rest : List Frame) (f : Frame) (stage : Stage) (start 
 
 -- ---- octets of no type
 
--- a frame that is no encapsulation's is left
+-- the octets end a frame that is of no encapsulation
 pub untyped_past : (C : Table) (rest : List Frame) (f : Frame) (coding : Coding)
     (path : List PathSegment) (at : ℕ) (S : Ty) → f.inside ≡ None →
     around coding path (open_parts C at (rest ++ f ∷ [])) (Fault [] at kinds.Untyped S)
@@ -245,7 +246,7 @@ untyped_past C rest f coding path at S e =
     ∙ untyped_out coding path (open_parts C at rest) p at S
     (outside_as f.told at T f.index f.count)
 
--- in that of an encapsulation the rest follows
+-- in the frame of an encapsulation, the rest of the encapsulation comes next
 pub untyped_rest : (C : Table) (rest : List Frame) (f : Frame) (order : Order) (coding : Coding)
     (path : List PathSegment) (at : ℕ) (S : Ty) → IsKnown C f → f.inside ≡ Some order →
     around coding path (open_parts C at (rest ++ f ∷ [])) (Fault [] at kinds.Untyped S)

@@ -30,7 +30,7 @@ use Rattle.giop_sig.specs.Types.{Cases, Scalar, Plain, Enum, Marked, Led, Ty, Si
 use Rattle.giop_sig.specs.declared.types.Selected.TheVariants.{Case, Nothing, Refused}
 use Rattle.giop_sig.specs.Fits.{IsFit}
 
--- a content of which something is to come, before its first octet
+-- a content with something still to come, before its first octet
 pub content_none : (path : List PathSegment) (U : Ty) (total full offset at : ℕ) →
     0 < total - offset + tail U → content U path total full offset at []
     ≡ Short [] at [] (Content U total offset [])
@@ -291,7 +291,7 @@ module _ (coding : Coding) (path : List PathSegment) (T : Ty) (count here b : �
       ≡ Fault [] (here + 1) kinds.EncapOrder T
   order_bad e = search (arith, block_step_got)
 
-  -- what follows the octet that gives a byte order
+  -- what comes after the octet that gives a byte order
   pub order_transition : (d : ℕ) (order : Order) → IsFit d T → IsEncapsulation T →
       order_of b ≡ Some order →
       TransitionGives T (transitions.Entered order count) (outputs.Ordered order) [] [] path

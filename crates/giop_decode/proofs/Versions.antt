@@ -1,4 +1,4 @@
--- What holds by the table that a decoder's version sees, and by the table itself.
+-- What holds by the table as a decoder's version sees it holds by the table itself.
 use Rattle.std.proofs.Common.{ℕ, Bool, List, Result, Ok, Err, IfOk, sym, subst, take}
 use Rattle.giop_decode.specs.ReadResult.{Coding}
 use Rattle.giop_decode.specs.declared.decoder.Decoder.{Decoder}
@@ -49,7 +49,7 @@ module _ (narrow : Bool) (C : Table) where
     keeps_noted = h.keeps_noted;
   }
 
--- the answer to a run, by the table that the version sees, is that by the table
+-- the answer to a run by the table that the version sees is the answer by the table itself
 module _ {E : Type 0} (C : Table) (old new : Decoder) (octets : List ℕ) where
   pub run_own : (result : Result (ℕ × Progress) E) →
       IfOk result (λ taken. (T : Ty) (coding : Coding) (at message : ℕ) (root : Root) (s : List ℕ) →

@@ -1,4 +1,4 @@
--- Octets that are taken together do what they do one after another: those of a number, or the rest
+-- Octets that are taken together do what they do one after another: octets of a number, or the rest
 -- of a piece.
 use Rattle.std.proofs.Common.{◌≡◌, ◌≢◌, ℕ, suc, ◌+◌, ◌-◌, ◌%◌, ◌^◌, Bool, true, false, ◌<◌, ◌≤◌, inl, inr, take_all, List, [], ◌∷◌, ◌++◌, length, take, get_or, Option, Some, None, refl, ne_eqb, sym, ◌∙◌, ap, subst, arith, length-append, append_assoc, IfSome}
 use Rattle.std.proofs.lemmas.Bool.{cases_lt}
@@ -98,7 +98,7 @@ module _ (C : Table) (d : Decoder) (of : TypeId) (octets : List ℕ) (count : �
   pub no_piece : d.piece.items ≡ []
   no_piece = search (arith, same_some)
 
-  -- its octets, with which it is whole or isn't, and what is kept of them
+  -- octets of a number, which may be whole with them, and the octets that are kept
   of_number : (order : Order) (at : ℕ) → coding_by d.order d.at d.outer.items ≡ (order, at) →
       (whole : Bool) (kept all : List ℕ) (s : Step) →
       NumberStands (leading_width (tree_in C d.outer.items of.0)) at d.carry octets count whole all
@@ -151,7 +151,7 @@ module _ (C : Table) (d : Decoder) (of : TypeId) (octets : List ℕ) (count : �
         says = λ coding path here. rw no_piece (gives coding path (here + 1)).says;
       }
 
-  -- its last octet has come, and nothing is kept of it
+  -- the last octet of the number has come, and no octets are kept
   comes_here : (order : Order) (at : ℕ) → coding_by d.order d.at d.outer.items ≡ (order, at) →
       (kept all : List ℕ) (s : Step) → kept ≡ [] →
       NumberStands (leading_width (tree_in C d.outer.items of.0)) at d.carry octets count true all →
@@ -179,7 +179,7 @@ module _ (C : Table) (d : Decoder) (of : TypeId) (octets : List ℕ) (count : �
       TransitionGives (tree_at C n of.0) s.transition s.output [] [] path here
       (after coding path (tree_at C n of.0) (num order all) here [])) d.outer.items few gives)
 
-  -- a number of which nothing was held
+  -- a whole number, of which nothing was held
   pub comes_number : (order : Order) (at : ℕ) → coding_by d.order d.at d.outer.items ≡ (order, at) →
       (number : Taken) → d.carry ≡ [] → IsWholeNumber (tree_in C d.outer.items of.0) order at
       octets count number →
@@ -206,7 +206,7 @@ module _ (C : Table) (d : Decoder) (of : TypeId) (octets : List ℕ) (count : �
       []))
       h.spelled (turns_number coding path (tree_in C d.outer.items of.0) at number h.is))
 
-  -- four octets of which none was held
+  -- a whole number of four octets, of which none was held
   pub comes_long : (order : Order) (at : ℕ) → coding_by d.order d.at d.outer.items ≡ (order, at) →
       (n : ℕ) (s : Step) → leading_width (tree_in C d.outer.items of.0) ≡ 4 → d.carry ≡ [] →
       IsWholeLong order at octets count n →
@@ -216,7 +216,7 @@ module _ (C : Table) (d : Decoder) (of : TypeId) (octets : List ℕ) (count : �
       comes_head order at coded d.carry h.all s empty (rw (empty, four) h.stands) ahead fits
       (subst (λ k. IsStepOf C of.0 k s) h.spelled gives)
 
-  -- its last octet is still to come
+  -- the last octet of the number is still to come
   pub number_waits : (order : Order) (at : ℕ) → coding_by d.order d.at d.outer.items ≡ (order, at) →
       (all : List ℕ) →
       NumberStands (leading_width (tree_in C d.outer.items of.0)) at d.carry octets count false all
@@ -313,7 +313,7 @@ module _ (C : Table) (d : Decoder) (of : TypeId) (total offset : ℕ) (octets : 
   pub no_carry : d.carry ≡ []
   no_carry = search (arith, same_some)
 
-  -- what is held before the last of the octets, and that one
+  -- what is held before the last of the octets, and that last octet
   abbrev held_before : List ℕ
   held_before = d.piece.items ++ take (count - 1) octets
 
@@ -331,7 +331,7 @@ module _ (C : Table) (d : Decoder) (of : TypeId) (total offset : ℕ) (octets : 
   before_size : count ≤ length octets → length held_before ≡ length d.piece.items + (count - 1)
   before_size within = held_size (count - 1) (omega (arith, within))
 
-  -- octets of which all but the last leave the piece incomplete, and the last does this
+  -- all octets but the last leave the piece incomplete, and the last one does this step
   of_content : (s : Step) (rest kept : List ℕ) → 0 < count → count ≤ length octets →
       IsParted C d.outer.items content_leaf d.piece.items (count - 1) → length kept + length rest ≤
       32 →
@@ -400,12 +400,12 @@ module _ (C : Table) (d : Decoder) (of : TypeId) (total offset : ℕ) (octets : 
       (omega (arith, size, counted, room))))
       (λ path here. refl)
 
-  -- what the last piece does, by why its content ends wrongly
+  -- the step of the last piece, by the rule that the end of its content breaks, if it breaks one
   abbrev step_of : Option Kind → Step
   step_of None = record { transition = transitions.Ended; output = outputs.Piece offset false }
   step_of (Some kind) = record { transition = transitions.Refused kind; output = outputs.Nothing }
 
-  -- the last piece, with what ends it
+  -- the last piece, with what ends its content
   comes_end : (size : ℕ) (why : Option Kind) → IfSome why IsRule → total - offset ≤ 32 →
       size ≡ total - offset - length d.piece.items → count ≡ size + tail T →
       count ≤ length octets →
@@ -484,7 +484,7 @@ module _ (C : Table) (d : Decoder) (of : TypeId) (total offset : ℕ) (octets : 
       last_is size small sized (omega (arith, counted, is, some))
       ∙ zero_end (omega (arith, is, some))))
 
-  -- a string's last octet isn't zero
+  -- the last octet of a string isn't zero
   pub comes_unended : (size behind : ℕ) (s : Step) →
       s.transition ≡ transitions.Refused kinds.StringEnd → s.output ≡ outputs.Nothing →
       behind ≡ tail T → total - offset ≤ 32 →
@@ -528,7 +528,7 @@ module _ (C : Table) (d : Decoder) (of : TypeId) (total offset : ℕ) (octets : 
       (λ small. omega (arith, size, parted.1 small, counted, some))))
       (λ path here. refl)
 
--- octets that leave a piece incomplete, of an innermost part of this type
+-- the same for an innermost part of this type
 pub part_waits : (C : Table) (d : Decoder) (octets : List ℕ) (leaf : Innermost) (of : TypeId) →
     of.0 ≡ leaf_type leaf → Fits C d → d.leaf ≡ Some leaf → 0 < length octets →
     HaveOctetsLeft (ticked_by (length octets - 1) d.outer.items) →
@@ -545,7 +545,7 @@ part_waits C d octets (innermost.Content kind total offset) of same f e some ahe
     (piece_waits C d kind total offset octets (length octets) f e ahead parted refl some)
 part_waits C d octets leaf of same f e some ahead parted = absurd parted
 
--- ---- what they do to a decoder
+-- ---- what octets taken together do to a decoder
 
 -- octets that only add to what is held
 adds_gathered : (C : Table) (d new : Decoder) (leaf : Innermost) (octets : List ℕ) →
@@ -562,7 +562,8 @@ adds_gathered C d new (innermost.Content of total offset) octets on f e h =
     new octets refl on h.0 h.1 f e
     (omega (arith, ap length h.1, length-append d.piece.items octets))
 
--- a decoder that has counted octets which it has not taken: those before the last of so many
+-- The decoder `m` is `d` at the last of `count` octets. It has counted the octets before the last
+-- one, and has not taken them.
 pub record IsAtLast (d m : Decoder) (count : ℕ) : Type 0 where
   pub further : IsFurther d m (count - 1) (ticked_by (count - 1) d.outer.items)
 
@@ -580,7 +581,7 @@ at_last d at outer = record {
   notes = d.notes;
 }
 
--- the decoder that keeps something else than it held before them
+-- the same for a decoder that may hold other octets than `d`
 pub held_at_last : (C : Table) (d now : Decoder) (octets : List ℕ) (of : TypeId) (count at : ℕ)
     (s : Step) (rest : List ℕ) (outer : ArrayVec Frame) → IsHeldOf C d now octets of count s rest →
     at ≡ (now.at + (count - 1)) % 8 → outer.items ≡ ticked_by (count - 1) now.outer.items →
@@ -620,16 +621,16 @@ pub is_at_last : (d : Decoder) (count at : ℕ) (outer : ArrayVec Frame) →
     outer.items ≡ ticked_by (count - 1) d.outer.items → IsAtLast d (at_last d at outer) count
 is_at_last d count at outer there counted = search (arith)
 
--- a decoder before octets that it takes together, and at the last of them
+-- the decoder `d` before octets that it takes together, and the decoder `m` at the last of them
 module _ (C : Table) (d : Decoder) (octets : List ℕ) (of : TypeId) (count : ℕ) (s : Step)
     (rest : List ℕ) (f : Fits C d) (m : Decoder)
     (h : TakenTogether C d octets of count s rest m.carry m.piece.items)
     (on : IsAtLast d m count) where
-  -- the decoder after all but the last of them
+  -- the decoder after all but the last of the octets
   abbrev pub before_last : Decoder
   before_last = held_in m h.carry (record { items = h.piece })
 
-  -- it stands as the one at the last of them does
+  -- where this decoder can be, `m` can be too
   pub stands_then : (coding : Coding) (here : ℕ) → CanStandAt coding before_last here →
       CanStandAt coding m here
   stands_then coding here h = record {
@@ -680,7 +681,7 @@ module _ (C : Table) (d : Decoder) (octets : List ℕ) (of : TypeId) (count : �
         at = fits_then.at;
       }
 
-  -- and once the last is counted
+  -- the decoder once the last octet is counted
   pub behind_last : (now : Decoder) → now.order ≡ m.order → now.head ≡ m.head →
       now.narrow ≡ m.narrow →
       now.at ≡ (m.at + 1) % 8 → AreHeard C (ticked m.outer.items) now.outer.items of.0 s.output
@@ -699,13 +700,13 @@ module _ (C : Table) (d : Decoder) (octets : List ℕ) (of : TypeId) (count : �
     notes = notes;
   }
 
-  -- the lines that the last gives
+  -- the lines that the last octet gives
   abbrev pub lines_at : Coding → ℕ → List Line
   lines_at coding here =
       let ps = open_parts C here m.outer.items in
       h.lines (coding_in coding ps) (path_in [] ps) here
 
-  -- as much room is left as before them
+  -- as much room is left as before the octets
   same_room : 24 - length d.outer.items ≡ 24 - length m.outer.items
   same_room = ap (λ n. 24 - n) (sym (ap length on.further.outer
       ∙ length_ticked_by (count - 1) d.outer.items))
@@ -719,7 +720,7 @@ module _ (C : Table) (d : Decoder) (octets : List ℕ) (of : TypeId) (count : �
       (m.piece.items ++ rest) (lines_at coding here)) same_room
       (h.says (coding_in coding ps) (path_in [] ps) here)
 
-  -- what the last does, in that room
+  -- what the last octet does, in that room
   comes_at : (coding : Coding) (path : List PathSegment) (here : ℕ) →
       coding.order ≡ (coding_by d.order d.at d.outer.items).0 →
       coding.phase here % 8 ≡ ((coding_by d.order d.at d.outer.items).1 + (count - 1)) % 8 →
@@ -740,7 +741,7 @@ module _ (C : Table) (d : Decoder) (octets : List ℕ) (of : TypeId) (count : �
       (leaf_in_string (tree_at C n of.0) h.leaf) s.transition s.output) same_room
       h.output_fits_string
 
-  -- how the last is taken
+  -- the byte order and the alignment by which the last octet is taken
   coded : coding_by m.order m.at m.outer.items
       ≡ (
         (coding_by d.order d.at d.outer.items).0,
@@ -811,7 +812,7 @@ module _ (C : Table) (d : Decoder) (octets : List ℕ) (of : TypeId) (count : �
       (subst (λ l. FitsName m.head.root (string_offset (tree_in C m.outer.items (leaf_type l)) l)
       m.notes.buffer m.notes.name.items) same fits_then.name)) notes
 
--- ---- the last of them, where all are counted
+-- ---- the last octet, if all octets are counted
 
 abbrev pub at_its_last : Decoder → ℕ → Decoder
 at_its_last now count =
@@ -840,7 +841,7 @@ module _ (C : Table) (d now : Decoder) (octets : List ℕ) (of : TypeId) (count 
   held_around = around_whole C d octets of count s rest h.fits (at_its_last now count) h.together
       (held_at_last C d now octets of count _ s rest _ h refl refl)
 
-  -- the frames once they are counted
+  -- the frames once the octets are counted
   pub held_known : AreKnown C (ticked_by count now.outer.items)
   held_known =
       let some = h.together.some in

@@ -1,5 +1,5 @@
 -- The lines of a reading that are pieces of strings: those of whole contents, one after the other,
--- and those of one that has begun.
+-- and those of a content that has begun.
 use Rattle.std.proofs.Common.{◌≡◌, ℕ, zero, suc, ◌+◌, ◌-◌, ◌*◌, ◌<◌, ◌≤◌, Bool, true, List, [], ◌∷◌, ◌++◌, length, take, drop, get_or, Option, Some, None, refl, sym, ◌∙◌, ap, append_assoc, append-nil, length-append, true≢false, arith, ◌⊎◌, inl, inr, cond, false}
 use Rattle.std.specs.Prelude.{flat_map, eqb, IfSome}
 use Rattle.std.specs.List.{AllByRecursion as Each}
@@ -28,7 +28,7 @@ use Rattle.giop_decode.proofs.Resuming.{lines_front}
 texts_append : (xs ys : List Line) → text_pieces (xs ++ ys) ≡ text_pieces xs ++ text_pieces ys
 texts_append xs ys = search (arith, filter_map-append)
 
--- readings with no string among their lines
+-- a reading without pieces of strings
 no_strings : (r : Read) → text_pieces (lines_of r) ≡ [] → Strings r
 no_strings r e = search (arith)
 
@@ -49,7 +49,7 @@ whole_then front contents r e h = record {
   none = λ k. h.none (sym (front_inside front r) ∙ k);
 }
 
--- lines in front, of which none is a string's
+-- lines before a reading, none of which is a piece of a string
 then_strings : (front : List Line) (r : Read) → text_pieces front ≡ [] → Strings r →
     Strings (with_front front r)
 then_strings front r e h = whole_then front [] r e h
@@ -84,14 +84,14 @@ parts_strings part h (suc more) i at s =
 
 -- ---- one string
 
--- A content from an offset on: whole, or begun and not ended.
+-- A content that is read from an offset on: it is whole, or it has begun and not ended.
 abbrev Comes : ℕ → ℕ → ℕ → Read → Type 0
 Comes total full offset r =
     ((octets : List ℕ) × (offset + length octets ≡ total)
     × (text_pieces (lines_of r) ≡ cut_from full offset octets))
     ⊎ ((ends_in_string r ≡ true) × Each (λ p. p.more ≡ true) (text_pieces (lines_of r)))
 
--- a string's end breaks a rule or none
+-- the end of a string breaks a rule, or it breaks none
 ends_rule : (bound : Option ℕ) (n : ℕ) (octets : List ℕ) →
     IfSome (ends (Text bound) n octets) IsRule
 ends_rule bound n octets = go (eqb (get_or octets n 0) 0)
@@ -185,7 +185,7 @@ text_strings bound path (suc n) at s =
 
 -- ---- octets are no string
 
--- pieces of a type that is no string, and that no octet after it ends
+-- pieces of a type that is no string, and whose end breaks no rule
 module _ (T : Ty) (none : (offset : ℕ) (octets : List ℕ) (more : Bool) →
     text_of (Piece T offset octets more) ≡ None)
     (endless : (n : ℕ) (xs : List ℕ) → ends T n xs ≡ None) where
@@ -303,7 +303,7 @@ elements_strings T true n parts h at s = h at s
 elements_strings T false zero parts h at s = no_strings (Done [] at s) refl
 elements_strings T false (suc n) parts h at s = no_strings (Fault [] at kinds.Untyped T) refl
 
--- The strings of any reading.
+-- The pieces of strings in any reading.
 pub read_strings : (coding : Coding) (path : List PathSegment) (T : Ty) (at : ℕ) (s : List ℕ) →
     Strings (read coding path T at s)
 read_strings coding path (Single scalar) at s =

@@ -3,7 +3,7 @@ use Rattle.giop_decode.proofs.Surrounding.{coding_next, free_coding_by}
 use Rattle.giop_decode.specs.declared.frame.Frame.{Frame}
 use Rattle.giop_decode.proofs.frame.coding.Goals as goal
 
--- what a place beyond the frames has
+-- the frame that stands for an index beyond the frames
 abbrev nowhere : Frame
 nowhere = record { of = record { 0 = 0 }; index = 0; count = 0; inside = None; told = None }
 

@@ -20,7 +20,7 @@ use Rattle.giop_decode.proofs.Linking.{link_next, link_pop}
 use Rattle.giop_decode.proofs.Telling.{begun_at, begun_gone}
 use Rattle.giop_decode.proofs.frame.go_on.Goals as goal
 
--- a type with another part is no union
+-- a type with one more part is no union
 next_bare : (C : Table) (rest : List Frame) (f : Frame) {at : ℕ} → PartPopped C at rest f →
     suc f.index < f.count → IsUnion (shape_in (tree C f.of.0)) → ⊥
 next_bare C rest f p below =

@@ -18,7 +18,7 @@ or_true : (b : Bool) → b || true ≡ true
 or_true true = refl
 or_true false = refl
 
--- frames of which the last tells what follows ask for the most that there is
+-- if the last frame tells what comes after it, the frames ask the most that can be asked
 
 told_last : (rest : List Frame) (f : Frame) (stage : Stage) → f.told ≡ Some stage →
     tells_one (rest ++ f ∷ []) ≡ true

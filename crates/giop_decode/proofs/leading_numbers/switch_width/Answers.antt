@@ -21,7 +21,7 @@ union_width (Single (Marked mark)) scalar is e = absurd is
 union_width (Octets kind) scalar is e = absurd (octets_no_union kind is)
 union_width _ scalar is e = absurd is
 
--- which takes four octets where it is no primitive's
+-- the discriminator takes four octets if it is no primitive
 other_width : (T S : Ty) → IsUnion (shape_in T) → S ≡ switch_of T →
     ((p : Primitive) → shape_in S ≡ shapes.Prim p → ⊥) → 4 ≡ leading_width T
 other_width (Union choice (Plain p) select names cases) S is e other =

@@ -22,7 +22,7 @@ use Rattle.giop_sig.specs.Fits.{IsFit}
 use Rattle.giop_sig.specs.Table.{Table}
 use Rattle.giop_sig.specs.Trees.{tree, tree_at}
 
--- a part of a type that fits, in one frame more
+-- the part of a type that fits, inside one more frame
 parted : (C : Table) (old new : List Frame) (of part i : ℕ) →
     IsFit (24 - length old) (tree_in C old of) → length new ≡ suc (length old) →
     ((room : ℕ) → tree_at C room part ≡ part_of (tree_at C (suc room) of) i) →
@@ -31,7 +31,7 @@ parted C old new of part i fit more parts =
     part_in_frames C old new of part i more
     (omega (arith, fit_room (24 - length old) (tree_in C old of) fit)) parts
 
--- that of a case, in the room that is left for it
+-- the part of a case, in the room that is left for it
 case_parted : (C : Table) (old new : List Frame) (of part i n : ℕ) →
     IsFit (24 - length old) (tree_in C old of) → length new ≡ suc (length old) → n ≡ length new →
     tree_at C (24 - n) part ≡ part_of (tree_at C (suc (24 - n)) of) i →
@@ -43,7 +43,7 @@ case_parted C old new of part i n fit more is parts =
     subst (λ m. tree_at C m part ≡ part_of (tree_in C old of) i) left
     (subst (λ m. tree_at C (24 - n) part ≡ part_of (tree_at C m of) i) one parts)
 
--- no union has so many parts, nor is it an encapsulation
+-- a type with parts is no union, and neither is an encapsulation
 
 opened_bare : (C : Table) (old : List Frame) (of count : ℕ) → HasParts (tree_in C old of) count →
     IsUnion (shape_in (tree C of)) → ⊥

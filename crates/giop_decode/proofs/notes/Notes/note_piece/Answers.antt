@@ -10,7 +10,7 @@ use Rattle.giop_decode.proofs.Noting.{piece_both, piece_last, piece_more}
 use Rattle.giop_decode.proofs.notes.Notes.note_piece.Goals.{then-not-is_empty, else-not-is_empty}
 use Rattle.giop_decode.proofs.notes.Notes.note_piece.Goals as goal
 
--- where nothing is held, the rest is all
+-- if nothing is held, the rest is all
 all_rest : (h : Noted) (held rest : List ℕ) → true ≡ (length held == 0) →
     with_piece (without_name_if true h) rest ≡ with_piece h (held ++ rest)
 all_rest h [] rest none = refl
