@@ -7,13 +7,13 @@ use Rattle.giop_stream.specs.Lines.{in_order, up_to_last_line, lines_of_messages
 use Rattle.giop_stream.specs.Text as stream
 use Rattle.giop_stream.specs.Stream.{text, closing, is_truncated, is_inside, first_messages, unfinished, start_count, fault_count, tally, final}
 
--- no text is written of it
+-- the empty stream has no text
 pub no_text : (R : Rules) → text R [] ≡ []
 unfolding text stream.lines_text lines lines_of_messages in_order up_to_last_line stop_line cut
     limited limit cut_from first_wrong_octet fronts first_wrong wrong
 no_text R = refl
 
--- its closing is the same by all rules
+-- the closing of the empty stream is the same by all rules
 pub one_closing : (R Q : Rules) → closing R [] ≡ closing Q []
 unfolding closing is_truncated is_inside first_messages unfinished start_count fault_count tally
     final messages read_of lines lines_of_messages in_order up_to_last_line stop_line cut limited

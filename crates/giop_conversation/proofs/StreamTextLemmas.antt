@@ -39,7 +39,7 @@ pub record AreShown (S : Setup) (written : List ℕ) (h : History) (d : Dump) : 
 
 -- ---- a text goes on
 
--- by lines of a stream
+-- the text goes on by lines of a stream
 more_lines : (S : Setup) (written : List ℕ) (h behind : History) (all : List ℕ) (n : ℕ)
     (lines reads own : List ℕ) →
     ShowsStreams S written h all → AreParts lines reads own →
@@ -86,7 +86,7 @@ more_lines S written h behind all n lines reads own t more others here = record 
         )
         (t.streams m is)
 
--- by the fault of the capture
+-- the text goes on by the fault of the capture
 more_fault : (S : Setup) (written : List ℕ) (h : History) (all word : List ℕ) (at : ℕ) →
     ShowsStreams S written h all →
     ShowsStreams S written h (all ++ capture_fault_line word at)

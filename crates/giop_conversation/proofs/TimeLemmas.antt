@@ -110,14 +110,14 @@ pub record IsMonth (year days passed left : ℕ) : Type 0 where
   pub short : left < days_in_month year (passed + 1)
   pub few : passed ≤ 11
 
--- in January and February
+-- the month of a day in January and February
 pub early_month : (year days passed : ℕ) → days < days_in_year year - 306 →
     passed ≡ (12 * days + 6) / 367 → IsMonth year days passed (days - (367 * passed + 5) / 12)
 early_month year days zero early is = search (arith, days_of_months_closed)
 early_month year days (suc zero) early is = search (arith, days_of_months_closed)
 early_month year days (suc (suc passed)) early is = absurd (grind arith)
 
--- after them
+-- the month of a later day
 pub late_month : (year days even passed : ℕ) → days < days_in_year year →
     days_in_year year - 306 ≤ days → even ≡ days + 61 - (days_in_year year - 306) →
     passed ≡ (12 * even + 6) / 367 → IsMonth year days passed (even - (367 * passed + 5) / 12)

@@ -40,8 +40,8 @@ call_of number name operation = record {
   time = None;
 }
 
--- the calls after a Request with this id: where its call line can be shown and it expects a reply,
--- it is the newest
+-- the calls after a Request with this id: if its call line can be shown and it expects a reply, its
+-- call is the newest one
 abbrev pub requested :
     ℕ → ℕ → Option (List ℕ) → Option OpId → Bool → Entries Call → Entries Call
 requested number id None operation expects calls =

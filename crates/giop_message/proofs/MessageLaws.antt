@@ -33,7 +33,7 @@ pub use Rattle.giop_message.proofs.Dues.{text_both, text_none, text_over, text_e
 -- one octet, and the close, from the reading alone (`message_reader_laws`)
 pub use Rattle.giop_message.proofs.AtOctet.{octet_text, octet_over, close_short}
 pub use Rattle.giop_message.proofs.AtOctet.{close_is}
--- at which octets headers and names end; and what is told of some ends and then of others
+-- at which octets headers and names end, and what is told of some of these ends and then of others
 pub use Rattle.giop_message.proofs.HeaderEndLaws.{header_ends_both, header_ends_none, one_octet, over_none, bodiless_ends, ends_over, told_both, answers_first, answers_then}
 pub use Rattle.giop_message.proofs.HeaderEndLaws.{header_noted_before, header_ended, alike_remarks, alike_closes}
 pub use Rattle.giop_message.proofs.MessageAgreement.{follows_agree}

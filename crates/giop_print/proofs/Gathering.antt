@@ -20,7 +20,7 @@ but-none a b c gathered part v w =
           append-nil (gathered ++ part);
     }
 
--- one part more is gathered
+-- one more part is gathered
 pub but-more : (a b c : OutLog) (gathered left due part : List ℕ) → WroteBut a b gathered due →
     WroteBut b c left (gathered ++ part) → WroteBut a c left (due ++ part)
 but-more a b c gathered left due part v w =
@@ -39,7 +39,7 @@ but-front a b c gathered due part v w =
     sym (append_assoc v.front gathered part) ∙ ap (λ z. z ++ part) v.both in
     subst (WroteFront a c) e (wrote-front a b c v.front (gathered ++ part) v.wrote w)
 
--- one part more of a list is gathered
+-- one more part of a list is gathered
 pub but-parts : {X : Type 0} (f : X → List ℕ) (a b c : OutLog) (gathered left : List ℕ)
     (xs : List X) (i : ℕ) (d : X) → i < length xs → WroteBut a b gathered (flat_map f (take i xs)) →
     WroteBut b c left (gathered ++ f (get_or xs i d)) →

@@ -87,7 +87,7 @@ pub escaped_last : (text : List ℕ) (xs : List ℕ) → text ≡ escaped (drop 
 unfolding escaped
 escaped_last text xs = rw (drop_all (length xs) xs (omega arith)) refl
 
--- one octet more is spelled
+-- one more octet is spelled
 from_end : (xs : List ℕ) (i : ℕ) → 0 < i → i ≤ length xs →
     drop (i - 1) xs ≡ get_or xs (i - 1) 0 ∷ drop i xs
 from_end xs i p h = let e : i - 1 + 1 ≡ i = omega arith in

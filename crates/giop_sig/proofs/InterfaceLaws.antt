@@ -29,7 +29,7 @@ pub hex_long : (bs : List ℕ) → length (hex bs) ≡ 2 * length bs
 hex_long [] = refl
 hex_long (b ∷ bs) = omega (arith, hex_long bs)
 
--- one octet more
+-- one more octet
 pub hex_more : (bs : List ℕ) (b : ℕ)
     → (hex bs ++ digit (b / 16) ∷ []) ++ digit (b % 16) ∷ [] ≡ hex (bs ++ b ∷ [])
 hex_more [] b = refl
@@ -338,7 +338,7 @@ map_or : {X Y : Type 0} (f : X → Y) (a b : Option X)
 map_or f None b = refl
 map_or f (Some x) b = refl
 
--- one octet more
+-- one more octet of a key
 pub longest_more : (i : Interfaces) (key : List ℕ) (m n : ℕ) (a b : Option InterfaceId) → m ≡ suc n
     → option_map (λ (x : InterfaceId). x.0) a ≡ of_text i (front_text (take m key))
     → option_map (λ (x : InterfaceId). x.0) b ≡ longest_front i key n

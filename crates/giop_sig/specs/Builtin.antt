@@ -238,7 +238,7 @@ compound_types =
     ∷ request_1_2
     ∷ reply
     ∷ reply_1_2
-    -- of a cancel request, and of a fragment
+    -- of cancel requests and of fragments
     ∷ (nodes.members (member (codes "request_id") ULONG ∷ []))
     -- of locate requests and locate replies
     ∷ locate_request

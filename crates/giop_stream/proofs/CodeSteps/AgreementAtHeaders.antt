@@ -422,7 +422,7 @@ module _ (C : Table) (a b : Answers) (most : ℕ) where
 
   -- ---- one octet
 
-  -- of an octet of a message: if the events before the octet have this, so have the events of the
+  -- an octet of a message: if the events before the octet have this, so have the events of the
   -- octet
   of_events : (p : List ℕ) (m : Message) →
       (let es = events_of_octet most (open_after most p) m in
@@ -438,7 +438,7 @@ module _ (C : Table) (a b : Answers) (most : ℕ) where
       (open_after most p)
       (opened_each (NowAlike p es) [] (events most p) tt old))
 
-  -- of the last octet of a message's header
+  -- the last octet of a message's header
   begun_alike : (p : List ℕ) (m : Message) → Alike p → m.payload ≡ [] →
       octets_of A p m.number ≡ Some [] →
       (let es = events_of_octet most (open_after most p) m in
@@ -458,7 +458,7 @@ module _ (C : Table) (a b : Answers) (most : ℕ) where
             (not_noted m.header))),
       )
 
-  -- of an octet of the message's payload
+  -- an octet of the message's payload
   paid_old : (p : List ℕ) (x : ℕ) (was : Message) → Alike p → (cut p).stop ≡ None →
       (cut p).current ≡ Some was → length p < limit →
       Each (AnswersAlike a b) (header_ends_at A p x) →

@@ -151,7 +151,7 @@ twice_row : Writes (small 0) twice
 unfolding rows twice
 twice_row = search (arith)
 
--- one message more than may be open, and a Fragment of it
+-- one more message than may be open, and a Fragment of it
 unfoldable pub too_many : List ℕ
 too_many =
     octets
