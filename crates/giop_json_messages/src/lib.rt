@@ -11,6 +11,3 @@ mod rows;
 pub use calls::Calls;
 pub use messages::Messages;
 pub use objects::{HOLD_MAX, Settings};
-
-#[cfg(test)]
-mod tests;

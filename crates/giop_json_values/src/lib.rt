@@ -14,6 +14,3 @@ pub use options::{Characters, Options};
 pub use shown::put_shown;
 pub use text::{Text, shown_text};
 pub use values::Values;
-
-#[cfg(test)]
-mod tests;

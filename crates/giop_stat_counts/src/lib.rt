@@ -21,6 +21,3 @@ mod window;
 pub use choice::{By, Settings};
 pub use stat::Stat;
 pub use window::{Window, is_time};
-
-#[cfg(test)]
-mod tests;
