@@ -151,3 +151,16 @@ module _ (divisor : ℕ) (keys counts firsts : List ℕ) (removals : ℕ)
         within = λ j less. omega (arith, h.within j less, h.range j less, shorter, there, up);
         range = h.range;
       }
+
+-- if the divisor is 0, nothing is kept of any ids
+pub indexed_none : (divisor : ℕ) (keys others counts firsts : List ℕ) (removals : ℕ) →
+    divisor ≡ 0 → AreIndexed divisor keys counts firsts removals →
+    AreIndexed divisor others counts firsts removals
+indexed_none divisor keys others counts firsts removals none h = record {
+  counts_many = h.counts_many;
+  firsts_many = h.firsts_many;
+  counted = λ r less. absurd (omega (arith, less, none));
+  before = λ r less i here has. absurd (omega (arith, less, none));
+  within = λ r less. absurd (omega (arith, less, none));
+  range = λ r less. absurd (omega (arith, less, none));
+}

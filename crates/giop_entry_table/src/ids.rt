@@ -1,37 +1,34 @@
 //! Ids in the order in which they were added. The search for an id begins at an index that is kept for the id's remainder.
 
-ghost use Rattle.std.specs.Prelude.{◌≡◌, ◌+◌, ◌%◌, ◌<◌, ◌≤◌, ◌==◌, [], ◌∷◌, ◌++◌, ℕ, get_or, length, vec_capacity, IfSome, IfOk};
+ghost use Rattle.std.specs.Prelude.{◌≡◌, ◌+◌, ◌%◌, ◌<◌, ◌≤◌, ◌==◌, [], ◌∷◌, ◌++◌, ℕ, false, get_or, length, vec_capacity, IfSome, IfOk};
 ghost use Rattle.std.specs.List.{remove, position_from};
 ghost use Rattle.giop_entry_table.specs.Ids.{AreIndexed, IsBefore};
 
 use crate::search::place_of;
 use std::alloc::{AllocError, Global};
 
-/// If there are at most this number of ids, they are looked through one after another: all have one remainder.
+/// If there are at most this number of ids, they are looked through one after another, and no remainders are kept.
 const FEW: usize = 128;
 
 /// Ids in the order in which they were added. All of its memory is allocated when it is made.
 #[derive(Drop)]
 pub(crate) struct Ids {
     pub(crate) keys: Vec<u32>,
-    // How many ids have each remainder.
+    // How many ids have each remainder. It is empty if no remainders are kept.
     counts: Vec<usize>,
     // A number for each remainder. Minus the removals, it is at most the index of each id that has the remainder.
     firsts: Vec<usize>,
     // How many ids were removed.
     removals: usize,
-    ghost some: { 0 < length counts.items },
     ghost indexed: { AreIndexed (length counts.items) keys.items counts.items
         firsts.items removals },
 }
 
-/// The divisor whose remainders tell ids apart. It is odd, so that ids that differ by a power of two have different
-/// remainders.
-fn divisor(most: usize) -> usize
-    ensures { 0 < result }
-{
+/// The divisor whose remainders tell ids apart; 0 if no remainders are kept. It is odd, so that ids that differ by a
+/// power of two have different remainders.
+fn divisor(most: usize) -> usize {
     if most <= FEW {
-        return 1;
+        return 0;
     }
     most.saturating_mul(2).saturating_add(1)
 }
@@ -53,6 +50,7 @@ impl Ids {
 
     /// The remainder of an id.
     fn remainder(&self, key: u32) -> usize
+        requires { 0 < length self.now.counts.items }
         ensures value { result ≡ key % length self.now.counts.items }
         ensures within { result < length self.now.counts.items }
     {
@@ -74,14 +72,24 @@ impl Ids {
         }
     }
 
+    /// An index before which an id isn't.
+    fn start(&self, key: u32) -> usize
+        ensures before { (i : ℕ) → i < result → (get_or self.now.keys.items i 0 == key) ≡ false }
+        ensures within { result ≤ length self.now.keys.items }
+    {
+        if self.counts.is_empty() {
+            return 0;
+        }
+        let first = self.first(self.remainder(key));
+        first.saturating_sub(self.removals).min(self.keys.len())
+    }
+
     /// The first index of an id.
     pub(crate) fn find(&self, key: u32) -> Option<usize>
         ensures value { result ≡ position_from (λ k. k == key) 0 self.now.keys.items }
         ensures within { IfSome result (λ place. place < length self.now.keys.items) }
     {
-        let first = self.first(self.remainder(key));
-        let from = first.saturating_sub(self.removals).min(self.keys.len());
-        place_of(self.keys.as_slice(), from, key)
+        place_of(self.keys.as_slice(), self.start(key), key)
     }
 
     /// Adds an id after the other ids. There must be room for it.
@@ -90,6 +98,10 @@ impl Ids {
         ensures items { self.new.keys.items ≡ self.old.keys.items ++ key ∷ [] }
         ensures capacity { vec_capacity self.new.keys ≡ vec_capacity self.old.keys }
     {
+        if self.counts.is_empty() {
+            self.keys.push_reserved(key);
+            return;
+        }
         let remainder = self.remainder(key);
         self.firsts[remainder] = self.first(remainder);
         self.counts[remainder] += 1;
@@ -102,6 +114,10 @@ impl Ids {
         ensures items { self.new.keys.items ≡ remove self.old.keys.items place }
         ensures capacity { vec_capacity self.new.keys ≡ vec_capacity self.old.keys }
     {
+        if self.counts.is_empty() {
+            self.keys.remove(place);
+            return;
+        }
         let remainder = self.remainder(self.keys[place]);
         self.counts[remainder] -= 1;
         self.removals = self.removals.saturating_add(1);

@@ -1,8 +1,9 @@
-use Rattle.std.proofs.Common.{◌%◌, ◌==◌, length, arith}
+use Rattle.std.proofs.Common.{◌%◌, ◌==◌, length, sym, ◌∙◌, arith}
+use Rattle.std.proofs.lemmas.Bool.{eqb-true}
 use Rattle.std.proofs.lemmas.List.{length-set}
 use Rattle.std.proofs.lemmas.List.Sums.{count_by-le-length}
 use Rattle.giop_entry_table.proofs.ListLemmas.{read-at}
-use Rattle.giop_entry_table.proofs.IdLemmas.{indexed_push}
+use Rattle.giop_entry_table.proofs.IdLemmas.{indexed_none, indexed_push}
 use Rattle.giop_entry_table.proofs.ids.Ids.push_reserved.Goals as goal
 
 pub overflow_add-index_mut : goal.overflow_add-index_mut
@@ -24,10 +25,20 @@ overflow_add-index_mut c =
 pub invariant_of-self : goal.invariant_of-self
 invariant_of-self c =
     let ids = c.args.self.now in
+    record {
+      indexed = indexed_none (length ids.counts.items) ids.keys.items _ ids.counts.items
+          ids.firsts.items ids.removals
+          (sym ids.counts.ok.0 ∙ eqb-true ids.counts.len 0
+          (sym c.is_empty.ensures ∙ c.if-is_empty.true))
+          ids.indexed;
+    }
+
+pub invariant_of-self-2 : goal.invariant_of-self-2
+invariant_of-self-2 c =
+    let ids = c.args.self.now in
     let r = c.remainder-remainder in
     let count = read-at _ _ _ r.ensures.within c.index_mut-2.ensures.value in
-    rw (length-set ids.counts.items r.result _, count, c.push_reserved.ensures.items) (record {
-      some = ids.some;
+    rw (length-set ids.counts.items r.result _, count, c.push_reserved-2.ensures.items) (record {
       indexed = indexed_push _ _ _ _ _ ids.indexed c.args.key r.result c.first.result
           r.ensures.within r.ensures.value c.first.ensures.before c.first.ensures.within
           c.first.type_inv;

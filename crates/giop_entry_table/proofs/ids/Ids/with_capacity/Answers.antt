@@ -8,7 +8,6 @@ invariant_of-result c =
     let counts = c.in_ok-vec.ensures.items_if_clones_equal (λ y e. e) in
     let firsts = c.in_ok-vec-2.ensures.items_if_clones_equal (λ y e. e) in
     rw (c.in_ok-with_capacity.ensures.items, counts, firsts, length-replicate) (record {
-      some = omega (arith, d.ensures);
       indexed = record {
         counts_many = length-replicate d.result 0;
         firsts_many = length-replicate d.result 0;
