@@ -34,6 +34,11 @@ pub record Exchanged : Type 0 where
   pub answered : Option Answering  -- what that Reply answers
   pub raised : Option Raising  -- the last exception that a Reply raises
 
+-- the calls of both directions
+pub record CallPair : Type 0 where
+  pub own : Entries Call
+  pub opposite : Entries Call
+
 abbrev pub with_entries : Entries Call → List (Entry Call) → Entries Call
 with_entries calls es = record calls { entries = es }
 

@@ -8,16 +8,16 @@ ghost use Rattle.giop_message.specs.MessageState.{AreKnown};
 ghost use Rattle.giop_conversation.specs.Lines.{time_line};
 ghost use Rattle.giop_conversation.specs.Exchanges.{Exchanged, kept_name, answer_of, kept_exception};
 
+use crate::both_calls::BothCalls;
 use crate::kept_second::KeptSecond;
 use crate::lines::time_line_by;
 use arrayvec::ArrayVec;
-use giop_calls::{Call, Calls, NAME_ROOM};
+use giop_calls::{Call, NAME_ROOM};
 use giop_message::Correspondent;
 use giop_print::{Out, OutFault};
 use giop_sig::{Catalogue, OpId};
 use std::alloc::{AllocError, Global};
 use std::marker::Model;
-use std::mem;
 use tcp_waiting::Arrival;
 
 /// A Reply that answers a call.
@@ -39,12 +39,11 @@ pub struct Raising {
 }
 
 /// The calls of both directions of a connection that have no reply yet. It is the correspondent of the stream that is read:
-/// Requests in the stream add calls to `own`, and Replies in it answer calls of `opposite`.
+/// Requests in the stream add calls to its own, and Replies in it answer opposite calls.
 #[derive(Drop)]
 pub struct Exchange<'a> {
     catalogue: &'a Catalogue,
-    own: Calls,
-    opposite: Calls,
+    calls: BothCalls,
     stream: u64,
     arrival: Arrival,
     replied: u64,
@@ -63,8 +62,8 @@ impl<'a> Model for Exchange<'a> {
 
     ghost view = { λ e. record {
       table = e.catalogue.now;
-      own = e.own;
-      opposite = e.opposite;
+      own = e.calls.own;
+      opposite = e.calls.opposite;
       stream = e.stream;
       arrival = e.arrival;
       replied = e.replied;
@@ -93,8 +92,7 @@ impl<'a> Exchange<'a> {
     {
         Ok(Exchange {
             catalogue,
-            own: Calls::new(alloc, most)?,
-            opposite: Calls::new(alloc, most)?,
+            calls: BothCalls::new(alloc, most)?,
             stream: 0,
             arrival: Arrival {
                 time: None,
@@ -118,7 +116,7 @@ impl<'a> Exchange<'a> {
     pub fn turn(&mut self)
         ensures { self.new ≡ record self.old { own = self.old.opposite; opposite = self.old.own } }
     {
-        mem::swap(&mut self.own, &mut self.opposite);
+        self.calls.turn();
     }
 
     /// Notes the number of the stream that is read, and the packet in which its next octets came.
@@ -192,7 +190,7 @@ impl<'a> Exchange<'a> {
     pub fn forget(&mut self)
         ensures { self.new ≡ record self.old { own = record self.old.own { entries = [] } } }
     {
-        self.own.clear();
+        self.calls.clear();
     }
 }
 
@@ -254,7 +252,7 @@ impl<'a> Correspondent for Exchange<'a> {
     ghost awaits_messages = { true };
 
     fn operation(&self, id: u32) -> Option<OpId> {
-        let call = self.opposite.find(id)?;
+        let call = self.calls.find(id)?;
         let operation = OpId(call.operation?);
         if self.catalogue.has_operation(operation) {
             Some(operation)
@@ -282,15 +280,15 @@ impl<'a> Correspondent for Exchange<'a> {
                     message: number,
                     time: self.arrival.time,
                 };
-                self.own.add(id, call);
+                self.calls.add(id, call);
             }
-            None => self.own.forget(id),
+            None => self.calls.forget(id),
         }
     }
 
     fn answered(&mut self, number: u64, id: u32) {
         self.replied = number;
-        self.answered = match self.opposite.take(id) {
+        self.answered = match self.calls.take(id) {
             Some(call) => Some(Answering {
                 message: number,
                 call,

@@ -3,6 +3,7 @@
 //! in front of each line.
 #![tactic(auto)]
 
+mod both_calls;
 mod conversation;
 mod conversations;
 mod direction;

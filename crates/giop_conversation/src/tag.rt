@@ -12,20 +12,20 @@ const ROOM: usize = 32;
 /// How many octets the block at the end of that array has. Most tags are shorter.
 pub(crate) const BLOCK: usize = 16;
 
-/// The text that stands in front of a line. It is the end of an array, from `at` on; the octets before it are unused.
+/// The text that stands in front of a line. It is the last `count` octets of an array; those before them are unused.
 #[derive(Drop)]
 pub struct Tag {
     octets: [u8; ROOM],
-    at: usize,
-    ghost within: { at ≤ 32 },
+    count: usize,
+    ghost within: { count ≤ 32 },
 }
 
 impl Model for Tag {
-    ghost use Rattle.std.specs.Prelude.{List, ℕ, drop};
+    ghost use Rattle.std.specs.Prelude.{◌-◌, List, ℕ, drop};
 
     ghost Value = { List ℕ };
 
-    ghost view = { λ t. drop t.at t.octets };
+    ghost view = { λ t. drop (32 - t.count) t.octets };
 }
 
 impl Tag {
@@ -34,7 +34,7 @@ impl Tag {
     pub(crate) fn as_slice(&self) -> &[u8]
         ensures { result.now ≡ self.now }
     {
-        &self.octets[self.at..]
+        &self.octets[ROOM - self.count..]
     }
 
     /// How many octets the tag has.
@@ -42,7 +42,7 @@ impl Tag {
     pub(crate) fn len(&self) -> usize
         ensures { result ≡ length self.now }
     {
-        ROOM - self.at
+        self.count
     }
 
     /// A copy of the tag.
@@ -52,7 +52,7 @@ impl Tag {
     {
         Tag {
             octets: self.octets,
-            at: self.at,
+            count: self.count,
         }
     }
 
@@ -72,7 +72,7 @@ pub fn no_tag() -> Tag
 {
     Tag {
         octets: [0; ROOM],
-        at: ROOM,
+        count: 0,
     }
 }
 
@@ -84,5 +84,8 @@ pub fn stream_tag(number: u64) -> Tag
     octets[ROOM - 1] = b' ';
     let at = write_digits(number, &mut octets, ROOM - 1) - 1;
     octets[at] = b's';
-    Tag { octets, at }
+    Tag {
+        octets,
+        count: ROOM - at,
+    }
 }

@@ -24,5 +24,6 @@ returns c =
     let first = c.write_digits-at.result in
     let next : first - 1 + 1 ≡ first = omega (arith, few, start) in
     let within : first - 1 < length digits = search rules in
-    drop-set digits (first - 1) 115 within
-    ∙ ap (λ t. 115 ∷ t) (ap (λ k. drop k digits) next ∙ c.write_digits-at.ensures.written)
+    let same : 32 - (32 - (first - 1)) ≡ first - 1 = omega (arith, few, start) in
+    rw same (drop-set digits (first - 1) 115 within
+    ∙ ap (λ t. 115 ∷ t) (ap (λ k. drop k digits) next ∙ c.write_digits-at.ensures.written))
