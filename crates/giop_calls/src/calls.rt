@@ -73,6 +73,8 @@ impl Calls {
 
     /// Adds a call as the newest one. An older call of its id is no longer outstanding. If as many are outstanding as may
     /// be, the oldest one is forgotten.
+    // As a function of its own it would copy the call once more, and so would `take`.
+    #[inline(always)]
     pub fn add(&mut self, id: u32, call: Call)
         ensures entries { self.new.entries ≡ newest self.old.most
             (without id self.old.entries ++ record { key = id; value = call } ∷ []) }
@@ -96,6 +98,7 @@ impl Calls {
     }
 
     /// Takes the call that a Reply with this request id answers. It is no longer outstanding.
+    #[inline(always)]
     pub fn take(&mut self, id: u32) -> Option<Call>
         ensures value { result
             ≡ option_map (λ e. e.value) (find (λ e. e.key == id) self.old.entries) }
