@@ -12,41 +12,41 @@ use Rattle.std.specs.declared.collections.VecDeque.{VecDeque}
 use Rattle.tcp_rooms.specs.Order.{IsFilled, HasGap, HaveMemory, rows_of}
 
 -- a row is full if it and those after it have rooms enough
-full : (r : List ℕ) (rs : List (List ℕ)) → IsFilled (r ∷ rs) → 4096 ≤ length (concat (r ∷ rs)) →
-    length r ≡ 4096
+full : (r : List ℕ) (rs : List (List ℕ)) → IsFilled (r ∷ rs) → 2048 ≤ length (concat (r ∷ rs)) →
+    length r ≡ 2048
 unfolding IsFilled
 full r rs h m =
     let n = length-append r (concat rs) in
-    elim (cases_lt (length r) 4096) [
+    elim (cases_lt (length r) 2048) [
       | inl l ↦ (let e = ap length (h.1 l) in absurd (omega (arith, l, m, n, e)))
       | inr g ↦ omega (arith, g, h.0)
     ]
 
 -- the row in which the rooms end has a free place
 pub opened : (k : ℕ) (rs : List (List ℕ)) → IsFilled rs → k < length rs →
-    4096 * k ≤ length (concat rs) → length (concat rs) < 4096 * suc k → HasGap k rs
+    2048 * k ≤ length (concat rs) → length (concat rs) < 2048 * suc k → HasGap k rs
 unfolding IsFilled HasGap
 opened k [] h l a b = absurd (omega (arith, l))
 opened zero (r ∷ rs) h l a b =
     let n = length-append r (concat rs) in
-    let few : length r < 4096 = omega (arith, b, n) in
+    let few : length r < 2048 = omega (arith, b, n) in
     (few, λ m. h.1 few, h.2)
 opened (suc k) (r ∷ rs) h l a b =
     let n = length-append r (concat rs) in
-    let e : length r ≡ 4096 = full r rs h (omega (arith, a)) in (
+    let e : length r ≡ 2048 = full r rs h (omega (arith, a)) in (
       e,
       opened k rs h.2 (omega (arith, l)) (omega (arith, a, n, e)) (omega (arith, b, n, e)),
     )
 
 -- the free place is after the last room, so the rows are filled
-pub closed : (k : ℕ) (rs : List (List ℕ)) → HasGap k rs → 4096 * k ≤ length (concat rs) →
-    length (concat rs) < 4096 * suc k → IsFilled rs
+pub closed : (k : ℕ) (rs : List (List ℕ)) → HasGap k rs → 2048 * k ≤ length (concat rs) →
+    length (concat rs) < 2048 * suc k → IsFilled rs
 unfolding IsFilled HasGap
 closed k [] h a b = absurd h
 closed zero (r ∷ rs) h a b =
     let n = length-append r (concat rs) in (
       omega (arith, h.0),
-      λ m. elim (cases_lt (suc (length r)) 4096) [
+      λ m. elim (cases_lt (suc (length r)) 2048) [
         | inl l ↦ h.1 l
         | inr g ↦ nil_from_length (concat rs) (omega (arith, g, b, n))
       ],
@@ -59,9 +59,16 @@ closed (suc k) (r ∷ rs) h a b =
       closed k rs h.1 (omega (arith, a, n, h.0)) (omega (arith, b, n, h.0)),
     )
 
+-- filled rows have at most as many rooms as there is memory for
+pub most_filled : (rs : List (List ℕ)) → IsFilled rs → length (concat rs) ≤ 2048 * length rs
+unfolding IsFilled
+most_filled [] h = omega arith
+most_filled (r ∷ rs) h =
+    omega (arith, length-append r (concat rs), h.0, most_filled rs h.2)
+
 -- the row with the free place exists, and isn't full
 pub gap_row : (k : ℕ) (rs : List (List ℕ)) → HasGap k rs →
-    (k < length rs) × (length (get_or rs k []) < 4096)
+    (k < length rs) × (length (get_or rs k []) < 2048)
 unfolding HasGap
 gap_row k [] h = absurd h
 gap_row zero (r ∷ rs) h = (omega arith, h.0)
@@ -70,7 +77,7 @@ gap_row (suc k) (r ∷ rs) h =
 
 -- the row before the one with the free place is full
 pub row_before : (k : ℕ) (rs : List (List ℕ)) → HasGap (suc k) rs →
-    length (get_or rs k []) ≡ 4096
+    length (get_or rs k []) ≡ 2048
 unfolding HasGap
 row_before k [] h = absurd h
 row_before zero (r ∷ rs) h = h.0
@@ -78,7 +85,7 @@ row_before (suc k) (r ∷ rs) h = row_before k rs h.1
 
 -- the row after the one with the free place has rooms, if there are enough
 pub row_behind : (k : ℕ) (rs : List (List ℕ)) → HasGap k rs →
-    4096 * suc k ≤ length (concat rs) → 0 < length (get_or rs (suc k) [])
+    2048 * suc k ≤ length (concat rs) → 0 < length (get_or rs (suc k) [])
 unfolding HasGap IsFilled
 row_behind k [] h m = absurd h
 row_behind zero (r ∷ []) h m =
@@ -127,7 +134,7 @@ passed_back zero (r ∷ q ∷ rs) x s h e =
     let n = length-append r (x ∷ []) in
     let o = length-append q (concat rs) in
     let m : length q ≡ length (x ∷ s) = ap length e in
-    let f : length (r ++ x ∷ []) ≡ 4096 = elim (cases_lt (suc (length r)) 4096) [
+    let f : length (r ++ x ∷ []) ≡ 2048 = elim (cases_lt (suc (length r)) 2048) [
       | inl l ↦ (let z = ap length (h.1 l) in absurd (omega (arith, z, o, m)))
       | inr g ↦ omega (arith, g, n, h.0)
     ] in (
@@ -145,20 +152,20 @@ passed_back (suc k) (q ∷ rs) x s h e =
     let i = passed_back k rs x s h.1 e in ((h.0, i.0), ap (λ l. q ++ l) i.1)
 
 -- a room is inserted into the row with the free place
-pub inserted : (k i x : ℕ) (rs : List (List ℕ)) → HasGap k rs → i < 4096 →
-    4096 * k + i ≤ length (concat rs) →
+pub inserted : (k i x : ℕ) (rs : List (List ℕ)) → HasGap k rs → i < 2048 →
+    2048 * k + i ≤ length (concat rs) →
     (i ≤ length (get_or rs k [])) × IsFilled (set rs k (insert (get_or rs k []) i x))
-    × (concat (set rs k (insert (get_or rs k []) i x)) ≡ insert (concat rs) (4096 * k + i) x)
+    × (concat (set rs k (insert (get_or rs k []) i x)) ≡ insert (concat rs) (2048 * k + i) x)
 unfolding HasGap IsFilled
 inserted k i x [] h l m = absurd h
 inserted zero i x (r ∷ rs) h l m =
     let n = length-append r (concat rs) in
-    let inside : i ≤ length r = elim (cases_lt (suc (length r)) 4096) [
+    let inside : i ≤ length r = elim (cases_lt (suc (length r)) 2048) [
       | inl f ↦ (let z = ap length (h.1 f) in omega (arith, z, m, n))
       | inr g ↦ omega (arith, g, l)
     ] in
     let o = length-insert r i x inside in
-    let at : 4096 * 0 + i ≡ i = omega arith in (
+    let at : 2048 * 0 + i ≡ i = omega arith in (
       inside,
       (omega (arith, o, h.0), λ f. h.1 (omega (arith, o, f)), h.2),
       sym (ap (λ j. insert (r ++ concat rs) j x) at ∙ insert-append_left r (concat rs) i x inside),
@@ -166,67 +173,67 @@ inserted zero i x (r ∷ rs) h l m =
 inserted (suc k) i x (r ∷ rs) h l m =
     let n = length-append r (concat rs) in
     let j = inserted k i x rs h.1 l (omega (arith, n, m, h.0)) in
-    let at : 4096 * suc k + i - 4096 ≡ 4096 * k + i = omega arith in (
+    let at : 2048 * suc k + i - 2048 ≡ 2048 * k + i = omega arith in (
       j.0,
       (omega (arith, h.0), λ f. absurd (omega (arith, f, h.0)), j.1),
       ap (λ c. r ++ c) (j.2 ∙ ap (λ p. insert (concat rs) p x) (sym at))
-          ∙ sym (insert-append_right r (concat rs) 4096 (4096 * suc k + i) x h.0 (omega arith)),
+          ∙ sym (insert-append_right r (concat rs) 2048 (2048 * suc k + i) x h.0 (omega arith)),
     )
 
 -- a room is removed, and leaves a free place in its row
-pub removed : (k i : ℕ) (rs : List (List ℕ)) → IsFilled rs → i < 4096 →
-    4096 * k + i < length (concat rs) →
+pub removed : (k i : ℕ) (rs : List (List ℕ)) → IsFilled rs → i < 2048 →
+    2048 * k + i < length (concat rs) →
     HasGap k (set rs k (remove (get_or rs k []) i))
-    × (concat (set rs k (remove (get_or rs k []) i)) ≡ remove (concat rs) (4096 * k + i))
+    × (concat (set rs k (remove (get_or rs k []) i)) ≡ remove (concat rs) (2048 * k + i))
 unfolding HasGap IsFilled
 removed k i [] h l m = absurd (omega (arith, m))
 removed zero i (r ∷ rs) h l m =
     let n = length-append r (concat rs) in
-    let inside : i < length r = elim (cases_lt (length r) 4096) [
+    let inside : i < length r = elim (cases_lt (length r) 2048) [
       | inl f ↦ (let z = ap length (h.1 f) in omega (arith, z, m, n))
       | inr g ↦ omega (arith, g, l)
     ] in
     let o = length-remove r i inside in
-    let at : 4096 * 0 + i ≡ i = omega arith in (
+    let at : 2048 * 0 + i ≡ i = omega arith in (
       (omega (arith, o, h.0), λ f. h.1 (omega (arith, o, f)), h.2),
       sym (ap (remove (r ++ concat rs)) at ∙ remove-append_left r (concat rs) i inside),
     )
 removed (suc k) i (r ∷ rs) h l m =
     let n = length-append r (concat rs) in
-    let f : length r ≡ 4096 = full r rs h (omega (arith, m)) in
+    let f : length r ≡ 2048 = full r rs h (omega (arith, m)) in
     let j = removed k i rs h.2 l (omega (arith, n, m, f)) in
-    let at : 4096 * suc k + i - 4096 ≡ 4096 * k + i = omega arith in (
+    let at : 2048 * suc k + i - 2048 ≡ 2048 * k + i = omega arith in (
       (f, j.0),
       ap (λ c. r ++ c) (j.1 ∙ ap (remove (concat rs)) (sym at))
-          ∙ sym (remove-append_right r (concat rs) 4096 (4096 * suc k + i) f (omega arith)),
+          ∙ sym (remove-append_right r (concat rs) 2048 (2048 * suc k + i) f (omega arith)),
     )
 
 -- the row of a room, and its place there
-pub found : (k i d : ℕ) (rs : List (List ℕ)) → IsFilled rs → i < 4096 →
-    4096 * k + i < length (concat rs) →
+pub found : (k i d : ℕ) (rs : List (List ℕ)) → IsFilled rs → i < 2048 →
+    2048 * k + i < length (concat rs) →
     (k < length rs) × (i < length (get_or rs k []))
-    × (get_or (concat rs) (4096 * k + i) d ≡ get_or (get_or rs k []) i d)
+    × (get_or (concat rs) (2048 * k + i) d ≡ get_or (get_or rs k []) i d)
 unfolding IsFilled
 found k i d [] h l m = absurd (omega (arith, m))
 found zero i d (r ∷ rs) h l m =
     let n = length-append r (concat rs) in
-    let inside : i < length r = elim (cases_lt (length r) 4096) [
+    let inside : i < length r = elim (cases_lt (length r) 2048) [
       | inl f ↦ (let z = ap length (h.1 f) in omega (arith, z, m, n))
       | inr g ↦ omega (arith, g, l)
     ] in
-    let at : 4096 * 0 + i ≡ i = omega arith in (
+    let at : 2048 * 0 + i ≡ i = omega arith in (
       omega arith,
       inside,
       ap (λ j. get_or (r ++ concat rs) j d) at ∙ get_or_append_left r (concat rs) d i inside,
     )
 found (suc k) i d (r ∷ rs) h l m =
     let n = length-append r (concat rs) in
-    let f : length r ≡ 4096 = full r rs h (omega (arith, m)) in
+    let f : length r ≡ 2048 = full r rs h (omega (arith, m)) in
     let j = found k i d rs h.2 l (omega (arith, n, m, f)) in
-    let at : 4096 * suc k + i ≡ length r + (4096 * k + i) = omega (arith, f) in (
+    let at : 2048 * suc k + i ≡ length r + (2048 * k + i) = omega (arith, f) in (
       omega (arith, j.0),
       j.1,
-      ap (λ p. get_or (r ++ concat rs) p d) at ∙ get_or-append-add r (concat rs) (4096 * k + i) d
+      ap (λ p. get_or (r ++ concat rs) p d) at ∙ get_or-append-add r (concat rs) (2048 * k + i) d
           ∙ j.2,
     )
 
@@ -241,8 +248,8 @@ all_at P (y ∷ ys) (suc k) d l h = all_at P ys k d (omega (arith, l)) h.1
 module _ {Z : Type 0} (bs : List (VecDeque ℕ Z)) where
   -- a block has memory
   pub memory_at : (k : ℕ) (d : VecDeque ℕ Z) → k < length bs → HaveMemory bs →
-      4096 ≤ deque_capacity (get_or bs k d)
-  memory_at k d l h = all_at (λ b. 4096 ≤ deque_capacity b) bs k d l h.each
+      2048 ≤ deque_capacity (get_or bs k d)
+  memory_at k d l h = all_at (λ b. 2048 ≤ deque_capacity b) bs k d l h.each
 
   -- the row of a block
   pub row_at : (k : ℕ) (d : VecDeque ℕ Z) → k < length bs →
@@ -262,7 +269,7 @@ module _ {Z : Type 0} (bs : List (VecDeque ℕ Z)) where
 
   -- the block before the one with the free place is full
   pub full_before : (k : ℕ) (d : VecDeque ℕ Z) → HasGap (suc k) (rows_of bs) →
-      deque_len (get_or bs k d) ≡ 4096
+      deque_len (get_or bs k d) ≡ 2048
   full_before k d h = let l = gap_block (suc k) h in
       block_len k d (omega (arith, l)) ∙ row_before k (rows_of bs) h
 
@@ -284,7 +291,7 @@ module _ {Z : Type 0} (bs : List (VecDeque ℕ Z)) where
 
   -- the block after it has rooms, if there are enough
   pub some_behind : (k : ℕ) → HasGap k (rows_of bs) →
-      4096 * suc k ≤ length (concat (rows_of bs)) →
+      2048 * suc k ≤ length (concat (rows_of bs)) →
       (k + 1 < length bs) × ((d : VecDeque ℕ Z) → 0 < deque_len (get_or bs (k + 1) d))
   some_behind k h m =
       let next : suc k ≡ k + 1 = omega arith in
@@ -350,35 +357,35 @@ module _ {Z : Type 0} (bs : List (VecDeque ℕ Z)) where
 
   -- the block of a room
   pub block_of : (place : ℕ) → IsFilled (rows_of bs) → place < length (concat (rows_of bs)) →
-      place / 4096 < length bs
+      place / 2048 < length bs
   block_of place h l =
-      let f = found (place / 4096) (place % 4096) 0 (rows_of bs) h (omega arith)
+      let f = found (place / 2048) (place % 2048) 0 (rows_of bs) h (omega arith)
       (omega (arith, l)) in
       let n = length-map bs deque_items in omega (arith, f.0, n)
 
   -- the place of a room in its block
   pub stands : (place d : ℕ) (e : VecDeque ℕ Z) → IsFilled (rows_of bs) →
       place < length (concat (rows_of bs)) →
-      (place % 4096 < deque_len (get_or bs (place / 4096) e))
+      (place % 2048 < deque_len (get_or bs (place / 2048) e))
       × (get_or (concat (rows_of bs)) place d
-      ≡ get_or (get_or bs (place / 4096) e).items (place % 4096) d)
+      ≡ get_or (get_or bs (place / 2048) e).items (place % 2048) d)
   stands place d e h l =
-      let whole : place ≡ 4096 * (place / 4096) + place % 4096 = omega arith in
-      let f = found (place / 4096) (place % 4096) d (rows_of bs) h (omega arith)
+      let whole : place ≡ 2048 * (place / 2048) + place % 2048 = omega arith in
+      let f = found (place / 2048) (place % 2048) d (rows_of bs) h (omega arith)
       (omega (arith, l)) in
       let k = block_of place h l in
-      let m = block_len (place / 4096) e k in (
+      let m = block_len (place / 2048) e k in (
         omega (arith, f.1, m),
         ap (λ p. get_or (concat (rows_of bs)) p d) whole ∙ f.2
-            ∙ ap (λ r. get_or r (place % 4096) d) (row_at (place / 4096) e k),
+            ∙ ap (λ r. get_or r (place % 2048) d) (row_at (place / 2048) e k),
       )
 
   -- the block in which the rooms end has a free place
   pub free_behind : (len : ℕ) → IsFilled (rows_of bs) → len ≡ length (concat (rows_of bs)) →
-      len < 4096 * length bs → HasGap (len / 4096) (rows_of bs)
+      len < 2048 * length bs → HasGap (len / 2048) (rows_of bs)
   free_behind len h e l =
       let n = length-map bs deque_items in
-      opened (len / 4096) (rows_of bs) h (omega (arith, l, n)) (omega (arith, e))
+      opened (len / 2048) (rows_of bs) h (omega (arith, l, n)) (omega (arith, e))
       (omega (arith, e))
 
   one_row : (k : ℕ) (b : VecDeque ℕ Z) (r : List ℕ) → b.items ≡ r →
@@ -386,43 +393,43 @@ module _ {Z : Type 0} (bs : List (VecDeque ℕ Z)) where
   one_row k b r e = map-set deque_items bs k b ∙ ap (set (rows_of bs) k) e
 
   -- a room is inserted into a block with a free place
-  pub block_inserted : (place x : ℕ) (d b : VecDeque ℕ Z) → HasGap (place / 4096) (rows_of bs) →
+  pub block_inserted : (place x : ℕ) (d b : VecDeque ℕ Z) → HasGap (place / 2048) (rows_of bs) →
       place ≤ length (concat (rows_of bs)) →
-      b.items ≡ insert (get_or bs (place / 4096) d).items (place % 4096) x →
-      IsFilled (rows_of (set bs (place / 4096) b))
-      × (concat (rows_of (set bs (place / 4096) b)) ≡ insert (concat (rows_of bs)) place x)
+      b.items ≡ insert (get_or bs (place / 2048) d).items (place % 2048) x →
+      IsFilled (rows_of (set bs (place / 2048) b))
+      × (concat (rows_of (set bs (place / 2048) b)) ≡ insert (concat (rows_of bs)) place x)
   block_inserted place x d b h l e =
-      let k : ℕ = place / 4096 in
-      let whole : 4096 * (place / 4096) + place % 4096 ≡ place = omega arith in
-      let f = inserted k (place % 4096) x (rows_of bs) h (omega arith) (omega (arith, l)) in
-      let rows = one_row k b (insert (get_or (rows_of bs) k []) (place % 4096) x)
-      (e ∙ ap (λ r. insert r (place % 4096) x) (sym (row_at k d (gap_block k h)))) in
+      let k : ℕ = place / 2048 in
+      let whole : 2048 * (place / 2048) + place % 2048 ≡ place = omega arith in
+      let f = inserted k (place % 2048) x (rows_of bs) h (omega arith) (omega (arith, l)) in
+      let rows = one_row k b (insert (get_or (rows_of bs) k []) (place % 2048) x)
+      (e ∙ ap (λ r. insert r (place % 2048) x) (sym (row_at k d (gap_block k h)))) in
       subst (λ (rs : List (List ℕ)). IsFilled rs
       × (concat rs ≡ insert (concat (rows_of bs)) place x)) (sym rows)
       (f.1, f.2 ∙ ap (λ p. insert (concat (rows_of bs)) p x) whole)
 
   -- the place is within the block
-  pub place_inside : (place : ℕ) (d : VecDeque ℕ Z) → HasGap (place / 4096) (rows_of bs) →
+  pub place_inside : (place : ℕ) (d : VecDeque ℕ Z) → HasGap (place / 2048) (rows_of bs) →
       place ≤ length (concat (rows_of bs)) →
-      place % 4096 ≤ deque_len (get_or bs (place / 4096) d)
+      place % 2048 ≤ deque_len (get_or bs (place / 2048) d)
   place_inside place d h l =
-      let f = inserted (place / 4096) (place % 4096) 0 (rows_of bs) h (omega arith)
+      let f = inserted (place / 2048) (place % 2048) 0 (rows_of bs) h (omega arith)
       (omega (arith, l)) in
-      let n = block_len (place / 4096) d (gap_block (place / 4096) h) in omega (arith, f.0, n)
+      let n = block_len (place / 2048) d (gap_block (place / 2048) h) in omega (arith, f.0, n)
 
   -- a room is removed from a block
   pub block_removed : (place : ℕ) (d b : VecDeque ℕ Z) → IsFilled (rows_of bs) →
       place < length (concat (rows_of bs)) →
-      b.items ≡ remove (get_or bs (place / 4096) d).items (place % 4096) →
-      HasGap (place / 4096) (rows_of (set bs (place / 4096) b))
-      × (concat (rows_of (set bs (place / 4096) b)) ≡ remove (concat (rows_of bs)) place)
+      b.items ≡ remove (get_or bs (place / 2048) d).items (place % 2048) →
+      HasGap (place / 2048) (rows_of (set bs (place / 2048) b))
+      × (concat (rows_of (set bs (place / 2048) b)) ≡ remove (concat (rows_of bs)) place)
   block_removed place d b h l e =
-      let k : ℕ = place / 4096 in
-      let whole : 4096 * (place / 4096) + place % 4096 ≡ place = omega arith in
+      let k : ℕ = place / 2048 in
+      let whole : 2048 * (place / 2048) + place % 2048 ≡ place = omega arith in
       let within = block_of place h l in
-      let f = removed k (place % 4096) (rows_of bs) h (omega arith) (omega (arith, l)) in
-      let rows = one_row k b (remove (get_or (rows_of bs) k []) (place % 4096))
-      (e ∙ ap (λ r. remove r (place % 4096)) (sym (row_at k d within))) in
+      let f = removed k (place % 2048) (rows_of bs) h (omega arith) (omega (arith, l)) in
+      let rows = one_row k b (remove (get_or (rows_of bs) k []) (place % 2048))
+      (e ∙ ap (λ r. remove r (place % 2048)) (sym (row_at k d within))) in
       subst (λ (rs : List (List ℕ)). HasGap k rs
       × (concat rs ≡ remove (concat (rows_of bs)) place)) (sym rows)
       (f.0, f.1 ∙ ap (remove (concat (rows_of bs))) whole)
@@ -442,11 +449,11 @@ given {P = P} r x e p = subst (λ o. OnSome o P) e p
 
 -- no blocks
 pub none_filled : {Z : Type 0} (bs : List (VecDeque ℕ Z)) → bs ≡ [] →
-    AllByRecursion (λ b. 4096 ≤ deque_capacity b) bs × IsFilled (rows_of bs)
+    AllByRecursion (λ b. 2048 ≤ deque_capacity b) bs × IsFilled (rows_of bs)
     × (concat (rows_of bs) ≡ [])
 unfolding IsFilled
 none_filled {Z} bs e = subst (λ (l : List (VecDeque ℕ Z)).
-    AllByRecursion (λ b. 4096 ≤ deque_capacity b) l × IsFilled (rows_of l)
+    AllByRecursion (λ b. 2048 ≤ deque_capacity b) l × IsFilled (rows_of l)
     × (concat (rows_of l) ≡ [])) (sym e) (tt, tt, refl)
 
 -- one more block, which is empty
@@ -469,13 +476,13 @@ empty_more (c ∷ cs) b e h =
     )
 
 pub more_filled : {Z : Type 0} (bs : List (VecDeque ℕ Z)) (b : VecDeque ℕ Z)
-    (cs : List (VecDeque ℕ Z)) → cs ≡ bs ++ b ∷ [] → b.items ≡ [] → 4096 ≤ deque_capacity b →
-    AllByRecursion (λ b. 4096 ≤ deque_capacity b) bs → concat (rows_of bs) ≡ [] →
-    AllByRecursion (λ b. 4096 ≤ deque_capacity b) cs × IsFilled (rows_of cs)
+    (cs : List (VecDeque ℕ Z)) → cs ≡ bs ++ b ∷ [] → b.items ≡ [] → 2048 ≤ deque_capacity b →
+    AllByRecursion (λ b. 2048 ≤ deque_capacity b) bs → concat (rows_of bs) ≡ [] →
+    AllByRecursion (λ b. 2048 ≤ deque_capacity b) cs × IsFilled (rows_of cs)
     × (concat (rows_of cs) ≡ [])
 more_filled {Z} bs b cs e n m h z =
     let i = empty_more bs b n z in
     subst (λ (l : List (VecDeque ℕ Z)).
-    AllByRecursion (λ b. 4096 ≤ deque_capacity b) l × IsFilled (rows_of l)
+    AllByRecursion (λ b. 2048 ≤ deque_capacity b) l × IsFilled (rows_of l)
     × (concat (rows_of l) ≡ [])) (sym e)
-    (all_push (λ b. 4096 ≤ deque_capacity b) bs b m h, i.0, i.1)
+    (all_push (λ b. 2048 ≤ deque_capacity b) bs b m h, i.0, i.1)

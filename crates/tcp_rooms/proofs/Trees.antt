@@ -11,3 +11,8 @@ IsLesser nodes i =
 pub record IsTreeBut (rooms place : ℕ) (nodes : List ℕ) : Type 0 where
   pub size : length nodes ≡ 2 * rooms
   pub least : (i : ℕ) → 1 ≤ i → i < rooms → (i ≡ place / 2 → ⊥) → IsLesser nodes i
+
+-- a tree, apart from this node
+pub record IsTreeOver (rooms place : ℕ) (nodes : List ℕ) : Type 0 where
+  pub size : length nodes ≡ 2 * rooms
+  pub least : (i : ℕ) → 1 ≤ i → i < rooms → (i ≡ place → ⊥) → IsLesser nodes i

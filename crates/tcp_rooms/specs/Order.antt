@@ -16,24 +16,24 @@ rows_of blocks = map deque_items blocks
 
 -- there are few blocks, and each has memory for a full block of rooms
 pub record HaveMemory {Z : Type 0} (blocks : List (VecDeque ℕ Z)) : Type 0 where
-  pub few : length blocks ≤ 17
-  pub each : AllByRecursion (λ b. 4096 ≤ deque_capacity b) blocks
+  pub few : length blocks ≤ 513
+  pub each : AllByRecursion (λ b. 2048 ≤ deque_capacity b) blocks
 
 -- each row is full, apart from the last one that isn't empty
 unfoldable pub IsFilled : List (List ℕ) → Type 0
 IsFilled [] = Unit {0}
-IsFilled (r ∷ rs) = (length r ≤ 4096) × (length r < 4096 → concat rs ≡ []) × IsFilled rs
+IsFilled (r ∷ rs) = (length r ≤ 2048) × (length r < 2048 → concat rs ≡ []) × IsFilled rs
 
 -- the same, but one row has a free place
 unfoldable pub HasGap : ℕ → List (List ℕ) → Type 0
 HasGap k [] = ⊥
-HasGap zero (r ∷ rs) = (length r < 4096) × (suc (length r) < 4096 → concat rs ≡ []) × IsFilled rs
-HasGap (suc k) (r ∷ rs) = (length r ≡ 4096) × HasGap k rs
+HasGap zero (r ∷ rs) = (length r < 2048) × (suc (length r) < 2048 → concat rs ≡ []) × IsFilled rs
+HasGap (suc k) (r ∷ rs) = (length r ≡ 2048) × HasGap k rs
 
 abbrev pub order_of : Inside → OrderView
 order_of a = record {
   items = concat (rows_of a.blocks.items);
-  most = 4096 * length a.blocks.items;
+  most = 2048 * length a.blocks.items;
 }
 
 -- the blocks are filled, their rooms are counted, and they have memory

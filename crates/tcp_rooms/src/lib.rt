@@ -1,5 +1,5 @@
-//! Rooms for what is known of each connection: which room a key has, which rooms are free, when
-//! each was last used, and which has the least rank. All memory is allocated when they are made.
+//! Rooms for what is known: which room a key has, rooms in an order, which rooms are free, when each
+//! was last used, and which has the least rank. All memory is allocated when they are made.
 #![tactic(auto)]
 
 mod free_rooms;
@@ -9,6 +9,7 @@ mod room_table;
 mod stamps;
 
 pub use free_rooms::FreeRooms;
+pub use order::Order;
 pub use ranks::Ranks;
 pub use room_table::RoomTable;
 pub use stamps::Stamps;

@@ -1,7 +1,7 @@
 //! Rooms in an order, in memory that is allocated once. When a room comes or goes, few others are
 //! moved.
 
-ghost use Rattle.std.specs.Prelude.{◌≡◌, ◌≤◌, ◌<◌, ◌*◌, suc, [], IfOk, get_or, length};
+ghost use Rattle.std.specs.Prelude.{◌≡◌, ◌≤◌, ◌<◌, ◌*◌, ◌^◌, suc, [], IfOk, get_or, length};
 ghost use Rattle.std.specs.List.{insert, remove, concat};
 ghost use Rattle.tcp_rooms.specs.Order.{rows_of, HaveMemory, HasGap, IsFilled};
 
@@ -10,12 +10,12 @@ use std::collections::VecDeque;
 use std::marker::Model;
 
 /// How many rooms a block holds.
-const BLOCK: usize = 4096;
+const BLOCK: usize = 2048;
 
 /// Rooms in an order. Each block is full, apart from the last one that isn't empty.
 #[derive(Drop)]
-pub(crate) struct Order {
-    blocks: Vec<VecDeque<u16>>,
+pub struct Order {
+    blocks: Vec<VecDeque<u32>>,
     len: usize,
 }
 
@@ -32,8 +32,8 @@ impl Model for Order {
 impl Order {
     /// An order without rooms. There is memory for at least `most` rooms, and no other call
     /// allocates.
-    pub(crate) fn new(alloc: Global, most: usize) -> Result<Order, AllocError>
-        requires { most ≤ 65536 }
+    pub fn new(alloc: Global, most: usize) -> Result<Order, AllocError>
+        requires { most ≤ 1_048_832 }
         ensures items { IfOk result (λ o. o.items ≡ []) }
         ensures most { IfOk result (λ o. most ≤ o.most) }
     {
@@ -47,22 +47,23 @@ impl Order {
     }
 
     /// How many rooms there are.
-    pub(crate) fn len(&self) -> usize
-        ensures { result ≡ length self.now.items }
+    pub fn len(&self) -> usize
+        ensures items { result ≡ length self.now.items }
+        ensures small { result < 2 ^ 63 }
     {
         self.len
     }
 
     /// The room at a place.
-    pub(crate) fn at(&self, place: usize) -> u32
+    pub fn at(&self, place: usize) -> u32
         requires { place < length self.now.items }
         ensures { result ≡ get_or self.now.items place 0 }
     {
-        u32::from(self.blocks[place / BLOCK][place % BLOCK])
+        self.blocks[place / BLOCK][place % BLOCK]
     }
 
     /// Inserts a room at a place. The rooms from there on move one place on.
-    pub(crate) fn insert(&mut self, place: usize, room: u16)
+    pub fn insert(&mut self, place: usize, room: u32)
         requires place { place ≤ length self.old.items }
         requires some { length self.old.items < self.old.most }
         ensures items { self.new.items ≡ insert self.old.items place room }
@@ -73,7 +74,7 @@ impl Order {
     }
 
     /// Removes the room at a place. The rooms after it move one place back. Answers the room.
-    pub(crate) fn remove(&mut self, place: usize) -> u32
+    pub fn remove(&mut self, place: usize) -> u32
         requires { place < length self.old.items }
         ensures items { self.new.items ≡ remove self.old.items place }
         ensures room { result ≡ get_or self.old.items place 0 }
@@ -88,12 +89,12 @@ impl Order {
 
 /// Inserts a room at a place. The free place after the last room is moved to the block of that
 /// place.
-fn put_in(blocks: &mut [VecDeque<u16>], len: usize, place: usize, room: u16)
+fn put_in(blocks: &mut [VecDeque<u32>], len: usize, place: usize, room: u32)
     requires memory { HaveMemory blocks.old }
     requires filled { IsFilled (rows_of blocks.old) }
     requires len { len ≡ length (concat (rows_of blocks.old)) }
     requires place { place ≤ len }
-    requires some { len < 4096 * length blocks.old }
+    requires some { len < 2048 * length blocks.old }
     ensures memory { HaveMemory blocks.new }
     ensures filled { IsFilled (rows_of blocks.new) }
     ensures items { concat (rows_of blocks.new) ≡ insert (concat (rows_of blocks.old)) place room }
@@ -106,7 +107,7 @@ fn put_in(blocks: &mut [VecDeque<u16>], len: usize, place: usize, room: u16)
 }
 
 /// Removes the room at a place. The place that becomes free is moved to the end.
-fn take_out(blocks: &mut [VecDeque<u16>], len: usize, place: usize)
+fn take_out(blocks: &mut [VecDeque<u32>], len: usize, place: usize)
     requires memory { HaveMemory blocks.old }
     requires filled { IsFilled (rows_of blocks.old) }
     requires len { len ≡ length (concat (rows_of blocks.old)) }
@@ -122,7 +123,7 @@ fn take_out(blocks: &mut [VecDeque<u16>], len: usize, place: usize)
 }
 
 /// Moves a free place from one block to an earlier one.
-fn open_gap(blocks: &mut [VecDeque<u16>], from: usize, to: usize)
+fn open_gap(blocks: &mut [VecDeque<u32>], from: usize, to: usize)
     requires memory { HaveMemory blocks.old }
     requires gap { HasGap from (rows_of blocks.old) }
     requires order { to ≤ from }
@@ -139,11 +140,11 @@ fn open_gap(blocks: &mut [VecDeque<u16>], from: usize, to: usize)
 }
 
 /// Moves a free place from one block to a later one. The blocks before that one stay full.
-fn close_gap(blocks: &mut [VecDeque<u16>], from: usize, to: usize)
+fn close_gap(blocks: &mut [VecDeque<u32>], from: usize, to: usize)
     requires memory { HaveMemory blocks.old }
     requires gap { HasGap from (rows_of blocks.old) }
     requires order { from ≤ to }
-    requires many { 4096 * to ≤ length (concat (rows_of blocks.old)) }
+    requires many { 2048 * to ≤ length (concat (rows_of blocks.old)) }
     ensures memory { HaveMemory blocks.new }
     ensures gap { HasGap to (rows_of blocks.new) }
     ensures items { concat (rows_of blocks.new) ≡ concat (rows_of blocks.old) }
@@ -157,7 +158,7 @@ fn close_gap(blocks: &mut [VecDeque<u16>], from: usize, to: usize)
 }
 
 /// Moves the last room of a block to the front of the next block, which has a free place.
-fn pass_on(blocks: &mut [VecDeque<u16>], block: usize)
+fn pass_on(blocks: &mut [VecDeque<u32>], block: usize)
     requires memory { HaveMemory blocks.old }
     requires gap { HasGap (suc block) (rows_of blocks.old) }
     ensures memory { HaveMemory blocks.new }
@@ -171,10 +172,10 @@ fn pass_on(blocks: &mut [VecDeque<u16>], block: usize)
 }
 
 /// Moves the first room of the next block to the end of a block that has a free place.
-fn pass_back(blocks: &mut [VecDeque<u16>], block: usize)
+fn pass_back(blocks: &mut [VecDeque<u32>], block: usize)
     requires memory { HaveMemory blocks.old }
     requires gap { HasGap block (rows_of blocks.old) }
-    requires many { 4096 * suc block ≤ length (concat (rows_of blocks.old)) }
+    requires many { 2048 * suc block ≤ length (concat (rows_of blocks.old)) }
     ensures memory { HaveMemory blocks.new }
     ensures gap { HasGap (suc block) (rows_of blocks.new) }
     ensures items { concat (rows_of blocks.new) ≡ concat (rows_of blocks.old) }

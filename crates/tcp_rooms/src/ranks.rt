@@ -40,12 +40,12 @@ impl Ranks {
             (rank_at self.old.rooms self.old.nodes.items other) }
     {
         if (room as usize) < self.rooms {
-            put(
-                &mut self.nodes,
-                self.rooms,
-                self.rooms + room as usize,
-                rank,
-            );
+            let leaf = self.rooms + room as usize;
+            if rank < self.nodes[leaf] {
+                lower(&mut self.nodes, self.rooms, leaf, rank);
+            } else {
+                put(&mut self.nodes, self.rooms, leaf, rank);
+            }
         }
     }
 
@@ -95,5 +95,22 @@ fn put(nodes: &mut [u128], rooms: usize, leaf: usize, rank: u128)
             return;
         }
         nodes[node] = least;
+    }
+}
+
+/// Gives a leaf a lesser rank. Each node above it that has a greater one gets it too.
+fn lower(nodes: &mut [u128], rooms: usize, leaf: usize, rank: u128)
+    requires tree { IsTree rooms nodes.old }
+    requires leaf { (rooms ≤ leaf) × (leaf < 2 * rooms) }
+    requires most { rooms ≤ 131072 }
+    requires less { rank ≤ get_or nodes.old leaf 0 }
+    ensures tree { IsTree rooms nodes.new }
+    ensures leaves { AreLeaves rooms nodes.new (set nodes.old leaf rank) }
+{
+    nodes[leaf] = rank;
+    let mut node = leaf / 2;
+    while node > 0 && rank < nodes[node] {
+        nodes[node] = rank;
+        node /= 2;
     }
 }

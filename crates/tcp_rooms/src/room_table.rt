@@ -167,7 +167,7 @@ impl<K: Ord + Copy> RoomTable<K> {
         ensures most { self.new.most ≡ self.old.most }
     {
         self.last[room as usize] = Some(key);
-        self.order.insert(place, room as u16);
+        self.order.insert(place, room);
     }
 
     /// Forgets the key at a place, and keeps its memory. Answers the room that the key had.

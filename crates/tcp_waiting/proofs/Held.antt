@@ -1,5 +1,5 @@
 -- The payloads that wait, from where they are in the pool's memory.
-use Rattle.std.proofs.Common.{Result, Ok, Err, OnOk, OnErr, IsOk, is_ok, cond, ◌≡◌, ℕ, zero, suc, ◌+◌, ◌<◌, ◌≤◌, List, [], ◌∷◌, ◌++◌, length, get_or, map, refl, ap, sym, ◌∙◌, arith}
+use Rattle.std.proofs.Common.{Result, IsOk, is_ok, cond, ◌≡◌, ℕ, zero, suc, ◌+◌, ◌<◌, ◌≤◌, List, [], ◌∷◌, ◌++◌, length, get_or, map, refl, ap, sym, ◌∙◌, arith}
 use Rattle.std.specs.List.{AllByRecursion, insert, remove}
 use Rattle.std.proofs.lemmas.List.{length-map, get_or-map, take-append-le, length-take, length-drop}
 use Rattle.std.proofs.lemmas.Bool.{cond-true}
@@ -92,8 +92,3 @@ held_inserted all more ws i w h f c =
 pub ok_items : {U E X : Type 0} (r : Result U E) (xs a b : List X) → IsOk r →
     xs ≡ cond (is_ok r) a b → xs ≡ a
 ok_items r xs a b h e = e ∙ cond-true (is_ok r) a b h
-
--- what holds on Ok, if there is no cause of an Err
-pub ok_so : {U E : Type 0} (r : Result U E) (P Q : Type 0) → OnErr r P → (P → ⊥) → OnOk r Q → Q
-ok_so (Ok u) P Q e n q = q
-ok_so (Err u) P Q e n q = absurd (n e)

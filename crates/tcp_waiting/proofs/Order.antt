@@ -1,8 +1,8 @@
 -- The order of payloads, and what is found by it.
-use Rattle.std.proofs.Common.{◌≡◌, ℕ, zero, suc, ◌+◌, ◌%◌, ◌^◌, ◌<◌, ◌≤◌, Bool, true, false, cond, nat_eq, nat_lt, List, [], ◌∷◌, length, get_or, Option, Some, None, IfSome, refl, ap, ◌∙◌, arith, inl, inr}
+use Rattle.std.proofs.Common.{◌≡◌, ℕ, zero, suc, ◌+◌, ◌%◌, ◌^◌, ◌<◌, ◌≤◌, Bool, true, false, cond, nat_eq, nat_lt, List, [], ◌∷◌, length, get_or, Option, Some, None, IfSome, refl, sym, ap, ◌∙◌, arith, inl, inr}
 use Rattle.std.specs.List.{AllByRecursion, insert, remove}
 use Rattle.std.specs.Option.{option_map}
-use Rattle.std.proofs.lemmas.Bool.{eqb-true, eq-eqb, ltb-true, ltb-false, cases_lt, and_parts, both_ways}
+use Rattle.std.proofs.lemmas.Bool.{eqb-true, eq-eqb, ltb-true, ltb-false, lt-ltb, le-ltb, cases_lt, and_parts, both_ways}
 use Rattle.tcp_waiting.specs.Numbers.{rank}
 use Rattle.tcp_waiting.specs.Payload.{Payload, no_payload, key, key_of, place_of, earlier, first, has_as_much}
 use Rattle.tcp_waiting.specs.Layout.{IsSmall, AreSmall, AreOrdered, stands_at}
@@ -32,6 +32,16 @@ unfolding place_of
 place_below k [] i d l h = absurd (omega (arith, l))
 place_below k (p ∷ ps) zero d l h = grind (arith, h)
 place_below k (p ∷ ps) (suc i) d l h = grind (arith, place_below k ps i d (omega (arith, l)) h)
+
+-- a place is before that of a key if its payload has a lesser key
+pub before_is : (k : ℕ) (ps : List Payload) (i : ℕ) (d : Payload) → AreOrdered ps → i < length ps →
+    nat_lt (key_of (get_or ps i d)) k ≡ nat_lt i (place_of k ps)
+before_is k ps i d o l = elim (cases_lt (key_of (get_or ps i d)) k) [
+  | inl a ↦ lt-ltb (key_of (get_or ps i d)) k a ∙ sym (lt-ltb i (place_of k ps)
+      (place_above k ps i d o l a))
+  | inr b ↦ le-ltb (key_of (get_or ps i d)) k b ∙ sym (le-ltb i (place_of k ps)
+      (place_below k ps i d l b))
+]
 
 -- ---- The order.
 

@@ -1,7 +1,6 @@
 -- Payloads in an order: the order has an index for each, at which a slab has the payload (state).
-use Rattle.std.specs.Prelude.{ℕ, ◌≡◌, ◌≤◌, eqb, List, length, map, None, IsSome, unwrap_or}
+use Rattle.std.specs.Prelude.{ℕ, ◌≡◌, ◌≤◌, ◌<◌, ◌^◌, eqb, List, length, map, None, IsSome, unwrap_or}
 use Rattle.std.specs.List.{AllByRecursion, IsDistinct}
-use Rattle.std.specs.VecDeque.{deque_capacity}
 use Rattle.slab.specs.Slab.{Slab, get, slab_len}
 use Rattle.tcp_waiting.specs.declared.pool.Waiting.{Waiting}
 use Rattle.tcp_waiting.specs.declared.places.Places.TheInside.{Inside}
@@ -30,5 +29,6 @@ pub record IsTied (order : List ℕ) (slots : Slab Waiting) : Type 0 where
 
 pub record AreKept (a : Inside) : Type 0 where
   pub tied : IsTied a.order.items a.slots
-  pub order : a.room ≤ deque_capacity a.order
+  pub order : a.room ≤ a.order.most
   pub slots : a.room ≤ a.slots.capacity
+  pub small : a.slots.capacity < 2 ^ 32

@@ -1,5 +1,5 @@
-//! The payloads that wait, in order. When one comes or goes, only the indices of the others are
-//! moved, which have eight octets each.
+//! The payloads that wait, in order. When one comes or goes, only the rooms of few others are moved,
+//! which have four octets each.
 
 ghost use Rattle.std.specs.Prelude.{◌≡◌, ◌≤◌, ◌<◌, ◌^◌, [], length, get_or, set, IfOk};
 ghost use Rattle.std.specs.List.{insert, remove};
@@ -7,16 +7,16 @@ ghost use Rattle.std.specs.List.{insert, remove};
 use crate::pool::Waiting;
 use slab::Slab;
 use std::alloc::{AllocError, Global};
-use std::collections::VecDeque;
 use std::marker::Model;
+use tcp_rooms::Order;
 
 /// The payloads that wait, in order. All memory is allocated when it is made.
 #[derive(Drop)]
 pub(crate) struct Places {
     /// How many payloads may wait.
     room: usize,
-    /// The index in `slots` of the payload at each place.
-    order: VecDeque<usize>,
+    /// The room in `slots` of the payload at each place.
+    order: Order,
     slots: Slab<Waiting>,
 }
 
@@ -33,14 +33,17 @@ impl Model for Places {
 impl Places {
     /// An order without payloads. It has memory for `room` payloads.
     pub(crate) fn with_capacity(alloc: Global, room: usize) -> Result<Places, AllocError>
+        requires { room ≤ 1_048_832 }
         ensures empty { IfOk result (λ p. p.items ≡ []) }
         ensures room { IfOk result (λ p. p.room ≡ room) }
     {
-        Ok(Places {
-            room,
-            order: VecDeque::with_capacity(alloc, room)?,
-            slots: Slab::with_capacity(alloc, room)?,
-        })
+        let order = Order::new(alloc, room)?;
+        let slots = Slab::with_capacity(alloc, room)?;
+        // A slab promises no bound, and a room has to have 32 bits.
+        if slots.capacity() > u32::MAX as usize {
+            return Err(AllocError);
+        }
+        Ok(Places { room, order, slots })
     }
 
     /// How many payloads wait.
@@ -56,7 +59,7 @@ impl Places {
         requires { place < length self.now.items }
         ensures { result ≡ get_or self.now.items place result }
     {
-        self.slots[self.order[place]]
+        self.slots[self.order.at(place) as usize]
     }
 
     /// Inserts a payload before the one at a place, or at the end. There must be room.
@@ -67,8 +70,7 @@ impl Places {
         ensures room { self.new.room ≡ self.old.room }
     {
         let number = self.slots.insert_reserved(waiting);
-        // It can't fail: the order has had room since it was made.
-        let _noted = self.order.insert(place, number);
+        self.order.insert(place, number as u32);
     }
 
     /// Removes the payload at a place.
@@ -77,9 +79,8 @@ impl Places {
         ensures items { self.new.items ≡ remove self.old.items place }
         ensures room { self.new.room ≡ self.old.room }
     {
-        let number = self.order[place];
-        self.order.remove(place);
-        self.slots.try_remove(number);
+        let number = self.order.remove(place);
+        self.slots.try_remove(number as usize);
     }
 
     /// Replaces the payload at a place.
@@ -88,7 +89,7 @@ impl Places {
         ensures items { self.new.items ≡ set self.old.items place waiting }
         ensures room { self.new.room ≡ self.old.room }
     {
-        let number = self.order[place];
-        self.slots[number] = waiting;
+        let number = self.order.at(place);
+        self.slots[number as usize] = waiting;
     }
 }

@@ -10,6 +10,7 @@ use crate::arrival::Arrival;
 use crate::numbers::{ahead, is_to_come};
 use crate::places::Places;
 use std::alloc::{AllocError, Global};
+use std::cell::Cell;
 use std::marker::Model;
 use std::mem::swap;
 
@@ -49,6 +50,11 @@ pub struct Pool {
     nears: Vec<Option<Near>>,
     blocks: usize,
     used: usize,
+    /// Where the searches ended that were made last: for a payload, for the oldest number of a
+    /// flow, and for its least number.
+    last: Cell<usize>,
+    oldest: Cell<usize>,
+    least: Cell<usize>,
 }
 
 impl Model for Pool {
@@ -86,6 +92,9 @@ impl Pool {
             nears,
             blocks,
             used: 0,
+            last: Cell::new(0),
+            oldest: Cell::new(0),
+            least: Cell::new(0),
         })
     }
 
@@ -98,21 +107,64 @@ impl Pool {
     }
 
     /// The place of the first payload whose key is at least `wanted`, or the end if there is none.
-    fn place(&self, wanted: u128) -> usize
+    /// The search begins where the last one with this guess ended.
+    fn place(&self, guess: &Cell<usize>, wanted: u128) -> usize
         ensures place { result ≡ place_of wanted self.now.held }
     {
-        let mut low = 0;
-        let mut high = self.waiting.len();
+        let (low, high) = self.bounds(guess.get(), wanted);
+        let place = self.between(low, high, wanted);
+        guess.set(place);
+        place
+    }
+
+    /// Two bounds of the place of a key. They are the same if it is the guess or next to it.
+    #[inline]
+    fn bounds(&self, guess: usize, wanted: u128) -> (usize, usize)
+        ensures low { result.0 ≤ place_of wanted self.now.held }
+        ensures high { place_of wanted self.now.held ≤ result.1 }
+    {
+        let guess = guess.min(self.waiting.len());
+        if self.is_before(guess, wanted) {
+            if self.is_before(guess + 1, wanted) {
+                return (guess + 2, self.waiting.len());
+            }
+            return (guess + 1, guess + 1);
+        }
+        if guess == 0 || self.is_before(guess - 1, wanted) {
+            return (guess, guess);
+        }
+        (0, guess - 1)
+    }
+
+    /// The place of a key, between two bounds.
+    fn between(&self, low: usize, high: usize, wanted: u128) -> usize
+        requires low { low ≤ place_of wanted self.now.held }
+        requires high { place_of wanted self.now.held ≤ high }
+        ensures place { result ≡ place_of wanted self.now.held }
+    {
+        let mut low = low;
+        let mut high = high;
         while low < high {
             let middle = low + (high - low) / 2;
-            let here = self.waiting.at(middle);
-            if key(here.flow, here.number, here.count) < wanted {
+            if self.is_before(middle, wanted) {
                 low = middle + 1;
             } else {
                 high = middle;
             }
         }
         low
+    }
+
+    /// Whether a place is before that of a key.
+    #[inline]
+    fn is_before(&self, place: usize, wanted: u128) -> bool
+        ensures { result ≡ nat_lt place (place_of wanted self.now.held) }
+    {
+        if place >= self.waiting.len() {
+            return false;
+        }
+        let here = self.waiting.at(place);
+        key(here.flow, here.number, here.count) < wanted
     }
 
     /// Whether the payload at a place is one of this flow.
@@ -131,11 +183,11 @@ impl Pool {
         if self.holds_none(flow) {
             return None;
         }
-        let oldest = self.place(key(flow, next.wrapping_add(0x8000_0000), 0));
+        let oldest = self.place(&self.oldest, key(flow, next.wrapping_add(0x8000_0000), 0));
         if self.stands_at(oldest, flow) {
             return Some(oldest);
         }
-        let least = self.place(key(flow, 0, 0));
+        let least = self.place(&self.least, key(flow, 0, 0));
         if self.stands_at(least, flow) {
             return Some(least);
         }
@@ -214,7 +266,7 @@ impl Pool {
         if self.holds_none(flow) {
             return false;
         }
-        let place = self.place(key(flow, number, count));
+        let place = self.place(&self.last, key(flow, number, count));
         self.stands_at(place, flow) && self.waiting.at(place).number == number
     }
 
@@ -319,7 +371,7 @@ impl Pool {
                 count,
             })
         };
-        let place = self.place(key(flow, number, count));
+        let place = self.place(&self.last, key(flow, number, count));
         note(&mut self.nears, flow, near);
         make_room(
             &mut self.waiting,

@@ -16,7 +16,7 @@ insert-inserted-requires c =
 pub returns-clause-filled : goal.returns-clause-filled
 returns-clause-filled c =
     let e = ap length c.open_gap.ensures.items in
-    let free = room_here c.open_gap.new.blocks (c.args.place / 4096) c.index-blocks-block.result
+    let free = room_here c.open_gap.new.blocks (c.args.place / 2048) c.index-blocks-block.result
     c.open_gap.ensures.gap c.open_gap.ensures.memory in
     (block_inserted c.open_gap.new.blocks c.args.place c.args.room c.index-blocks-block.result
     c.insert-inserted.new.self c.open_gap.ensures.gap
@@ -27,7 +27,7 @@ returns-clause-filled c =
 pub returns-clause-items : goal.returns-clause-items
 returns-clause-items c =
     let e = ap length c.open_gap.ensures.items in
-    let free = room_here c.open_gap.new.blocks (c.args.place / 4096) c.index-blocks-block.result
+    let free = room_here c.open_gap.new.blocks (c.args.place / 2048) c.index-blocks-block.result
     c.open_gap.ensures.gap c.open_gap.ensures.memory in
     (block_inserted c.open_gap.new.blocks c.args.place c.args.room c.index-blocks-block.result
     c.insert-inserted.new.self c.open_gap.ensures.gap

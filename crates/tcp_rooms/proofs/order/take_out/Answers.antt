@@ -45,7 +45,7 @@ returns-clause-filled c =
     (omega (arith, c.requires.place, c.requires.len)) in
     let e = ap length r.1 in
     let f = ap length c.close_gap.ensures.items in
-    closed ((c.args.len - 1) / 4096) (rows_of c.close_gap.new.blocks) c.close_gap.ensures.gap
+    closed ((c.args.len - 1) / 2048) (rows_of c.close_gap.new.blocks) c.close_gap.ensures.gap
     (omega (arith, n, e, f, c.requires.len)) (omega (arith, n, e, f, c.requires.len))
 
 pub returns-clause-items : goal.returns-clause-items

@@ -1,14 +1,13 @@
-use Rattle.std.proofs.Common.{◌≡◌, ◌<◌, ℕ, length, get_or, Option, IsSome, OnSome, ap, subst, ◌∙◌, arith}
-use Rattle.std.specs.List.{remove}
-use Rattle.std.proofs.lemmas.List.{length-map, get_or_default}
+use Rattle.std.proofs.Common.{◌<◌, length, IsSome, ap, arith}
+use Rattle.std.proofs.lemmas.List.{length-map}
 use Rattle.slab.specs.Slab.{get}
 use Rattle.tcp_waiting.specs.Places.{PlacesView, waiting_under}
 use Rattle.tcp_waiting.proofs.Held.{all_at}
 use Rattle.tcp_waiting.proofs.Numbered.{IsTaken, is_taken, some_so}
 use Rattle.tcp_waiting.proofs.places.Places.remove.Goals as goal
 
-taken : (c : goal.After-try_remove) → IsTaken c.self.inside.order.items c.remove.new.self.items
-    c.self.inside.slots c.try_remove.new.self c.args.place
+taken : (c : goal.After-try_remove) → IsTaken c.self.inside.order.items
+    c.remove-number.new.self.items c.self.inside.slots c.try_remove.new.self c.args.place
 taken c =
     let a = c.self.inside in
     let within : c.args.place < length a.order.items =
@@ -18,24 +17,22 @@ taken c =
       ap (λ (v : PlacesView). length v.items) c.self.view_is,
       length-map a.order.items (waiting_under a.slots),
     ) in
-    let number : c.index-number.result.now ≡ get_or a.order.items c.args.place 0 =
-    c.index-number.ensures ∙ get_or_default a.order.items c.args.place _ 0 within in
-    let order : c.remove.new.self.items ≡ remove a.order.items c.args.place =
-    subst (λ (n : Option ℕ). OnSome n (c.remove.new.self.items ≡ remove a.order.items c.args.place))
-    (c.remove.ensures.succeeds 0 (omega (arith, within))) c.remove.ensures.items in
+    let number = c.remove-number.ensures.room in
     let there : IsSome c.try_remove.result =
     rw (c.try_remove.ensures.value, number)
     (all_at (λ n. IsSome (get a.slots n)) a.order.items c.args.place 0
     c.self.invariant.tied.held within) in
-    is_taken a.order.items c.remove.new.self.items a.slots c.try_remove.new.self c.args.place
-    c.self.invariant.tied within order (rw number at c.try_remove.ensures.updates)
+    is_taken a.order.items c.remove-number.new.self.items a.slots c.try_remove.new.self c.args.place
+    c.self.invariant.tied within c.remove-number.ensures.items
+    (rw number at c.try_remove.ensures.updates)
     (some_so c.try_remove.result _ there c.try_remove.ensures.len)
 
 pub invariant_of-self : goal.invariant_of-self
 invariant_of-self c = record {
   tied = (taken c).tied;
-  order = omega (arith, c.remove.ensures.capacity, c.self.invariant.order);
+  order = omega (arith, c.remove-number.ensures.most, c.self.invariant.order);
   slots = omega (arith, c.try_remove.ensures.capacity, c.self.invariant.slots);
+  small = omega (arith, c.try_remove.ensures.capacity, c.self.invariant.small);
 }
 
 pub returns-clause-items : goal.returns-clause-items

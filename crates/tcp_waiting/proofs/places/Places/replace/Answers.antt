@@ -1,12 +1,12 @@
-use Rattle.std.proofs.Common.{◌<◌, length, ap, ◌∙◌, arith}
-use Rattle.std.proofs.lemmas.List.{length-map, get_or_default}
+use Rattle.std.proofs.Common.{◌<◌, length, ap, arith}
+use Rattle.std.proofs.lemmas.List.{length-map}
 use Rattle.slab.specs.Slab.{with_value}
 use Rattle.tcp_waiting.specs.Places.{PlacesView, waiting_under}
 use Rattle.tcp_waiting.proofs.Numbered.{IsReplaced, is_replaced}
 use Rattle.tcp_waiting.proofs.places.Places.replace.Goals as goal
 
 replaced : (c : goal.After-self-1) → IsReplaced c.self.inside.order.items c.self.inside.slots
-    (with_value c.self.inside.slots c.index-number.result.now c.args.waiting) c.args.place
+    (with_value c.self.inside.slots c.at-number.result c.args.waiting) c.args.place
     c.args.waiting
 replaced c =
     let a = c.self.inside in
@@ -17,15 +17,16 @@ replaced c =
       ap (λ (v : PlacesView). length v.items) c.self.view_is,
       length-map a.order.items (waiting_under a.slots),
     ) in
-    is_replaced a.order.items a.slots c.args.place c.index-number.result.now c.args.waiting
+    is_replaced a.order.items a.slots c.args.place c.at-number.result c.args.waiting
     c.self.invariant.tied within
-    (c.index-number.ensures ∙ get_or_default a.order.items c.args.place _ 0 within)
+    c.at-number.ensures
 
 pub invariant_of-self : goal.invariant_of-self
 invariant_of-self c = record {
   tied = (replaced c).tied;
   order = c.self.invariant.order;
   slots = c.self.invariant.slots;
+  small = c.self.invariant.small;
 }
 
 pub returns-clause-items : goal.returns-clause-items
