@@ -88,7 +88,7 @@ then_part one more = record { octets = more.octets; lines = one.lines ++ more.li
 abbrev pub stays : EventKind → Bool
 stays Begins = true
 stays (Takes x) = true
-stays (Opens i) = false
+stays (Opens key) = false
 stays (Continues i) = true
 stays (Cancelled j) = false
 stays (Faults fault) = true
@@ -98,7 +98,7 @@ stays Closes = false
 abbrev pub goes : EventKind → Bool
 goes Begins = false
 goes (Takes x) = false
-goes (Opens i) = false
+goes (Opens key) = false
 goes (Continues i) = false
 goes (Cancelled j) = true
 goes (Faults fault) = false

@@ -27,8 +27,8 @@ abbrev pub opener_key : Option Open → Option MessageKey
 opener_key None = None
 opener_key (Some o) = Some o.opener
 
--- The owner of the next octet, if these messages are open. After the request id of a Fragment it is
--- the message that the Fragment continues.
+-- The owner of the next octet, if these messages are open. After a Fragment has its place among
+-- them, it is the message that the Fragment continues.
 unfoldable pub owner_of_next : List Open → Message → Option MessageKey
 owner_of_next still_open m = if has_named m then opener_key (opener_of still_open m) else Some
     (message_key m)

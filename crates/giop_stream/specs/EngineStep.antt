@@ -5,10 +5,11 @@ use Rattle.std.specs.List.{find}
 use Rattle.giop_cdr.specs.Numbers.{num}
 use Rattle.giop_print.specs.Lines.{unfinished_line, total_line}
 use Rattle.giop_stream.specs.Rules.{Rules}
-use Rattle.giop_message.specs.Headers.{order, size, is_fragment}
+use Rattle.giop_message.specs.Headers.{order, size}
+use Rattle.giop_stream.specs.Kinds.{is_old, is_any_fragment, named_at}
 use Rattle.giop_checkpoint.specs.declared.fault.StreamFault.{StreamFault}
 use Rattle.giop_stream.specs.declared.status.Totals.{Totals}
-use Rattle.giop_stream.specs.Events.{MessageKey, Event, Open, Now, events_with_id}
+use Rattle.giop_stream.specs.Events.{MessageKey, Event, Open, Now, open_under, events_with_key}
 use Rattle.giop_stream.specs.Lines.{Line, stop_line}
 use Rattle.giop_stream.specs.Stream.{fault_count, with_truncated}
 use Rattle.giop_stream.specs.Text.{truncated_line}
@@ -43,23 +44,25 @@ abbrev pub id_by : Now → Option (List ℕ) → ℕ
 id_by now None = 0
 id_by now (Some xs) = num (order now.subject.header) (xs ++ now.octet ∷ [])
 
-unfoldable pub id_of : State → Now → ℕ
-id_of s now = id_by now (s.tracked.known now.subject.number)
+unfoldable pub key_of : State → Now → Option ℕ
+key_of s now = if is_old now.subject.header then None else
+    Some (id_by now (s.tracked.known now.subject.number))
 
 -- the open message of this number
 abbrev pub numbered : List Open → Option MessageKey → Option Open
 numbered still_open None = None
 numbered still_open (Some w) = find (λ o. o.opener.number == w.number) still_open
 
--- at the last octet of a request id: the open message with that id; after it: the open message that
--- the octet belongs to
+-- at the octet with which the message has its place among the open ones: the open message with its
+-- key; after it: the open message that the octet belongs to
 unfoldable pub other_of : State → Now → Option Open
-other_of s now = if now.payload_count == 4 then find (λ o. o.id == id_of s now) s.tracked.still_open
+other_of s now = if now.payload_count == named_at now.subject.header
+    then open_under s.tracked.still_open (key_of s now)
     else numbered s.tracked.still_open s.owner
 
 unfoldable pub events_at : ℕ → State → Now → List Event
 events_at most s now =
-    events_with_id most s.tracked.still_open now (id_of s now) (other_of s now)
+    events_with_key most s.tracked.still_open now (key_of s now) (other_of s now)
 
 -- the header octets that are held after the octet
 abbrev pub held_for : Now → List ℕ
@@ -67,7 +70,8 @@ held_for now = if nat_lt now.payload_count (size now.subject.header) then now.su
 
 -- the owner of the next octets; `other` is the open message that a Fragment continues
 abbrev pub owner_for : Now → Option Open → Option MessageKey
-owner_for now other = if is_fragment now.subject.header && nat_le 4 now.payload_count then
+owner_for now other = if is_any_fragment now.subject.header
+    && nat_le (named_at now.subject.header) now.payload_count then
     opener_key other else Some now.subject
 
 unfoldable pub stepped : State → Now → Effect → Step
@@ -145,7 +149,7 @@ runs R s xs = record { state = run_state R s xs; lines = run R s xs }
 -- Fragment
 unfoldable pub left_current : Tracked → Option MessageKey → List ℕ
 left_current c None = []
-left_current c (Some w) = if is_open c.still_open w.number || is_fragment w.header then [] else
+left_current c (Some w) = if is_open c.still_open w.number || is_any_fragment w.header then [] else
     left_by w.number (c.known w.number)
 
 unfoldable pub left_over : State → List ℕ

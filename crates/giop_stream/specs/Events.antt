@@ -1,23 +1,23 @@
 -- The events of a stream: what each octet of each message does, and to which message (meaning).
 -- They determine the open messages, the octets of each joined message, and its lines (GIOP Message
 -- Formats, Fragment Message, CancelRequest Message).
-use Rattle.std.specs.Prelude.{ℕ, ◌+◌, ◌-◌, ◌<◌, Bool, true, false, not, ◌&&◌, ◌||◌, List, [], ◌∷◌, ◌++◌, length, get_or, take, filter, flat_map, Option, Some, None, nat_lt, nat_le, ◌==◌, if◌then◌else◌}
+use Rattle.std.specs.Prelude.{ℕ, ◌+◌, ◌-◌, ◌<◌, Bool, true, false, not, ◌&&◌, List, [], ◌∷◌, ◌++◌, length, get_or, take, filter, flat_map, Option, Some, None, nat_lt, nat_le, ◌==◌, if◌then◌else◌}
 use Rattle.std.specs.List.{find, AllByRecursion as Each}
 use Rattle.giop_cdr.specs.declared.order.Order.{Order}
 use Rattle.giop_cdr.specs.declared.order.Order.TheVariants.{Big, Little}
 use Rattle.giop_cdr.specs.Numbers.{num}
 use Rattle.giop_stream.specs.declared.fault.FramingFault.{FramingFault}
-use Rattle.giop_stream.specs.declared.fault.FramingFault.TheVariants.{Short, NoOpen, IdOpen, TooManyOpen, FragmentOrder}
+use Rattle.giop_stream.specs.declared.fault.FramingFault.TheVariants.{OldFragment, Short, NoOpen, IdOpen, TooManyOpen, FragmentOrder}
 use Rattle.giop_stream.specs.HeaderOctets.{fronts}
-use Rattle.giop_message.specs.Headers.{order, has_more, size, is_opener, is_fragment, is_cancel}
+use Rattle.giop_message.specs.Headers.{order, has_more, size, is_cancel}
 use Rattle.giop_stream.specs.Framing.{Message, with_payload, cut, messages}
-use Rattle.giop_stream.specs.Kinds.{may_be_cancelled, refused}
+use Rattle.giop_stream.specs.Kinds.{is_old, has_fragments, is_any_fragment, is_short, named_at, may_be_cancelled, refused}
 
 -- what an octet may do to a message
 pub data EventKind : Type 0 where
   Begins : EventKind  -- its header is complete
   Takes : ℕ → EventKind  -- the joined message gets this octet
-  Opens : ℕ → EventKind  -- it becomes open under this request id
+  Opens : Option ℕ → EventKind  -- it becomes open under this key
   Continues : ℕ → EventKind  -- it is a Fragment, and continues the message of this number
   Cancelled : ℕ → EventKind  -- the message of this number cancels it
   Faults : FramingFault → EventKind  -- it is faulted for its header, its request id or its size
@@ -33,9 +33,9 @@ pub record Event : Type 0 where
   pub subject : MessageKey
   pub what : EventKind
 
--- an open message and its request id
+-- An open message and its key: the request id by which its Fragments find it.
 pub record Open : Type 0 where
-  pub id : ℕ
+  pub key : Option ℕ
   pub opener : MessageKey
 
 abbrev pub message_key : Message → MessageKey
@@ -60,14 +60,15 @@ now_of m = record {
   octet = get_or m.payload (length m.payload - 1) 0;
 }
 
--- The functions from here to `events_with_id` give the events of an octet of a message. In them
--- `id` is the message's request id, and `other` is the message that was open under that id.
+-- The functions from here to `events_with_key` give the events of an octet of a message. In them
+-- `key` is the message's key, which is its request id, or none in 1.1; and `other` is the message
+-- that was open under that key.
 
 -- an event of the message itself
 unfoldable pub own : Now → EventKind → List Event
 own now what = record { place = now.place; subject = now.subject; what = what } ∷ []
 
--- an event of the open message that has the same request id
+-- an event of the open message that has the same key
 unfoldable pub event_of_open : Now → Option Open → EventKind → List Event
 event_of_open now None what = []
 event_of_open now (Some o) what = record { place = now.place; subject = o.opener; what = what } ∷ []
@@ -81,24 +82,28 @@ fault_events now (Some fault) = own now (Faults fault)
 unfoldable pub header_events : Now → List Event
 header_events now = own now Begins ++ fault_events now (refused now.subject.header)
 
--- ---- An octet of the payload. After the request id of a Fragment, its octets belong to the
--- message that it continues.
+-- ---- An octet of the payload. After a Fragment has its place among the open messages, its octets
+-- belong to the message that it continues.
 
 unfoldable pub payload_events : Now → Option Open → List Event
 payload_events now other =
-    if is_fragment now.subject.header && nat_lt 4 now.payload_count then event_of_open now other
-    (Takes now.octet) else own now (Takes now.octet)
+    if is_any_fragment now.subject.header
+    && nat_lt (named_at now.subject.header) now.payload_count
+    then event_of_open now other (Takes now.octet) else own now (Takes now.octet)
 
--- ---- The fourth octet of the payload, which completes the request id.
+-- ---- The octet with which a message has its place among the open messages: the fourth one of its
+-- payload, which completes the request id; or, in 1.1, the last one of its header.
 
--- the events at the request id of an opener, if this number of messages may be open at once
+-- the events of a message that Fragments continue, if this number of messages may be open at once
 
-abbrev pub opens : ℕ → List Open → Now → ℕ → Option Open → List Event
-opens most still_open now id (Some other) = own now (Faults IdOpen)
-opens most still_open now id None =
-    if nat_le most (length still_open) then own now (Faults TooManyOpen) else own now (Opens id)
+abbrev pub opens : ℕ → List Open → Now → Option ℕ → Option Open → List Event
+opens most still_open now None other = own now (Faults OldFragment)
+opens most still_open now (Some id) (Some other) = own now (Faults IdOpen)
+opens most still_open now (Some id) None =
+    if nat_le most (length still_open) then own now (Faults TooManyOpen)
+    else own now (Opens (Some id))
 
--- the events at the request id of a Fragment
+-- the events of a Fragment
 
 abbrev pub same_order : Order → Order → Bool
 same_order Big Big = true
@@ -110,21 +115,25 @@ abbrev pub order_fault : Now → Open → List Event
 order_fault now o = if same_order (order now.subject.header) (order o.opener.header) then [] else
     event_of_open now (Some o) (Faults FragmentOrder)
 
-abbrev pub continues : Now → Option Open → List Event
-continues now None = own now (Faults NoOpen)
-continues now (Some o) = own now (Continues o.opener.number) ++ order_fault now o
+abbrev pub unopened : Option ℕ → FramingFault
+unopened (Some id) = NoOpen
+unopened None = OldFragment
 
--- the events at the request id of a CancelRequest
+abbrev pub continues : Now → Option ℕ → Option Open → List Event
+continues now key None = own now (Faults (unopened key))
+continues now key (Some o) = own now (Continues o.opener.number) ++ order_fault now o
+
+-- the events of a CancelRequest
 
 abbrev pub cancels : Now → Option Open → List Event
 cancels now None = []
 cancels now (Some o) = if may_be_cancelled o.opener.header then event_of_open now (Some o)
     (Cancelled now.subject.number) else []
 
-unfoldable pub request_id_events : ℕ → List Open → Now → ℕ → Option Open → List Event
-request_id_events most still_open now id other =
-    if is_fragment now.subject.header then continues now other
-    else if is_opener now.subject.header then opens most still_open now id other
+unfoldable pub naming_events : ℕ → List Open → Now → Option ℕ → Option Open → List Event
+naming_events most still_open now key other =
+    if is_any_fragment now.subject.header then continues now key other
+    else if has_fragments now.subject.header then opens most still_open now key other
     else if is_cancel now.subject.header then cancels now other
     else []
 
@@ -132,19 +141,19 @@ request_id_events most still_open now id other =
 
 unfoldable pub message_end_events : Now → Option Open → List Event
 message_end_events now other =
-    if nat_lt (size now.subject.header) 4 &&
-    (is_opener now.subject.header || is_fragment now.subject.header) then own now (Faults Short)
-    else if is_opener now.subject.header then []
-    else if is_fragment now.subject.header then
+    if is_short now.subject.header then own now (Faults Short)
+    else if has_fragments now.subject.header then []
+    else if is_any_fragment now.subject.header then
     (if has_more now.subject.header then [] else event_of_open now other Closes)
     else own now Closes
 
 -- ---- All that one octet does.
 
-unfoldable pub events_with_id : ℕ → List Open → Now → ℕ → Option Open → List Event
-events_with_id most still_open now id other =
+unfoldable pub events_with_key : ℕ → List Open → Now → Option ℕ → Option Open → List Event
+events_with_key most still_open now key other =
     (if now.payload_count == 0 then header_events now else payload_events now other)
-    ++ ((if now.payload_count == 4 then request_id_events most still_open now id other else [])
+    ++ ((if now.payload_count == named_at now.subject.header
+    then naming_events most still_open now key other else [])
     ++ (if now.payload_count == size now.subject.header then message_end_events now other else []))
 
 -- ---- The same for a message at its last octet that has come, if these messages were open before
@@ -153,16 +162,29 @@ events_with_id most still_open now id other =
 unfoldable pub id : Message → ℕ
 id m = num (order m.header) (take 4 m.payload)
 
+unfoldable pub key : Message → Option ℕ
+key m = if is_old m.header then None else Some (id m)
+
+-- whether a key is this request id
+abbrev pub is_id : ℕ → Option ℕ → Bool
+is_id id None = false
+is_id id (Some key) = key == id
+
+-- the open message under a key; none is open without one
+abbrev pub open_under : List Open → Option ℕ → Option Open
+open_under still_open None = None
+open_under still_open (Some id) = find (λ o. is_id id o.key) still_open
+
 unfoldable pub opener_of : List Open → Message → Option Open
-opener_of still_open m = find (λ o. o.id == id m) still_open
+opener_of still_open m = open_under still_open (key m)
 
--- whether a message is a Fragment with a complete request id
+-- whether a message is a Fragment that has its place among the open messages
 unfoldable pub has_named : Message → Bool
-has_named m = is_fragment m.header && nat_le 4 (length m.payload)
+has_named m = is_any_fragment m.header && nat_le (named_at m.header) (length m.payload)
 
--- whether a message is a Fragment with octets after its request id
+-- whether a message is a Fragment with octets that belong to the message that it continues
 unfoldable pub goes_past : Message → Bool
-goes_past m = is_fragment m.header && nat_lt 4 (length m.payload)
+goes_past m = is_any_fragment m.header && nat_lt (named_at m.header) (length m.payload)
 
 abbrev pub events_at_header : Message → List Event
 events_at_header m = header_events (now_of m)
@@ -170,16 +192,16 @@ events_at_header m = header_events (now_of m)
 abbrev pub events_at_octet : List Open → Message → List Event
 events_at_octet still_open m = payload_events (now_of m) (opener_of still_open m)
 
-abbrev pub events_at_request_id : ℕ → List Open → Message → List Event
-events_at_request_id most still_open m =
-    request_id_events most still_open (now_of m) (id m) (opener_of still_open m)
+abbrev pub events_at_name : ℕ → List Open → Message → List Event
+events_at_name most still_open m =
+    naming_events most still_open (now_of m) (key m) (opener_of still_open m)
 
 abbrev pub events_at_end : List Open → Message → List Event
 events_at_end still_open m = message_end_events (now_of m) (opener_of still_open m)
 
 unfoldable pub events_of_octet : ℕ → List Open → Message → List Event
-unfolding events_with_id
-events_of_octet most still_open m = events_with_id most still_open (now_of m) (id m)
+unfolding events_with_key
+events_of_octet most still_open m = events_with_key most still_open (now_of m) (key m)
     (opener_of still_open m)
 
 -- all that the octets of m do, from the last octet of its header on
@@ -190,7 +212,7 @@ events_of most still_open m =
 -- ---- The open messages after an event, and after several events.
 
 unfoldable pub changed : List Open → MessageKey → EventKind → List Open
-changed still_open subject (Opens i) = still_open ++ record { id = i; opener = subject } ∷ []
+changed still_open subject (Opens key) = still_open ++ record { key = key; opener = subject } ∷ []
 changed still_open subject Closes = filter (λ o. not (o.opener.number == subject.number)) still_open
 changed still_open subject (Cancelled j) =
     filter (λ o. not (o.opener.number == subject.number)) still_open

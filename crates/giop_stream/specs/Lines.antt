@@ -75,7 +75,7 @@ lines_of_event R e so_far all (Takes x) =
     map (λ r. line e (Said r.line_class r.text))
     (filter (λ r. r.at == suc (length so_far))
     (R.reads unbroken e.subject.number e.subject.header all))
-lines_of_event R e so_far all (Opens id) = []
+lines_of_event R e so_far all (Opens key) = []
 lines_of_event R e so_far all (Continues i) = line e (ContinuesMessage i) ∷ []
 lines_of_event R e so_far all (Cancelled j) = line e (CancelledBy j) ∷ []
 lines_of_event R e so_far all (Faults fault) = line e (Faulted fault) ∷ []

@@ -1,27 +1,28 @@
 -- The owner of a payload's octets, and what the code knows of that message at one of them (state).
-use Rattle.std.specs.Prelude.{◌≡◌, ◌==◌, ◌<◌, ◌+◌, ◌-◌, ℕ, suc, true, List, [], ◌++◌, length, Option, Some, None, if◌then◌else◌}
+use Rattle.std.specs.Prelude.{◌≡◌, ◌==◌, ◌<◌, ◌+◌, ◌-◌, ℕ, suc, true, false, List, [], ◌++◌, length, Option, Some, None, if◌then◌else◌}
 use Rattle.std.specs.List.{AllByRecursion as Each}
 use Rattle.giop_sig.specs.Types.{Ty}
 use Rattle.giop_sig.specs.Table.{Table}
 use Rattle.giop_sig.specs.HeaderTypes.{BeginsWithId, header_type}
 use Rattle.giop_message.specs.Signatures.{Answers}
 use Rattle.giop_message.specs.ReaderOfTable.{message_reader}
-use Rattle.giop_message.specs.Headers.{minor, kind, size, is_fragment, has_name}
+use Rattle.giop_message.specs.Headers.{minor, kind, size, has_name}
+use Rattle.giop_stream.specs.Kinds.{is_old, is_any_fragment, named_at}
 use Rattle.giop_stream.specs.declared.slots.Slots.{Slots}
 use Rattle.giop_stream.specs.declared.current.Current.{Current}
 use Rattle.giop_stream.specs.Framing.{Message, with_payload}
-use Rattle.giop_stream.specs.Events.{MessageKey, Event, Open, Rising, id, message_key, place, opener_of, goes_past, events_at_request_id, events_at_end, events_of_octet}
+use Rattle.giop_stream.specs.Events.{MessageKey, Event, Open, Rising, id, message_key, place, opener_of, goes_past, events_at_name, events_at_end, events_of_octet}
 use Rattle.giop_stream.specs.Effects.{Effect, effects, then_effect, with_octet}
 use Rattle.giop_stream.specs.OpenSlots.{Tracked, IsNotOpen}
 use Rattle.giop_stream.specs.SlotsRepresent.{SlotsRepresent}
 use Rattle.giop_stream.specs.EngineState.{opener_key, owner_of_next}
 use Rattle.giop_stream.specs.PayloadRuns.{run_effect}
 
--- The owner of the next octet after the request id is complete. For a Fragment it is the message
--- that the Fragment continues.
-unfoldable pub owner_after_id : List Open → Message → Option MessageKey
-owner_after_id still_open m = if is_fragment m.header then opener_key (opener_of still_open m) else
-    Some (message_key m)
+-- The owner of the next octet after a message has its place among the open ones. For a Fragment it
+-- is the message that the Fragment continues.
+unfoldable pub owner_after_name : List Open → Message → Option MessageKey
+owner_after_name still_open m = if is_any_fragment m.header
+    then opener_key (opener_of still_open m) else Some (message_key m)
 
 -- the code knows this of a message, at its last octet that has come
 pub record IsCurrent (now : Current) (m : Message) : Type 0 where
@@ -41,6 +42,7 @@ pub record IsAtRequestId (C : Table) (l : Answers) (s : Slots) (c : Tracked) (m 
   pub keeps : SlotsRepresent C l s c (Some (message_key m))
   pub rising : Rising c.still_open
   pub current : IsCurrent now m
+  pub new : is_old m.header ≡ false
   pub id_is : has_name m.header ≡ true → id m ≡ i
   pub not_open : has_name m.header ≡ true → IsNotOpen m.number c.still_open
   pub alive : has_name m.header ≡ true → (xs : List ℕ) × (c.known m.number ≡ Some xs)
@@ -52,16 +54,16 @@ pub record IsAtOctet (C : Table) (l : Answers) (s : Slots) (c : Tracked) (m : Me
   pub rising : Rising c.still_open
   pub current : IsCurrent now m
 
--- ---- An octet that has come, part by part: its owner, its events at the request id, and its
--- events at the end.
+-- ---- An octet that has come, part by part: its owner, its events as its message has its place
+-- among the open ones, and its events at the end.
 
 unfoldable pub owner_of_octet : List Open → Message → Option MessageKey
 owner_of_octet still_open m = if goes_past m then opener_key (opener_of still_open m) else Some
     (message_key m)
 
-unfoldable pub id_events : ℕ → List Open → Message → List Event
-id_events most still_open m = if length m.payload == 4 then events_at_request_id most still_open m
-    else []
+unfoldable pub name_events : ℕ → List Open → Message → List Event
+name_events most still_open m = if length m.payload == named_at m.header
+    then events_at_name most still_open m else []
 
 unfoldable pub end_events : List Open → Message → List Event
 end_events still_open m = if length m.payload == size m.header then events_at_end still_open m else
@@ -83,8 +85,10 @@ pub record IsAfterTake (C : Table) (l : Answers) (s : Slots) (c : Tracked) (m : 
   pub rising : Rising c.still_open
   pub current : IsCurrent now m
   pub payload_count : length m.payload ≡ now.payload_count
-  pub newest : length m.payload ≡ 4 → IsNewest m.number c.still_open
-  pub alive : has_name m.header ≡ true → length m.payload ≡ 4 → c.known m.number ≡ Some m.payload
+  pub some : 0 < length m.payload
+  pub newest : length m.payload ≡ named_at m.header → IsNewest m.number c.still_open
+  pub alive : has_name m.header ≡ true → length m.payload ≡ named_at m.header →
+      c.known m.number ≡ Some m.payload
   pub says : has_name m.header ≡ true → SaysId m.header
 
 -- What is tracked before this octet of a message comes, and what the code knows of the message at
@@ -93,8 +97,9 @@ pub record IsBeforeOctet (c : Tracked) (m : Message) (now : Current) (x : ℕ) :
   pub rising : Rising c.still_open
   pub current : IsCurrent now (with_octet m x)
   pub payload_count : length m.payload + 1 ≡ now.payload_count
-  pub newest : length m.payload < 4 → IsNewest m.number c.still_open
-  pub alive : has_name m.header ≡ true → length m.payload < 4 → c.known m.number ≡ Some m.payload
+  pub newest : length m.payload < named_at m.header → IsNewest m.number c.still_open
+  pub alive : has_name m.header ≡ true → length m.payload < named_at m.header →
+      c.known m.number ≡ Some m.payload
   pub says : has_name m.header ≡ true → SaysId m.header
 
 -- what the octets `q` of a message do, which only add to its contents, if one more octet comes
@@ -132,3 +137,12 @@ pub record IsBeforeMessage (C : Table) (l : Answers) (s : Slots) (c : Tracked)
   pub payload_count : now.payload_count ≡ 0
   pub newest : IsNewest m.number c.still_open
   pub unknown : c.known m.number ≡ Some []
+
+-- The slots represent what is tracked after a message has begun, at the last octet of its header.
+pub record IsAtHeader (C : Table) (l : Answers) (s : Slots) (c : Tracked) (m : Message)
+    (now : Current) : Type 0 where
+  pub keeps : SlotsRepresent C l s c (Some (message_key m))
+  pub rising : Rising c.still_open
+  pub current : IsCurrent now m
+  pub none_come : m.payload ≡ []
+  pub not_open : IsNotOpen m.number c.still_open

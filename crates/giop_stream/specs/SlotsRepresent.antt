@@ -11,7 +11,7 @@ use Rattle.giop_stream.specs.declared.slots.Slot.{Slot as Contents}
 use Rattle.giop_stream.specs.declared.slots.Slots.{Slots}
 use Rattle.giop_stream.specs.declared.slots.PayloadOwner.{PayloadOwner}
 use Rattle.giop_stream.specs.declared.slots.PayloadOwner.TheVariants.{Current, Open}
-use Rattle.giop_stream.specs.Events.{MessageKey, Event, EventKind}
+use Rattle.giop_stream.specs.Events.{MessageKey}
 use Rattle.giop_stream.specs.Events as events
 use Rattle.giop_stream.specs.OpenSlots.{Slot, Tracked, slots_at, IsNotOpen}
 
@@ -65,7 +65,7 @@ pub record KeepsRoom (old new : Slots) : Type 0 where
 pub record IsSlot (C : Table) (l : Answers) (kept : OpenEntry) (slot : Slot) : Type 0 where
   pub number : kept.value.number ≡ slot.open_as.opener.number
   pub header : kept.value.header ≡ slot.open_as.opener.header
-  pub id : kept.key ≡ slot.open_as.id
+  pub key : slot.open_as.key ≡ Some kept.key
   pub message : RepresentsMessage C l kept.value.message slot.open_as.opener slot.octets
 
 abbrev pub AreSlots : Table → Answers → List OpenEntry → List Slot → Type 0

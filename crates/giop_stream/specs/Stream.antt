@@ -8,7 +8,7 @@ use Rattle.giop_stream.specs.Framing.{Message, Cut, cut, messages, read_of}
 use Rattle.giop_message.specs.MessageReader.{Value, Call, Rest, Fault, End}
 use Rattle.giop_stream.specs.Rules.{Rules}
 use Rattle.giop_print.specs.Lines.{unfinished_line, total_line}
-use Rattle.giop_message.specs.Headers.{is_fragment}
+use Rattle.giop_stream.specs.Kinds.{is_any_fragment}
 use Rattle.giop_stream.specs.Lines.{Content, Started, Said, ContinuesMessage, CancelledBy, Faulted, Stopped, Line, is_last_of, lines_of_messages, lines}
 use Rattle.giop_stream.specs.Text.{lines_text, truncated_line}
 
@@ -63,9 +63,9 @@ is_truncated c = is_inside c.current c.held c.stop
 unfoldable pub is_over : Rules → List ℕ → ℕ → Bool
 is_over R p i = list_any (is_last_of i) (lines_of_messages R p)
 
--- the numbers of the messages that aren't Fragments of GIOP 1.2
+-- the numbers of the messages that aren't Fragments
 unfoldable pub first_messages : List Message → List ℕ
-first_messages ms = map (λ m. m.number) (filter (λ m. not (is_fragment m.header)) ms)
+first_messages ms = map (λ m. m.number) (filter (λ m. not (is_any_fragment m.header)) ms)
 
 -- the numbers of those that have neither ended nor been faulted or cancelled
 unfoldable pub unfinished : Rules → List ℕ → List ℕ

@@ -1,14 +1,15 @@
 //! What an octet of a message does: it adds to a message, or opens, continues, cancels, faults or closes one.
 
-ghost use Rattle.std.specs.Prelude.{Option, List, [], ◌∷◌, ◌++◌, ◌≡◌, ◌+◌, ◌-◌, ◌<◌, ◌≤◌, ◌^◌, ℕ, suc, length, take, true, false, Some, None, OnOk, IfOk, if◌then◌else◌, slice_get};
+ghost use Rattle.std.specs.Prelude.{Option, List, [], ◌∷◌, ◌++◌, ◌≡◌, ◌==◌, ◌&&◌, not, ◌+◌, ◌-◌, ◌<◌, ◌≤◌, ◌^◌, ℕ, suc, length, take, true, false, Some, None, OnOk, IfOk, if◌then◌else◌, slice_get};
 ghost use Rattle.giop_sig.specs.Table.{Table};
 ghost use Rattle.giop_message.specs.Signatures.{Answers};
 ghost use Rattle.giop_message.specs.ReaderOfTable.{message_reader};
 ghost use Rattle.giop_message.specs.MessageState.{AreKnown};
 ghost use Rattle.giop_message.specs.Headers.{size, is_fragment, is_opener, is_cancel};
+ghost use Rattle.giop_stream.specs.Kinds.{is_old};
 ghost use Rattle.giop_stream.specs.Rules.{most_open};
 ghost use Rattle.giop_stream.specs.Framing.{Message, with_payload};
-ghost use Rattle.giop_stream.specs.Events.{MessageKey, Open, Rising, events_at_header, events_at_request_id, events_at_end, events_of_octet, message_key, opener_of};
+ghost use Rattle.giop_stream.specs.Events.{MessageKey, Open, Rising, events_at_header, events_at_name, events_at_end, events_of_octet, message_key, opener_of};
 ghost use Rattle.giop_stream.specs.Effects.{effects, with_octet};
 ghost use Rattle.giop_stream.specs.OpenSlots.{Tracked};
 ghost use Rattle.giop_stream.specs.SlotsRepresent.{SlotsRepresent, AreReady, KeepsRoom};
@@ -16,7 +17,7 @@ ghost use Rattle.giop_stream.specs.DoesEffect.{DoesEffect, one_if, never, all};
 ghost use Rattle.giop_stream.specs.HeaderEndsOfStream.{owner_header_ends};
 ghost use Rattle.giop_message.specs.HeaderEnds.{AgreesAtEnds, after_ends};
 ghost use Rattle.giop_message.specs.DueOctets.{TakesFront, StaysUndue};
-ghost use Rattle.giop_stream.specs.PayloadOwner.{IsAtRequestId, IsBeforeMessage, IsBeforeOctets, IsAfterTake, IsAtOctet, owner_after_id, owner_after, id_events, end_events, octets_effect};
+ghost use Rattle.giop_stream.specs.PayloadOwner.{IsAtRequestId, IsBeforeMessage, IsAtHeader, IsBeforeOctets, IsAfterTake, IsAtOctet, owner_after_name, owner_after, name_events, end_events, octets_effect};
 ghost use Rattle.giop_stream.specs.EngineState.{opener_key, owner_of_next};
 ghost use Rattle.giop_stream.specs.Continuation.{IsContinuing};
 ghost use Rattle.giop_stream.specs.Further.{further};
@@ -25,7 +26,8 @@ use crate::current::Current;
 use crate::fault::FramingFault;
 use crate::header::size_of;
 use crate::kinds::{
-    is_cancel, is_followed, is_fragment, is_opener, is_short, may_be_cancelled, refused, same_order,
+    is_cancel, is_followed, is_fragment, is_old, is_old_fragment, is_opener, is_short,
+    may_be_cancelled, refused, same_order,
 };
 use crate::lines::start_line;
 use crate::slots::Slots;
@@ -39,7 +41,7 @@ fn opens<O: Out>(slots: &mut Slots, now: Current, id: u32, out: &mut O) -> Resul
         IsAtRequestId C l slots.old c m now id →
         is_fragment m.header ≡ false → is_opener m.header ≡ true →
         DoesEffect C l one_if result (O.log out.old) (O.log out.new) slots.new
-        (effects (message_reader C l) c (events_at_request_id slots.old.slots.most c.still_open m))
+        (effects (message_reader C l) c (events_at_name slots.old.slots.most c.still_open m))
         (Some (message_key m)) }
     ensures room { KeepsRoom slots.old slots.new }
 {
@@ -59,7 +61,7 @@ fn cancels<O: Out>(slots: &mut Slots, now: Current, id: u32, out: &mut O) -> Res
         IsAtRequestId C l slots.old c m now id →
         is_fragment m.header ≡ false → is_opener m.header ≡ false → is_cancel m.header ≡ true →
         DoesEffect C l never result (O.log out.old) (O.log out.new) slots.new
-        (effects (message_reader C l) c (events_at_request_id slots.old.slots.most c.still_open m))
+        (effects (message_reader C l) c (events_at_name slots.old.slots.most c.still_open m))
         (Some (message_key m)) }
     ensures room { KeepsRoom slots.old slots.new }
 {
@@ -78,7 +80,7 @@ fn fault_unopened<O: Out>(slots: &mut Slots, now: Current, out: &mut O) -> Resul
         IsAtRequestId C l slots.old c m now id →
         is_fragment m.header ≡ true → opener_of c.still_open m ≡ None →
         DoesEffect C l one_if result (O.log out.old) (O.log out.new) slots.new
-        (effects (message_reader C l) c (events_at_request_id slots.old.slots.most c.still_open m))
+        (effects (message_reader C l) c (events_at_name slots.old.slots.most c.still_open m))
         None }
     ensures room { KeepsRoom slots.old slots.new }
 {
@@ -102,7 +104,7 @@ pub fn passes<O: Out>(
         is_fragment m.header ≡ true → opener_of c.still_open m ≡ Some o →
         slice_get c.still_open k ≡ Some o →
         DoesEffect C l one_if result (O.log out.old) (O.log out.new) slots.new
-        (effects (message_reader C l) c (events_at_request_id slots.old.slots.most c.still_open m))
+        (effects (message_reader C l) c (events_at_name slots.old.slots.most c.still_open m))
         (Some o.opener) }
     ensures room { KeepsRoom slots.old slots.new }
 {
@@ -126,7 +128,7 @@ fn continues<O: Out>(
     ensures does { (C : Table) (l : Answers) (c : Tracked) (m : Message) →
         IsAtRequestId C l slots.old c m now id → is_fragment m.header ≡ true →
         DoesEffect C l one_if result (O.log out.old) (O.log out.new) slots.new
-        (effects (message_reader C l) c (events_at_request_id slots.old.slots.most c.still_open m))
+        (effects (message_reader C l) c (events_at_name slots.old.slots.most c.still_open m))
         (opener_key (opener_of c.still_open m)) }
     ensures room { KeepsRoom slots.old slots.new }
 {
@@ -146,8 +148,8 @@ pub fn named<O: Out>(
     ensures does { (C : Table) (l : Answers) (c : Tracked) (m : Message) →
         IsAtRequestId C l slots.old c m now id →
         DoesEffect C l one_if result (O.log out.old) (O.log out.new) slots.new
-        (effects (message_reader C l) c (events_at_request_id slots.old.slots.most c.still_open m))
-        (owner_after_id c.still_open m) }
+        (effects (message_reader C l) c (events_at_name slots.old.slots.most c.still_open m))
+        (owner_after_name c.still_open m) }
     ensures room { KeepsRoom slots.old slots.new }
 {
     if is_fragment(&now.header) {
@@ -190,16 +192,23 @@ pub fn ends<O: Out>(
     slots.close(catalogue, now.place, out)
 }
 
+/// Whether an octet is the last one of a request id. A message of GIOP 1.1 that has its place at its header has none there.
+fn ends_request_id(now: Current) -> bool
+    ensures { result ≡ ((now.payload_count == 4) && not (is_old now.header)) }
+{
+    now.payload_count == 4 && !is_old(&now.header)
+}
+
 /// Does what an octet does if it is the last one of a request id. Returns whether a message is faulted.
 fn at_fourth_octet<O: Out>(slots: &mut Slots, now: Current, out: &mut O) -> Result<bool, OutFault>
     ensures does { (C : Table) (l : Answers) (c : Tracked) (m : Message) →
         IsAfterTake C l slots.old c m now →
         DoesEffect C l one_if result (O.log out.old) (O.log out.new) slots.new
-        (effects (message_reader C l) c (id_events slots.old.slots.most c.still_open m))
+        (effects (message_reader C l) c (name_events slots.old.slots.most c.still_open m))
         (owner_of_next c.still_open m) }
     ensures room { KeepsRoom slots.old slots.new }
 {
-    if now.payload_count == 4 {
+    if ends_request_id(now) {
         let id = slots.request_id();
         return named(slots, now, id, out);
     }
@@ -312,6 +321,27 @@ fn starts<O: Out>(
     }
 }
 
+/// Refuses a message of GIOP 1.1 that has fragments, or is one, at the last octet of its header.
+/// Returns whether it does.
+fn refuses_old<O: Out>(slots: &mut Slots, now: Current, out: &mut O) -> Result<bool, OutFault>
+    ensures does { (C : Table) (l : Answers) (c : Tracked) (m : Message) →
+        IsAtHeader C l slots.old c m now →
+        DoesEffect C l one_if result (O.log out.old) (O.log out.new) slots.new
+        (effects (message_reader C l) c (name_events slots.old.slots.most c.still_open m))
+        (owner_of_next c.still_open m) }
+    ensures room { KeepsRoom slots.old slots.new }
+{
+    if is_old_fragment(&now.header) {
+        let faulted = slots.fault_message(now.number, FramingFault::OldFragment, now.place, out);
+        slots.set_no_owner();
+        return faulted;
+    }
+    if is_old(&now.header) {
+        return slots.fault_message(now.number, FramingFault::OldFragment, now.place, out);
+    }
+    Ok(false)
+}
+
 /// Takes the last octet of a header. Returns how many messages it faults.
 pub fn header<O: Out>(
     slots: &mut Slots,
@@ -331,6 +361,7 @@ pub fn header<O: Out>(
     ensures most { slots.new.slots.most ≡ slots.old.slots.most }
 {
     let refused = starts(slots, catalogue, now, out)?;
+    let named = refuses_old(slots, now, out)?;
     let ended = at_last_octet(slots, catalogue, now, out)?;
-    Ok(fault_count(refused, ended, false))
+    Ok(fault_count(refused, named, ended))
 }

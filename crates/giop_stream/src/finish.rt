@@ -3,7 +3,7 @@
 ghost use Rattle.std.specs.Prelude.{◌≡◌, ◌++◌, [], Some, None, flat_map, nat_lt, if◌then◌else◌};
 
 use crate::framing::Framing;
-use crate::kinds::is_fragment;
+use crate::kinds::is_any_fragment;
 use crate::lines::truncated_line;
 use crate::status::{Status, Totals};
 use giop_print::{Out, OutFault, total_line, unfinished_line};
@@ -84,7 +84,7 @@ impl Framing {
         let Some(message) = self.slots.current() else {
             return Ok(());
         };
-        if is_fragment(&message.header()) {
+        if is_any_fragment(&message.header()) {
             return Ok(());
         }
         unfinished_line(out, message.number())

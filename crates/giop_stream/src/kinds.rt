@@ -3,7 +3,7 @@
 
 ghost use Rattle.std.specs.Prelude.{◌≡◌, length};
 ghost use Rattle.giop_message.specs.Headers.{may_be_fragmented, is_opener, is_fragment, is_cancel};
-ghost use Rattle.giop_stream.specs.Kinds.{may_be_cancelled, refused, is_short, is_followed};
+ghost use Rattle.giop_stream.specs.Kinds.{is_old_opener, is_old_fragment, is_old, is_any_fragment, may_be_cancelled, refused, is_short, is_followed};
 ghost use Rattle.giop_stream.specs.Events.{same_order};
 
 use crate::fault::FramingFault;
@@ -39,6 +39,42 @@ pub fn is_fragment(header: &[u8]) -> bool
     minor_of(header) == 2 && kind_of(header) == 7
 }
 
+/// Whether more fragments follow a Request or a Reply of GIOP 1.1.
+#[tactic(auto, unfolding(crate::specs::Kinds::is_old_opener))]
+pub fn is_old_opener(header: &[u8]) -> bool
+    requires { length header.now ≡ 12 }
+    ensures { result ≡ is_old_opener header.now }
+{
+    minor_of(header) == 1 && more_of(header) && kind_of(header) < 2
+}
+
+/// Whether a message is a Fragment of GIOP 1.1.
+#[tactic(auto, unfolding(crate::specs::Kinds::is_old_fragment))]
+pub fn is_old_fragment(header: &[u8]) -> bool
+    requires { length header.now ≡ 12 }
+    ensures { result ≡ is_old_fragment header.now }
+{
+    minor_of(header) == 1 && kind_of(header) == 7
+}
+
+/// Whether a message is one of these.
+#[tactic(auto, unfolding(crate::specs::Kinds::is_old))]
+pub fn is_old(header: &[u8]) -> bool
+    requires { length header.now ≡ 12 }
+    ensures { result ≡ is_old header.now }
+{
+    is_old_opener(header) || is_old_fragment(header)
+}
+
+/// Whether a message is a Fragment.
+#[tactic(auto, unfolding(crate::specs::Kinds::is_any_fragment))]
+pub fn is_any_fragment(header: &[u8]) -> bool
+    requires { length header.now ≡ 12 }
+    ensures { result ≡ is_any_fragment header.now }
+{
+    is_fragment(header) || is_old_fragment(header)
+}
+
 /// Whether a message is a CancelRequest.
 #[tactic(auto, unfolding(giop_message::specs::Headers::is_cancel))]
 pub fn is_cancel(header: &[u8]) -> bool
@@ -57,13 +93,13 @@ pub fn is_short(header: &[u8]) -> bool
     size_of(header) < 4 && (is_opener(header) || is_fragment(header))
 }
 
-/// Whether Fragments of GIOP 1.2 of the same joined message follow.
-#[tactic(auto, unfolding(crate::specs::Kinds::is_followed))]
+/// Whether Fragments of the same joined message follow.
+#[tactic(auto, unfolding(crate::specs::Kinds::is_followed, crate::specs::Kinds::has_fragments))]
 pub fn is_followed(header: &[u8]) -> bool
     requires { length header.now ≡ 12 }
     ensures { result ≡ is_followed header.now }
 {
-    is_opener(header) || (is_fragment(header) && more_of(header))
+    is_opener(header) || is_old_opener(header) || (is_any_fragment(header) && more_of(header))
 }
 
 /// Whether a CancelRequest may close a message.
@@ -81,11 +117,10 @@ pub fn refused(header: &[u8]) -> Option<FramingFault>
     requires { length header.now ≡ 12 }
     ensures { result ≡ refused header.now }
 {
-    let minor = minor_of(header);
-    let kind = kind_of(header);
+    let (minor, kind) = (minor_of(header), kind_of(header));
     if 7 < kind || (kind == 7 && minor == 0) {
         Some(FramingFault::MessageType)
-    } else if minor == 1 && (kind == 7 || (more_of(header) && may_be_fragmented(header))) {
+    } else if minor == 1 && more_of(header) && (kind == 3 || kind == 4) {
         Some(FramingFault::OldFragment)
     } else {
         None

@@ -1,6 +1,6 @@
 //! Laws of a stream whose messages are joined from their fragments. They hold for any reading of a single message.
 
-ghost use Rattle.std.specs.Prelude.{◌≡◌, ◌≤◌, ◌<◌, ◌==◌, ◌&&◌, ℕ, suc, List, [], ◌∷◌, ◌++◌, ◌*◌, length, filter, true, Some, None, slice_get, slice_set};
+ghost use Rattle.std.specs.Prelude.{◌≡◌, ◌≤◌, ◌<◌, ◌==◌, ◌&&◌, ℕ, suc, List, [], ◌∷◌, ◌++◌, ◌*◌, length, filter, true, Option, Some, None, slice_get, slice_set};
 ghost use Rattle.std.specs.List.{remove};
 ghost use Rattle.giop_checkpoint.specs.declared.fault.StreamFault.{StreamFault};
 ghost use Rattle.giop_message.specs.MessageReader.{MessageReader, IsCausal, IsEnding, IsStreamable};
@@ -50,9 +50,9 @@ pub fn each_slot()
         goes e.what ≡ true → IsNotOpen e.subject.number c.still_open →
         slots_at (tracked_at R c e) ≡ slots_at c }
     // A message that becomes open gets the last slot.
-    ensures opens { (R : MessageReader) (c : Tracked) (e : Event) (i : ℕ) →
-        e.what ≡ Opens i → IsNotOpen e.subject.number c.still_open →
-        (let o : Open = record { id = i; opener = e.subject } in
+    ensures opens { (R : MessageReader) (c : Tracked) (e : Event) (k : Option ℕ) →
+        e.what ≡ Opens k → IsNotOpen e.subject.number c.still_open →
+        (let o : Open = record { key = k; opener = e.subject } in
         slots_at (tracked_at R c e)
         ≡ slots_at c ++ record { open_as = o; octets = c.known e.subject.number } ∷ []) }
     // A Fragment that continues a message changes nothing.

@@ -313,7 +313,7 @@ impl Slots {
         ensures kept { (C : Table) (l : Answers) (c : Tracked) (w : MessageKey) (place : ℕ) →
             SlotsRepresent C l self.old c (Some w) → IsNotOpen w.number c.still_open →
             w.number ≡ number → w.header ≡ header →
-            SlotsRepresent C l self.new (effect_to C l place c (Some w) (Opens id)).tracked
+            SlotsRepresent C l self.new (effect_to C l place c (Some w) (Opens (Some id))).tracked
             (Some w) }
         ensures room { KeepsRoom self.old self.new }
     {

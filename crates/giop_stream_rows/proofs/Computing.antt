@@ -24,8 +24,8 @@ use Rattle.giop_message.specs.ReaderOfTable.{line_class_of, text_of, remarks_by,
 use Rattle.giop_sig.specs.Interfaces.{longest_front}
 use Rattle.giop_stream.specs.HeaderOctets.{fronts, wrong, first_wrong, first_wrong_octet}
 use Rattle.giop_stream.specs.Framing.{with_first, cut_from, limit, limited, cut, messages, read_of}
-use Rattle.giop_stream.specs.Kinds.{may_be_cancelled, refused}
-use Rattle.giop_stream.specs.Events.{place, own, event_of_open, id, opener_of, has_named, goes_past, events_of_octet, events_of, changed, opened, events_from, events, open_after, octet, joined, header_events, payload_events, request_id_events, message_end_events}
+use Rattle.giop_stream.specs.Kinds.{is_old_opener, is_old_fragment, is_old, has_fragments, is_any_fragment, named_at, is_short, may_be_cancelled, refused}
+use Rattle.giop_stream.specs.Events.{place, own, event_of_open, id, key, opener_of, has_named, goes_past, events_of_octet, events_of, changed, opened, events_from, events, open_after, octet, joined, header_events, payload_events, naming_events, message_end_events}
 use Rattle.giop_stream.specs.Lines.{classes, line, lines_of_event, lines_of_events, by_class, in_order, is_last_of, up_to_last_line, lines_of_messages, stop_line, lines}
 use Rattle.giop_stream.specs.Text.{start_line, lines_text}
 use Rattle.giop_stream.specs.Stream.{text, start_count, fault_count, tally, is_inside, is_truncated, is_over, first_messages, unfinished, final, closing}
@@ -58,8 +58,9 @@ unfoldable pub a_stream : ℕ
 unfolding type_word print.start_line continues_line cancelled_line fault_line stream_fault_line
     unfinished_line total_line fronts wrong first_wrong first_wrong_octet has_more size with_first
     cut_from limit limited cut messages read_of start_line numbered_line is_inside is_truncated
-    may_be_fragmented is_opener is_fragment is_cancel may_be_cancelled refused place own
-    event_of_open id opener_of has_named goes_past header_events payload_events request_id_events
+    may_be_fragmented is_opener is_fragment is_cancel is_old_opener is_old_fragment is_old
+    has_fragments is_any_fragment named_at is_short may_be_cancelled refused place own
+    event_of_open id key opener_of has_named goes_past header_events payload_events naming_events
     message_end_events events_of_octet events_of changed opened events_from events open_after octet
     joined classes line lines_of_event lines_of_events by_class in_order is_last_of up_to_last_line
     lines_of_messages stop_line lines lines_text text start_count fault_count tally is_over

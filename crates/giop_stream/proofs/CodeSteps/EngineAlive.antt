@@ -13,6 +13,7 @@ use Rattle.giop_stream.specs.Effects.{Effect, octets_then, effects, one_effect, 
 use Rattle.giop_stream.specs.Octet.{Octet, AfterStop, Ends, Held, Of, octet_of}
 use Rattle.giop_stream.proofs.Lists.{by_growth}
 use Rattle.giop_stream.proofs.Cuts.Cutting.{stopped_at, of_parts}
+use Rattle.giop_stream.proofs.Events.MessageKinds.{named_by_four}
 use Rattle.giop_stream.proofs.Events.EventsKeep.{IsFew}
 use Rattle.giop_stream.proofs.Cuts.Start.{sound_start}
 use Rattle.giop_stream.proofs.SlotSteps.OneSlotChanges.{own_then}
@@ -47,7 +48,8 @@ module _ (R : Rules) (laws : IsStreamable R.reading) (p : List ℕ) (x : ℕ) (s
       let stepped : effects R.reading (tracked_after R p)
       (events_of_octet R.most (open_after R.most p) m) ≡
       record { tracked = tracked_after R p; lines = starts m ∷ [] } =
-      rw (first_octet R.most (open_after R.most p) m free some)
+      rw (first_octet R.most (open_after R.most p) m free
+      (omega (arith, named_by_four m.header name)) some)
       (header_begins R.reading (tracked_after R p) m [] (known_is R p m.number ∙ known)
       (named_accepted m.header name)) in
       ap (λ (q : Effect). q.tracked.known m.number) stepped
@@ -63,6 +65,7 @@ module _ (R : Rules) (laws : IsStreamable R.reading) (p : List ℕ) (x : ℕ) (s
       next was cur name few lacks =
           let m = with_octet was x in
           let long = length_push was.payload x in
+          let four = named_by_four was.header name in
           let known : octets_of R p was.number ≡ Some was.payload =
           alive st was cur name (omega (arith, few, long)) in
           let last : get_or m.payload (length m.payload - 1) 0 ≡ x =
@@ -72,9 +75,14 @@ module _ (R : Rules) (laws : IsStreamable R.reading) (p : List ℕ) (x : ℕ) (s
           (events_of_octet R.most (open_after R.most p) m)
           ≡ one_effect R.reading (tracked_after R p) (place m) (message_key was) (Takes x) =
           rw (
-            early_octet R.most (open_after R.most p) m (omega (arith, long)) few lacks,
+            early_octet R.most (open_after R.most p) m (omega (arith, long)) (omega (
+              arith,
+              few,
+              four,
+            ))
+                lacks,
             octet_own R.reading (tracked_after R p) (open_after R.most p) m
-                (not_past m (omega (arith, few))),
+                (not_past m (omega (arith, few, four))),
             last,
           ) refl in
           ap (λ (q : Effect). q.tracked.known was.number) stepped

@@ -3,29 +3,31 @@
 use Rattle.std.proofs.Common.{◌≡◌, ℕ, suc, ◌+◌, ◌<◌, true, List, [], ◌∷◌, ◌++◌, length, refl, sym, ap, subst, ◌∙◌, None, arith}
 use Rattle.std.proofs.lemmas.Bool.{cases_lt, cases_eq, lt-ltb, le-ltb, eq-eqb, leb-true, and_parts}
 use Rattle.std.proofs.lemmas.List.{length_push}
-use Rattle.giop_message.specs.Headers.{size, has_name}
+use Rattle.giop_message.specs.Headers.{size}
+use Rattle.giop_stream.specs.Kinds.{has_place, named_at}
 use Rattle.giop_message.specs.MessageReader.{IsCausal, IsStreamable}
 use Rattle.giop_stream.specs.declared.status.Totals.{Totals}
 use Rattle.giop_stream.specs.Rules.{Rules}
 use Rattle.giop_stream.specs.Framing.{Message, cut, messages, read_of}
-use Rattle.giop_stream.specs.Events.{id, place, opener_of, has_named, events_of_octet, open_after, Now, now_of}
+use Rattle.giop_stream.specs.Events.{key, place, opener_of, has_named, events_of_octet, open_after, Now, now_of}
 use Rattle.giop_stream.specs.Lines.{Line, lines}
 use Rattle.giop_stream.specs.Stream.{fault_count, tally}
 use Rattle.giop_stream.specs.OpenSlots.{tracked_after}
 use Rattle.giop_stream.specs.Effects.{Effect, effects}
 use Rattle.giop_stream.specs.Octet.{Octet, AfterStop, Ends, Held, Of}
 use Rattle.giop_stream.specs.EngineState.{State, owner_of_next, state_of}
-use Rattle.giop_stream.specs.EngineStep.{id_of, other_of, events_at, owner_for, stepped, step_by, step}
+use Rattle.giop_stream.specs.EngineStep.{key_of, other_of, events_at, owner_for, stepped, step_by, step}
 use Rattle.giop_stream.proofs.Cuts.Cutting.{settled_messages, settle_stop}
 use Rattle.giop_stream.proofs.Cuts.CutFrom.{end_message}
+use Rattle.giop_stream.proofs.Events.MessageKinds.{any_placed}
 use Rattle.giop_stream.proofs.Events.EventsOfOctet.{quiet_one}
 use Rattle.giop_stream.proofs.Events.AfterMoreEvents.{count_append}
 use Rattle.giop_stream.proofs.Events.Soundness.{IsSound}
 use Rattle.giop_stream.proofs.StreamLines.IdBeforeEnd.{IsAlive}
-use Rattle.giop_stream.proofs.Events.EventsByEngine.{events_with_id_agree}
+use Rattle.giop_stream.proofs.Events.EventsByEngine.{events_with_key_agree}
 use Rattle.giop_stream.proofs.SlotSteps.Parts.{effects_still_open}
 use Rattle.giop_stream.proofs.CodeSteps.OneOctet.{Adds, IsOf, Then, then_is}
-use Rattle.giop_stream.proofs.CodeSteps.NextOctet.{shape, state_is, tally_by, octet_is, Steps, behind_steps, ends_steps, held_steps, Shows, shows, fragment_named}
+use Rattle.giop_stream.proofs.CodeSteps.NextOctet.{shape, state_is, tally_by, octet_is, Steps, behind_steps, ends_steps, held_steps, Shows, shows}
 
 -- ---- The state after an octet of a message.
 
@@ -39,20 +41,20 @@ module _ (R : Rules) (p : List ℕ) (m : Message) (shows : Shows R p m) where
   effect : Effect
   effect = effects R.reading (tracked_after R p) (events_of_octet R.most (open_after R.most p) m)
 
-  same_name : length m.payload ≡ 4 → has_name m.header ≡ true →
+  same_name : length m.payload ≡ named_at m.header → has_place m.header ≡ true →
       other_of s now ≡ opener_of (open_after R.most p) m
   unfolding s now other_of opener_of state_of tracked_after
-  same_name four name = search (arith, eq-eqb, shows)
+  same_name named place = search (arith, eq-eqb, shows)
 
   effect_same : effects R.reading s.tracked (events_at R.most s now) ≡ effect
   unfolding s now effect events_at events_of_octet state_of tracked_after
   effect_same =
       ap (effects R.reading (tracked_after R p))
-      (events_with_id_agree R.most (open_after R.most p) (now_of m) (id_of s now) (id m)
+      (events_with_key_agree R.most (open_after R.most p) (now_of m) (key_of s now) (key m)
       (other_of s now) (opener_of (open_after R.most p) m)
-      (λ four name. (shows.name_is four name, same_name four name)) shows.past_is)
+      (λ named place. (shows.name_is named place, same_name named place)) shows.past_is)
 
-  -- after a Fragment's request id: the message that the Fragment continues
+  -- after a Fragment has its place: the message that the Fragment continues
   named_same : has_named m ≡ true → length m.payload < size m.header →
       opener_of effect.tracked.still_open m ≡ other_of s now
   unfolding effect now tracked_after s has_named
@@ -64,7 +66,7 @@ module _ (R : Rules) (p : List ℕ) (m : Message) (shows : Shows R p m) where
     quiet_one,
     cases_eq,
     same_name,
-    fragment_named,
+    any_placed,
     shows,
   )
 

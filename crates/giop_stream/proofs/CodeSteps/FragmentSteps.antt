@@ -21,7 +21,7 @@ use Rattle.giop_stream.specs.declared.fragment.Continuation.{Continuation}
 use Rattle.giop_stream.specs.HeaderOctets.{wrong}
 use Rattle.giop_stream.specs.Rules.{Rules, rules_by}
 use Rattle.giop_stream.specs.Framing.{Message, with_payload, limit, cut, messages}
-use Rattle.giop_stream.specs.Kinds.{refused}
+use Rattle.giop_stream.specs.Kinds.{named_at, refused}
 use Rattle.giop_stream.specs.Events.{Takes, MessageKey, Open, changed, message_key, id, events_at_header, events_of_octet, open_after}
 use Rattle.giop_stream.specs.Lines.{Line, lines}
 use Rattle.giop_stream.specs.Text.{lines_text}
@@ -57,6 +57,7 @@ use Rattle.giop_stream.proofs.SlotSteps.ReadingEffects.{reader_lines, take_lines
 use Rattle.giop_stream.proofs.SlotSteps.RequestIds.{fragment_says}
 use Rattle.giop_stream.proofs.CodeSteps.EngineAlive.{sound, alive}
 use Rattle.giop_stream.proofs.CodeSteps.HeaderEndSteps.{AreUntold, at_none, run_from}
+use Rattle.giop_stream.proofs.Events.MessageKinds.{named_within, fragment_not_old, fragment_four}
 use Rattle.giop_stream.proofs.CodeSteps.MessageEnds.{goes_on}
 use Rattle.giop_stream.proofs.CodeSteps.MessageOctets.{does_run, runs_on, all_read, header_at, no_current, knows_at, messages_at, faults_at, settled_shows}
 use Rattle.giop_stream.proofs.CodeSteps.OneOctet.{Adds, beginner, begins_is, paid_is}
@@ -173,7 +174,7 @@ module _ (C : Table) (l : Answers) (most : ℕ) (p : List ℕ) (x : ℕ) (q : Li
   begun_is : begun ≡ record { tracked = c₀; lines = starts first ∷ [] }
   unfolding tracked_after end_events
   begun_is =
-      in_two R c₀ first refl
+      in_two R c₀ first refl (fragment_not_old header fragment)
       ∙ (ap (λ (b : Effect). then_effect b (effects R.reading b.tracked
       (end_events b.tracked.still_open first))) header_is
       ∙ ap (then_effect (record { tracked = c₀; lines = starts first ∷ [] }))
@@ -217,7 +218,7 @@ module _ (C : Table) (l : Answers) (most : ℕ) (p : List ℕ) (x : ℕ) (q : Li
   m₄ = with_payload first q
 
   own : owner_of_next (open_after most p₁) first ≡ Some (message_key first)
-  own = search (arith, owner_early)
+  own = search (arith, owner_early, fragment_four)
 
   quiet : IsQuietRun c₀ (run_effect C l (length p₁) c₀ (Some (message_key first)) q)
   unfolding tracked_after
@@ -256,10 +257,11 @@ module _ (C : Table) (l : Answers) (most : ℕ) (p : List ℕ) (x : ℕ) (q : Li
       place = omega (arith, place_more m₄ d (length p₄) fits.place_is, many, place_is);
     };
     payload_count = omega (arith, three, payload_count);
-    newest = if_some (λ m. length m.payload < 4 → IsNewest m.number (open_after most p₄))
+    newest = if_some (λ m. length m.payload < named_at m.header →
+        IsNewest m.number (open_after most p₄))
         (cut p₄).current m₄ run.within.current (so₄.early run.within.free);
     alive = λ name less. alive R causal (in_turn C l) p₄ run.within.free m₄ run.within.current name
-        less;
+        (omega (arith, less, named_within header));
     says = λ name. fragment_says header fragment;
   }
 

@@ -1,30 +1,32 @@
 -- The state of a stream, part by part. It says what the next octet is, and which events that octet
 -- has.
-use Rattle.std.proofs.Common.{inl, inr, ◌⊎◌, ◌≡◌, ℕ, suc, ◌-◌, ◌<◌, ◌≤◌, true, List, [], ◌∷◌, ◌++◌, length, get_or, take, refl, ap, ◌∙◌, Option, Some, None, arith}
-use Rattle.std.specs.Prelude.{◌==◌, IfSome}
+use Rattle.std.proofs.Common.{inl, inr, ◌⊎◌, ◌≡◌, ℕ, suc, ◌-◌, ◌<◌, ◌≤◌, true, List, [], ◌∷◌, ◌++◌, length, get_or, refl, ap, ◌∙◌, Option, Some, None, arith}
+use Rattle.std.specs.Prelude.{IfSome}
 use Rattle.std.proofs.lemmas.Bool.{lt-ltb, ne_eqb, le-leb}
-use Rattle.std.proofs.lemmas.List.{append-nil, length_push, get_or_push, take_all, take-append-le}
-use Rattle.giop_cdr.specs.Numbers.{num}
-use Rattle.giop_message.specs.Headers.{order, size, has_name, is_fragment}
+use Rattle.std.proofs.lemmas.List.{append-nil, length_push, get_or_push, take_all}
+use Rattle.giop_message.specs.Headers.{size, has_name}
+use Rattle.giop_stream.specs.Kinds.{is_old, is_any_fragment, has_place, named_at}
 use Rattle.giop_checkpoint.specs.declared.fault.StreamFault.{StreamFault}
 use Rattle.giop_stream.specs.declared.status.Totals.{Totals}
 use Rattle.giop_stream.specs.Rules.{Rules}
 use Rattle.giop_stream.specs.Framing.{Message, Cut, cut, messages, read_of, fault_of}
-use Rattle.giop_stream.specs.Events.{id, opener_of, has_named, open_after, now_of}
+use Rattle.giop_stream.specs.Events.{id, key, opener_of, has_named, open_after, now_of}
 use Rattle.giop_stream.specs.Lines.{stop_line, lines}
 use Rattle.giop_stream.specs.Stream.{start_count, fault_count, tally}
 use Rattle.giop_stream.specs.OpenSlots.{octets_of, Tracked, tracked_after}
 use Rattle.giop_stream.specs.Effects.{with_octet}
 use Rattle.giop_stream.specs.Octet.{octet_in, octet_of, header_of, payload_count_of}
 use Rattle.giop_stream.specs.EngineState.{State, owner_of_next, owner_of_next_in, unless, left_of, state_of}
-use Rattle.giop_stream.specs.EngineStep.{Step, octet_at, id_by, id_of, other_of, ended, held_on}
+use Rattle.giop_stream.specs.EngineStep.{Step, octet_at, id_by, key_of, other_of, ended, held_on}
 use Rattle.giop_stream.proofs.Cuts.Cutting.{stopped_at, of_parts}
 use Rattle.giop_stream.proofs.StreamLines.StartLines.{start_append}
 use Rattle.giop_stream.proofs.Events.AfterMoreEvents.{count_append}
 use Rattle.giop_stream.proofs.Events.Soundness.{CurrentFits, IsSound}
 use Rattle.giop_stream.proofs.Events.StepCases.{stop_starts}
 use Rattle.giop_stream.proofs.StreamLines.IdBeforeEnd.{IsAlive}
-use Rattle.giop_stream.proofs.Events.EventsByEngine.{found_again}
+use Rattle.giop_stream.proofs.Events.EventsByEngine.{found_under_again}
+use Rattle.giop_stream.proofs.Events.MessageKinds.{placed_named, named_four, later_new, none_old}
+use Rattle.giop_stream.proofs.SlotSteps.Parts.{same_key}
 use Rattle.giop_stream.proofs.CodeSteps.OneOctet.{Adds}
 
 -- ---- The state, from its parts.
@@ -149,21 +151,31 @@ module _ (R : Rules) (p : List ℕ) (x : ℕ) where
 
 -- what the state shows of the message m at its octet
 pub record Shows (R : Rules) (p : List ℕ) (m : Message) : Type 0 where
-  pub name_is : length m.payload ≡ 4 → has_name m.header ≡ true →
-      id_of (state_of R p) (now_of m) ≡ id m
-  pub past_is : 4 < length m.payload → is_fragment m.header ≡ true →
+  pub name_is : length m.payload ≡ named_at m.header → has_place m.header ≡ true →
+      key_of (state_of R p) (now_of m) ≡ key m
+  pub past_is : named_at m.header < length m.payload → is_any_fragment m.header ≡ true →
       other_of (state_of R p) (now_of m) ≡ opener_of (open_after R.most p) m
 
 module _ (R : Rules) (p : List ℕ) (x : ℕ) (sound : IsSound R p) (alive : IsAlive R p) where
-  shows_first : (m : Message) → m.payload ≡ [] → Shows R p m
-  shows_first m none = search (arith)
+  -- a message of 1.1 has no key
+  old_name : (m : Message) → is_old m.header ≡ true →
+      key_of (state_of R p) (now_of m) ≡ key m
+  unfolding key_of key
+  old_name m old = rw old refl
 
-  name_held : (was : Message) → (cut p).stop ≡ None → (cut p).current ≡ Some was →
+  shows_first : (m : Message) → m.payload ≡ [] → Shows R p m
+  shows_first m none = record {
+    name_is = λ named place. old_name m
+        (none_old m.header (omega (arith, named, ap (λ (xs : List ℕ). length xs) none)));
+    past_is = λ past f. absurd (omega (arith, past, ap (λ (xs : List ℕ). length xs) none));
+  }
+
+  id_held : (was : Message) → (cut p).stop ≡ None → (cut p).current ≡ Some was →
       length (was.payload ++ x ∷ []) ≡ 4
-      → has_name was.header ≡ true → id_of (state_of R p) (now_of (with_octet was x))
-      ≡ id (with_octet was x)
-  unfolding id_of id state_of tracked_after
-  name_held was st cur four name =
+      → has_name was.header ≡ true → id_by (now_of (with_octet was x))
+      ((state_of R p).tracked.known was.number) ≡ id (with_octet was x)
+  unfolding id state_of tracked_after
+  id_held was st cur four name =
       let long = length_push was.payload x in
       let kept_is : octets_of R p was.number ≡ Some was.payload =
       alive st was cur name (omega (arith, long, four)) in
@@ -174,23 +186,34 @@ module _ (R : Rules) (p : List ℕ) (x : ℕ) (sound : IsSound R p) (alive : IsA
         take_all 4 (was.payload ++ x ∷ []) (omega (arith, four)),
       ) refl
 
-  past_held : (was : Message) → (cut p).current ≡ Some was → 4 < length (was.payload ++ x ∷ [])
-      → is_fragment was.header ≡ true → other_of (state_of R p) (now_of (with_octet was x))
+  name_held : (was : Message) → (cut p).stop ≡ None → (cut p).current ≡ Some was →
+      length (was.payload ++ x ∷ []) ≡ named_at was.header
+      → has_place was.header ≡ true → key_of (state_of R p) (now_of (with_octet was x))
+      ≡ key (with_octet was x)
+  unfolding key_of key
+  name_held was st cur named place =
+      let new = later_new was.header (omega (arith, named, length_push was.payload x)) in
+      let four : length (was.payload ++ x ∷ []) ≡ 4 =
+      omega (arith, named, named_four was.header new) in
+      rw new (ap Some (id_held was st cur four (placed_named was.header place new)))
+
+  past_held : (was : Message) → (cut p).current ≡ Some was →
+      named_at was.header < length (was.payload ++ x ∷ [])
+      → is_any_fragment was.header ≡ true → other_of (state_of R p) (now_of (with_octet was x))
       ≡ opener_of (open_after R.most p)
       (with_octet was x)
-  unfolding other_of state_of tracked_after owner_of_next has_named opener_of id
+  unfolding other_of state_of tracked_after owner_of_next has_named opener_of
   past_held was cur long f =
-      let more : 4 ≤ length was.payload = omega (arith, long, length_push was.payload x) in
+      let more : named_at was.header ≤ length was.payload =
+      omega (arith, long, length_push was.payload x) in
       rw (
-        ne_eqb (length (was.payload ++ x ∷ [])) 4 (λ e. omega (arith, long, e)),
+        ne_eqb (length (was.payload ++ x ∷ [])) (named_at was.header) (λ e. omega (arith, long, e)),
         cur,
         f,
-        le-leb 4
-            (length was.payload) more,
-        take-append-le 4 was.payload (x ∷ []) more,
+        le-leb (named_at was.header) (length was.payload) more,
+        same_key was x more (is_old was.header) refl,
       )
-      (found_again (λ o. o.id == num (order was.header) (take 4 was.payload)) (open_after R.most p)
-      sound.rising)
+      (found_under_again (open_after R.most p) (key was) sound.rising)
 
   shows_next : (was : Message) → (cut p).stop ≡ None → (cut p).current ≡ Some was →
       Shows R p (with_octet was x)
@@ -200,6 +223,3 @@ module _ (R : Rules) (p : List ℕ) (x : ℕ) (sound : IsSound R p) (alive : IsA
       ⊎ ((was : Message) × ((cut p).current ≡ Some was) × (m ≡ with_octet was x)) → Shows R p m
   shows m st (inl (cur, none)) = shows_first m none
   shows m st (inr (was, cur, is)) = search (arith, shows_next)
-
-pub fragment_named : (header : List ℕ) → is_fragment header ≡ true → has_name header ≡ true
-fragment_named header f = search (arith)

@@ -7,6 +7,7 @@ use Rattle.std.specs.List.{AllByRecursion as Each}
 use Rattle.std.proofs.lemmas.Bool.{lt-ltb, le-ltb, eq-eqb, eqb-true}
 use Rattle.std.proofs.lemmas.List.{append-nil, length_push, get_or_push}
 use Rattle.giop_message.specs.Headers.{size, has_name}
+use Rattle.giop_stream.specs.Kinds.{named_at}
 use Rattle.giop_message.specs.MessageReader.{MessageReader, IsCausal, IsStreamable}
 use Rattle.giop_checkpoint.specs.declared.fault.StreamFault.{StreamFault}
 use Rattle.giop_checkpoint.specs.declared.fault.StreamFault.TheVariants.{StreamLimit}
@@ -23,6 +24,7 @@ use Rattle.giop_stream.specs.Octet.{Octet, AfterStop, Ends, Held, Of, front_is, 
 use Rattle.giop_stream.proofs.Lists.{all_by, each_weaker}
 use Rattle.giop_stream.proofs.Cuts.Cutting.{next, stopped_at, of_parts, parts_by, cut_grows, settle_stop, settled_messages, next_limit, next_payload, next_front, next_stopped}
 use Rattle.giop_stream.proofs.Cuts.CutFrom.{end_message, header_case}
+use Rattle.giop_stream.proofs.Events.MessageKinds.{named_by_four}
 use Rattle.giop_stream.proofs.Events.EventsOfOctet.{events_of_octet_each}
 use Rattle.giop_stream.proofs.StreamLines.LinesOfOctet.{standing_each, all_lines_places}
 use Rattle.giop_stream.proofs.Events.EventsKeep.{Below}
@@ -168,13 +170,13 @@ module _ (R : Rules) (causal : IsCausal R.reading) (laws : IsStreamable R.readin
       ++ events_of_octet R.most (open_after R.most p) m → place m ≡ suc (length p) →
       m.number ≡ suc (length whole)
       → length m.header ≡ 12 → (cut p).stop ≡ None → length (messages (cut p)) ≤ suc (length whole)
-      → (length m.payload ≤ 4 → Below m.number (open_after R.most p))
+      → (length m.payload ≤ named_at m.header → Below m.number (open_after R.most p))
       → length (messages (cut p)) + start_count
       (sorted_lines R.reading (octets_of R p) (events_of_octet R.most (open_after R.most p) m))
       ≡ suc
       (length whole) → length m.payload ≤ size m.header →
       (has_name m.header ≡ true → IsBegun (octets_of R p) m)
-      → (length m.payload ≤ 4 → joined m.number (events R.most p)
+      → (length m.payload ≤ named_at m.header → joined m.number (events R.most p)
       ++ joined m.number (events_of_octet R.most (open_after R.most p) m) ≡ m.payload)
       → Adds R p (p ++ x ∷ []) (end_message whole m)
       (effects R.reading (tracked_after R p)
@@ -248,7 +250,8 @@ module _ (R : Rules) (causal : IsCausal R.reading) (laws : IsStreamable R.readin
       let fits = fit.current in
       let lacks = fits.lacks in
       let long = length_push was.payload x in
-      let early : length was.payload < 4 → Below was.number (open_after R.most p) =
+      let early : length was.payload < named_at was.header →
+      Below was.number (open_after R.most p) =
       rw ec at (sound.early st) in
       let one : length (whole ++ was ∷ []) ≡ suc (length whole) =
       omega (arith, length_push whole was) in
@@ -256,14 +259,15 @@ module _ (R : Rules) (causal : IsCausal R.reading) (laws : IsStreamable R.readin
       let ec' : cut (p ++ x ∷ []) ≡ end_message whole m =
       cut_grows p x ∙ rw ec (next_payload whole was held (length p) x room) in
       let ev = paid_events whole was held ec room in
-      let begun : length was.payload ≤ 4 → joined was.number (events R.most p) ≡ was.payload =
+      let begun : length was.payload ≤ named_at was.header →
+      joined was.number (events R.most p) ≡ was.payload =
       rw ec at (sound.begun st) in
       let starts = none_later R (octets_of R p) (open_after R.most p) m (omega (arith, long)) in
       deals m whole ec' ev (place_more was x (length p) fits.place_is) fits.number_is fits.twelve st
       (le_of_eq count)
-      (λ four. early (omega (arith, four, long))) (omega (arith, count, starts))
+      (λ named. early (omega (arith, named, long))) (omega (arith, count, starts))
       (omega (arith, lacks, long))
-      (λ name. begun_by was begun)
+      (λ name. begun_by was (λ few. begun (omega (arith, few, named_by_four was.header name))))
       (λ short. rw (
         begun (omega (arith, short, long)),
         own_joined R.most (open_after R.most p) was was.payload x (not_past m short),

@@ -1,13 +1,14 @@
 -- Runs of payload octets; only the last one of a run may end a request id or the message. The
 -- stream with these octets, and that the code does their steps.
-use Rattle.std.proofs.Common.{◌≡◌, ◌≢◌, ℕ, suc, ◌+◌, ◌-◌, ◌^◌, ◌<◌, ◌≤◌, List, [], ◌∷◌, ◌++◌, length, take, get_or, refl, sym, ap, subst, ◌∙◌, append_assoc, append-nil, length-append, Option, Some, None, Result, Ok, Err, arith}
+use Rattle.std.proofs.Common.{inl, inr, ◌≡◌, ◌≢◌, ℕ, suc, ◌+◌, ◌-◌, ◌^◌, ◌<◌, ◌≤◌, List, [], ◌∷◌, ◌++◌, length, take, get_or, refl, sym, ap, subst, ◌∙◌, append_assoc, append-nil, length-append, Option, Some, None, Result, Ok, Err, arith}
 use Rattle.std.specs.Prelude.{OnOk}
 use Rattle.std.specs.Result.{OkIff, result_unwrap_or}
-use Rattle.std.proofs.lemmas.Bool.{le-ltb, ne_eqb}
+use Rattle.std.proofs.lemmas.Bool.{cases_lt, le-ltb, ne_eqb}
 use Rattle.std.proofs.lemmas.List.{length_push, length-take-le, get_or_push}
 use Rattle.giop_print.specs.Output.{OutLog, Writes}
 use Rattle.giop_sig.specs.Table.{Table}
 use Rattle.giop_message.specs.Headers.{size}
+use Rattle.giop_stream.specs.Kinds.{named_at}
 use Rattle.giop_message.specs.Signatures.{Answers, signatures_of}
 use Rattle.giop_message.specs.ReaderOfTable.{message_reader}
 use Rattle.giop_message.specs.MessageReader.{IsCausal}
@@ -35,6 +36,7 @@ use Rattle.giop_stream.proofs.Cuts.CutFrom.{end_message}
 use Rattle.giop_stream.proofs.Events.AfterMoreEvents.{count_append}
 use Rattle.giop_stream.proofs.Events.Soundness.{CurrentFits, IsSound}
 use Rattle.giop_stream.proofs.Events.StepCases.{place_more, if_some}
+use Rattle.giop_stream.proofs.Events.MessageKinds.{named_either, named_within}
 use Rattle.giop_stream.proofs.SlotSteps.AfterOctet.{owner_elsewhere}
 use Rattle.giop_stream.proofs.SlotSteps.Parts.{in_turn, octet_does, owner_next}
 use Rattle.giop_stream.proofs.SlotSteps.RequestIds.{says_id}
@@ -64,10 +66,16 @@ within_grows p m x n h =
     ∙ goes_on (cut p).whole (with_octet m x)
     (omega (arith, h.before_last, length_push m.payload x))))
 
--- the next octet is not the last of the request id
+-- the message has no place at the next octet
 not_named : (p : List ℕ) (m : Message) (x n : ℕ) → Within p m (suc n) →
-    length (m.payload ++ x ∷ []) ≢ 4
-not_named p m x n h e = search (arith, length_push)
+    length (m.payload ++ x ∷ []) ≢ named_at m.header
+not_named p m x n h e = elim (named_either m.header) [
+  | inl none ↦ omega (arith, e, none, length_push m.payload x)
+  | inr four ↦ elim (cases_lt (length m.payload) 4) [
+    | inl less ↦ omega (arith, e, four, length_push m.payload x, h.apart less)
+    | inr many ↦ omega (arith, e, four, length_push m.payload x, many)
+  ]
+]
 
 pub within_on : (p : List ℕ) (m : Message) (x n : ℕ) → Within p m (suc n) →
     Within (p ++ x ∷ []) (with_octet m x) n
@@ -88,13 +96,14 @@ within_on p m x n h =
 
 -- the octet's only event is that a message takes it
 comes_alone : (most : ℕ) (still_open : List Open) (m : Message) → 0 < length m.payload →
-    length m.payload ≢ 4 → length m.payload < size m.header →
+    length m.payload ≢ named_at m.header → length m.payload < size m.header →
     events_of_octet most still_open m ≡ events_at_octet still_open m
 unfolding events_of_octet
 comes_alone most still_open m some other less = search (arith, ne_eqb, append-nil)
 
 -- the next octet belongs to the same message
-owner_on : (still_open : List Open) (m : Message) (x : ℕ) → length (m.payload ++ x ∷ []) ≢ 4 →
+owner_on : (still_open : List Open) (m : Message) (x : ℕ) →
+    length (m.payload ++ x ∷ []) ≢ named_at m.header →
     owner_of_next still_open (with_octet m x) ≡ owner_of_next still_open m
 owner_on still_open m x other = search (arith, owner_elsewhere, ne_eqb, owner_next)
 
@@ -373,10 +382,11 @@ module _ (C : Table) (l : Answers) (most : ℕ) (s : State) (reached : IsReached
         );
       };
       payload_count = omega (arith, payload_count, here, one_more, length-append c.payload q);
-      newest = if_some (λ m. length m.payload < 4 → IsNewest m.number (open_after most p'))
+      newest = if_some (λ m. length m.payload < named_at m.header →
+          IsNewest m.number (open_after most p'))
           (cut p').current c' run.within.current (so.early run.within.free);
       alive = λ name less. alive R causal (in_turn C l) p' run.within.free c' run.within.current
-          name less;
+          name (omega (arith, less, named_within c.header));
       says = λ name. says_id c.header (current_fits C l most s reached m h free c current).twelve
           (right C l most s reached m h free c current).1 name;
     }

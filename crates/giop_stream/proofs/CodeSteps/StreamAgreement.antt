@@ -2,7 +2,7 @@
 -- the message, or if its header has not ended. And what holds of each message holds of each
 -- event's.
 use Rattle.std.proofs.Common.{arith, ◌≡◌, ℕ, Bool, true, false, List, [], ◌∷◌, ◌++◌, map, flat_map, ◌⊎◌, Option, Some, None, refl, subst}
-use Rattle.std.specs.Prelude.{◌==◌, if◌then◌else◌, option_to_list}
+use Rattle.std.specs.Prelude.{if◌then◌else◌, option_to_list}
 use Rattle.std.specs.List.{AllByRecursion as Each}
 use Rattle.giop_sig.specs.Table.{Table}
 use Rattle.giop_message.specs.Phases.{unbroken}
@@ -14,7 +14,7 @@ use Rattle.giop_message.specs.declared.message.Message.{Message as CodeMessage}
 use Rattle.giop_stream.specs.EngineView.{FramingView}
 use Rattle.giop_stream.specs.SlotsRepresent.{OpenEntry, RepresentsMessage, AreSlots}
 use Rattle.giop_stream.specs.ViewOfState.{Shows}
-use Rattle.giop_stream.specs.Events.{Event, MessageKey, Open, EventKind, Begins, Takes, Opens, Continues, Cancelled, Faults, Closes, message_key, id, opener_of, has_named, own, header_events, events_of_octet, events_of, events_from, events, opened, open_after}
+use Rattle.giop_stream.specs.Events.{Event, MessageKey, Open, EventKind, Begins, Takes, Opens, Continues, Cancelled, Faults, Closes, message_key, key, opener_of, has_named, own, header_events, events_of_octet, events_of, events_from, events, opened, open_after}
 use Rattle.giop_stream.specs.HeaderOctets.{fronts}
 use Rattle.giop_stream.specs.Framing.{Message, with_payload, cut, messages}
 use Rattle.giop_stream.specs.Lines.{lines_of_event}
@@ -23,7 +23,7 @@ use Rattle.giop_stream.specs.EngineState.{State, opener_key, owner_of_next, owne
 use Rattle.giop_stream.proofs.Lists.{each_append, each_weaker}
 use Rattle.giop_stream.proofs.Cuts.Numbers.{header_of_number, own_header}
 use Rattle.giop_stream.proofs.Events.EventsOfOctet.{events_of_octet_each, opened_each}
-use Rattle.giop_stream.proofs.Events.EventsByEngine.{found_in}
+use Rattle.giop_stream.proofs.Events.EventsByEngine.{found_under}
 
 -- one event, if the message has these octets in all
 pub tells_agree : (C : Table) (a b : Answers) (e : Event) (so_far later all : List ℕ)
@@ -126,7 +126,7 @@ of_owner P most p w owner h =
     other m None e k = absurd cc
     other m (Some o) e k =
         let same : o.opener ≡ w = cc in
-        subst P same (found_in (λ o. P o.opener) (λ o. o.id == id m) (open_after most p) o
+        subst P same (found_under (λ o. P o.opener) (open_after most p) (key m) o
         (opened_each P [] (events most p) tt h) e)
 
     by : (m : Message) → P (message_key m) → (b : Bool)

@@ -3,9 +3,10 @@
 use Rattle.std.proofs.Common.{arith, ℕ, Bool, true, false, List, [], ◌++◌, Option, Some, None}
 use Rattle.std.specs.Prelude.{◌==◌, if◌then◌else◌}
 use Rattle.giop_stream.specs.declared.fault.FramingFault.{FramingFault}
-use Rattle.giop_stream.specs.declared.fault.FramingFault.TheVariants.{NoOpen, IdOpen}
+use Rattle.giop_stream.specs.declared.fault.FramingFault.TheVariants.{OldFragment, IdOpen}
 use Rattle.giop_message.specs.Headers.{size}
-use Rattle.giop_stream.specs.Events.{EventKind, Begins, Takes, Faults, Event, Open, Now, own, event_of_open, header_events, opens, continues, cancels, request_id_events, message_end_events}
+use Rattle.giop_stream.specs.Kinds.{named_at}
+use Rattle.giop_stream.specs.Events.{EventKind, Begins, Takes, Faults, Event, Open, Now, own, event_of_open, header_events, opens, unopened, continues, cancels, naming_events, message_end_events}
 
 -- the events that may come after those of an octet's first part
 abbrev pub IsLater : EventKind → Type 0
@@ -34,30 +35,34 @@ pub record HoldsOf (Q : List Event → Type 0) (now : Now) (other : Option Open)
   pub theirs : (what : EventKind) → IsLater what → Q (event_of_open now other what)
 
 module _ (most : ℕ) (Q : List Event → Type 0) (j : IsJoined Q) (still_open : List Open) (now : Now)
-    (id : ℕ) where
-  of_opens : (other : Option Open) → HoldsOf Q now other → Q (opens most still_open now id other)
-  of_opens None h = search (arith, either)
-  of_opens (Some o) h = h.mine (Faults IdOpen) tt
+  where
+    of_opens : (key : Option ℕ) (other : Option Open) → HoldsOf Q now other →
+        Q (opens most still_open now key other)
+    of_opens None other h = h.mine (Faults OldFragment) tt
+    of_opens (Some id) None h = search (arith, either)
+    of_opens (Some id) (Some o) h = h.mine (Faults IdOpen) tt
 
-  of_continues : (other : Option Open) → HoldsOf Q now other → Q (continues now other)
-  of_continues None h = h.mine (Faults NoOpen) tt
-  of_continues (Some o) h = search (arith, either)
+    of_continues : (key : Option ℕ) (other : Option Open) → HoldsOf Q now other →
+        Q (continues now key other)
+    of_continues key None h = h.mine (Faults (unopened key)) tt
+    of_continues key (Some o) h = search (arith, either)
 
-  of_cancels : (other : Option Open) → HoldsOf Q now other → Q (cancels now other)
-  of_cancels None h = j.none
-  of_cancels (Some o) h = search (arith, either)
+    of_cancels : (other : Option Open) → HoldsOf Q now other → Q (cancels now other)
+    of_cancels None h = j.none
+    of_cancels (Some o) h = search (arith, either)
 
-  pub of_id : (other : Option Open) → HoldsOf Q now other →
-      Q (request_id_events most still_open now id other)
-  unfolding request_id_events
-  of_id other h = search (arith, either, of_continues, of_opens, of_cancels)
+    pub of_name : (key : Option ℕ) (other : Option Open) → HoldsOf Q now other →
+        Q (naming_events most still_open now key other)
+    unfolding naming_events
+    of_name key other h = search (arith, either, of_continues, of_opens, of_cancels)
 
-  pub of_end : (other : Option Open) → HoldsOf Q now other → Q (message_end_events now other)
-  unfolding message_end_events
-  of_end other h = search (arith, either)
+    pub of_end : (other : Option Open) → HoldsOf Q now other → Q (message_end_events now other)
+    unfolding message_end_events
+    of_end other h = search (arith, either)
 
-  pub of_later : (other : Option Open) → HoldsOf Q now other
-      → Q ((if now.payload_count == 4 then request_id_events most still_open now id other else [])
-      ++ (if now.payload_count == size now.subject.header then message_end_events now other else
-      []))
-  of_later other h = search (arith, either, of_id, of_end)
+    pub of_later : (key : Option ℕ) (other : Option Open) → HoldsOf Q now other
+        → Q ((if now.payload_count == named_at now.subject.header
+        then naming_events most still_open now key other else [])
+        ++ (if now.payload_count == size now.subject.header then message_end_events now other else
+        []))
+    of_later key other h = search (arith, either, of_name, of_end)

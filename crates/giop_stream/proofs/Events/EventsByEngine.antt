@@ -1,53 +1,55 @@
 -- The events of an octet, computed from the fields of an engine, are the same as those computed
 -- from the message.
-use Rattle.std.proofs.Common.{◌≡◌, ℕ, ◌<◌, Bool, true, false, List, [], ◌∷◌, refl, Option, Some, arith}
-use Rattle.std.specs.Prelude.{◌==◌, if◌then◌else◌, ◌||◌}
+use Rattle.std.proofs.Common.{◌≡◌, ℕ, ◌<◌, Bool, true, false, List, [], ◌∷◌, refl, Option, Some, None, arith}
+use Rattle.std.specs.Prelude.{◌==◌, if◌then◌else◌}
 use Rattle.std.specs.List.{find, AllByRecursion as Each}
-use Rattle.std.proofs.lemmas.Bool.{cases_lt, cases_eq, lt-ltb, le-ltb, ne_eqb, eq-eqb, eqb-true, and_right}
-use Rattle.giop_message.specs.Headers.{size, has_name, is_fragment}
-use Rattle.giop_stream.specs.Events.{Open, Rising, Now, payload_events, request_id_events, message_end_events, events_with_id}
+use Rattle.std.proofs.lemmas.Bool.{cases_lt, cases_eq, le-ltb, ne_eqb, eq-eqb, eqb-true, and_right}
+use Rattle.giop_message.specs.Headers.{size}
+use Rattle.giop_stream.specs.Kinds.{is_any_fragment, has_place, named_at}
+use Rattle.giop_stream.specs.Events.{Open, Rising, Now, is_id, open_under, payload_events, naming_events, message_end_events, events_with_key}
 use Rattle.giop_stream.specs.EngineState.{opener_key}
 use Rattle.giop_stream.specs.EngineStep.{numbered}
-use Rattle.giop_stream.proofs.StreamLines.LineOrder.{unnamed}
+use Rattle.giop_stream.proofs.Events.MessageKinds.{short_fragment, unplaced}
 
--- ---- The request id and its open message matter only at the id's last octet, and in a Fragment
--- after it.
+-- ---- The key and its open message matter only at the octet with which a message has its place
+-- among the open ones, and in a Fragment after it.
 
-or_true : (b : Bool) → (b || true) ≡ true
-or_true true = refl
-or_true false = refl
+module _ (most : ℕ) (still_open : List Open) (now : Now) (i j : Option ℕ) (o q : Option Open) where
+  at_name : now.payload_count ≡ named_at now.subject.header → (b : Bool) →
+      has_place now.subject.header ≡ b
+      → (b ≡ true → (i ≡ j) × (o ≡ q)) → events_with_key most still_open now i o
+      ≡ events_with_key most still_open now j q
+  unfolding events_with_key payload_events naming_events message_end_events
+  at_name named true e h = search (arith)
+  at_name named false e h = search (arith, unplaced)
 
-module _ (most : ℕ) (still_open : List Open) (now : Now) (i j : ℕ) (o q : Option Open) where
-  at_four : now.payload_count ≡ 4 → (b : Bool) → has_name now.subject.header ≡ b →
-      (b ≡ true → (i ≡ j) × (o ≡ q)) → events_with_id most still_open now i o
-      ≡ events_with_id most still_open now j q
-  unfolding events_with_id payload_events request_id_events message_end_events
-  at_four four true e h = search (arith)
-  at_four four false e h = search (arith, unnamed)
-
-  short_end : now.payload_count < 4 → is_fragment now.subject.header ≡ true → (b : Bool) →
+  short_end : now.payload_count < named_at now.subject.header →
+      is_any_fragment now.subject.header ≡ true → (b : Bool) →
       (now.payload_count == size now.subject.header) ≡ b
       → (if b then message_end_events now o else []) ≡ (if b then message_end_events now q else [])
   unfolding message_end_events
-  short_end few f true e = search (arith, eqb-true, lt-ltb, or_true)
+  short_end few f true e = search (arith, eqb-true, short_fragment)
   short_end few f false e = refl
 
-  few_octets : now.payload_count < 4 → payload_events now o ≡ payload_events now q
+  few_octets : now.payload_count < named_at now.subject.header →
+      payload_events now o ≡ payload_events now q
   unfolding payload_events
   few_octets few = search (arith, le-ltb, and_right)
 
-  elsewhere : (now.payload_count ≡ 4 → ⊥) → (b : Bool) → is_fragment now.subject.header ≡ b →
-      (b ≡ true → 4 < now.payload_count → o ≡ q) →
-      events_with_id most still_open now i o ≡ events_with_id most still_open now j q
-  unfolding events_with_id payload_events message_end_events
+  elsewhere : (now.payload_count ≡ named_at now.subject.header → ⊥) → (b : Bool) →
+      is_any_fragment now.subject.header ≡ b
+      → (b ≡ true → named_at now.subject.header < now.payload_count → o ≡ q) →
+      events_with_key most still_open now i o ≡ events_with_key most still_open now j q
+  unfolding events_with_key payload_events message_end_events
   elsewhere other false f h = search (arith, ne_eqb)
   elsewhere other true f h = search (arith, cases_lt, ne_eqb, few_octets, short_end)
 
-  pub events_with_id_agree : (now.payload_count ≡ 4 → has_name now.subject.header ≡ true → (i ≡ j)
-      × (o ≡ q))
-      → (4 < now.payload_count → is_fragment now.subject.header ≡ true → o ≡ q) →
-      events_with_id most still_open now i o ≡ events_with_id most still_open now j q
-  events_with_id_agree h k = search (arith, cases_eq, at_four, elsewhere)
+  pub events_with_key_agree : (now.payload_count ≡ named_at now.subject.header →
+      has_place now.subject.header ≡ true → (i ≡ j) × (o ≡ q))
+      → (named_at now.subject.header < now.payload_count → is_any_fragment now.subject.header ≡ true
+      → o ≡ q) →
+      events_with_key most still_open now i o ≡ events_with_key most still_open now j q
+  events_with_key_agree h k = search (arith, cases_eq, at_name, elsewhere)
 
 -- ---- An open message is found by its number, since the numbers rise.
 
@@ -72,3 +74,13 @@ found_again test (a ∷ still_open) h = search (
   found_again test
       still_open h.1,
 )
+
+pub found_under : (Q : Open → Type 0) (still_open : List Open) (key : Option ℕ) (o : Open) →
+    Each Q still_open → open_under still_open key ≡ Some o → Q o
+found_under Q still_open None o h e = absurd cc
+found_under Q still_open (Some id) o h e = found_in Q (λ o. is_id id o.key) still_open o h e
+
+pub found_under_again : (still_open : List Open) (key : Option ℕ) → Rising still_open →
+    numbered still_open (opener_key (open_under still_open key)) ≡ open_under still_open key
+found_under_again still_open None h = refl
+found_under_again still_open (Some id) h = found_again (λ o. is_id id o.key) still_open h

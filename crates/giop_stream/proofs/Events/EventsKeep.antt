@@ -1,26 +1,27 @@
 -- Properties of the open messages that the events of an octet keep.
 use Rattle.std.proofs.Common.{◌≡◌, ℕ, ◌<◌, ◌≤◌, Bool, true, false, cond, not, List, [], ◌∷◌, ◌++◌, length, refl, Option, Some, None, arith}
 use Rattle.std.specs.List.{filter, find, AllByRecursion as Each}
-use Rattle.std.specs.Prelude.{◌==◌, if◌then◌else◌}
+use Rattle.std.specs.Prelude.{if◌then◌else◌}
 use Rattle.std.proofs.lemmas.Bool.{leb-false, eqb-true, eq-eqb}
 use Rattle.std.proofs.lemmas.List.{length_push}
 use Rattle.giop_stream.specs.declared.fault.FramingFault.{FramingFault}
-use Rattle.giop_message.specs.Headers.{is_opener}
+use Rattle.giop_stream.specs.Kinds.{is_old, has_fragments, named_at}
 use Rattle.giop_stream.specs.Framing.{Message}
-use Rattle.giop_stream.specs.Events.{EventKind, Opens, Cancelled, Faults, Closes, MessageKey, Event, Open, message_key, own, event_of_open, id, opener_of, opens, cancels, events_at_request_id, events_at_end, events_of_octet, changed, opened, Rising, now_of, request_id_events, message_end_events}
+use Rattle.giop_stream.specs.Events.{EventKind, Opens, Cancelled, Faults, Closes, MessageKey, Event, Open, message_key, own, event_of_open, id, key, is_id, opener_of, opens, cancels, events_at_name, events_at_end, events_of_octet, changed, opened, Rising, now_of, naming_events, message_end_events}
 use Rattle.giop_stream.proofs.Lists.{each_append, each_filter}
-use Rattle.giop_stream.proofs.Events.EventsOfOctet.{opened_append, quiet_if, quiet_header, quiet_octet, quiet_continues, four}
+use Rattle.giop_stream.proofs.Events.EventsOfOctet.{opened_append, quiet_if, quiet_header, quiet_octet, quiet_continues}
 
 -- ---- A property is kept if it passes to fewer open messages, and to one more when an opener
 -- becomes open.
 
 unfoldable pub opened_by : Message → Open
-opened_by m = record { id = id m; opener = message_key m }
+opened_by m = record { key = key m; opener = message_key m }
 
 -- the case in which m becomes open
 pub record CanOpen (most : ℕ) (still_open : List Open) (m : Message) : Type 0 where
-  pub named : length m.payload ≡ 4
-  pub opener : is_opener m.header ≡ true
+  pub named : length m.payload ≡ named_at m.header
+  pub opener : has_fragments m.header ≡ true
+  pub id_is : key m ≡ Some (id m)
   pub none : opener_of still_open m ≡ None
   pub room : length still_open < most
 
@@ -83,21 +84,22 @@ module _ (most : ℕ) (Q : List Open → Type 0) (now : List Open) (m : Message)
     plain_closes,
   )
 
-  now_open : CanOpen most now m → Q now → Q (opened now (own (now_of m) (Opens (id m))))
+  now_open : CanOpen most now m → Q now → Q (opened now (own (now_of m) (Opens (key m))))
   unfolding own opened changed opened_by
   now_open can q = k.more can q
 
-  kept_opens : length m.payload ≡ 4 → is_opener m.header ≡ true → Q now → (w : Option Open) →
-      opener_of now m ≡ w
-      → Q (opened now (opens most now (now_of m) (id m) w))
-  kept_opens four o q (Some other) e = search (arith, plain_own, plain_faulted)
-  kept_opens four o q None e = search (
+  kept_opens : length m.payload ≡ named_at m.header → has_fragments m.header ≡ true → Q now →
+      (w : Option Open) → opener_of now m ≡ w → (b : Bool) → is_old m.header ≡ b
+      → Q (opened now (opens most now (now_of m) (key m) w))
+  unfolding key
+  kept_opens named o q w e true old = search (arith, plain_own, plain_faulted)
+  kept_opens named o q (Some other) e false old = search (arith, plain_own, plain_faulted)
+  kept_opens named o q None e false old = search (
     arith,
     kept_if,
     plain_own,
     plain_faulted,
     now_open,
-    four,
     leb-false,
   )
 
@@ -105,14 +107,14 @@ module _ (most : ℕ) (Q : List Open → Type 0) (now : List Open) (m : Message)
   kept_cancels q None = kept_none now q
   kept_cancels q (Some o) = search (arith, kept_if, plain_about, plain_cancelled, kept_none)
 
-  pub kept_id : length m.payload ≡ 4 → Q now → Q (opened now (events_at_request_id most now m))
-  unfolding request_id_events
-  kept_id four q = search (
+  pub kept_name : length m.payload ≡ named_at m.header → Q now →
+      Q (opened now (events_at_name most now m))
+  unfolding naming_events
+  kept_name named q = search (
     arith,
     kept_if,
     quiet_continues,
     kept_opens,
-    four,
     kept_cancels,
     kept_none,
   )
@@ -125,7 +127,7 @@ module _ (most : ℕ) (Q : List Open → Type 0) (now : List Open) (m : Message)
     quiet_header,
     quiet_octet,
     kept_if,
-    kept_id,
+    kept_name,
     eqb-true,
     kept_none,
     opened_append,
@@ -159,13 +161,13 @@ rising_push [] o h k = (tt, tt)
 rising_push (a ∷ still_open) o h k = search (arith, each_append, rising_push still_open o h.1 k.1)
 
 pub rising_events : (most : ℕ) (still_open : List Open) (m : Message) → Rising still_open →
-    (length m.payload ≡ 4 → Below m.number still_open) →
+    (length m.payload ≡ named_at m.header → Below m.number still_open) →
     Rising (opened still_open (events_of_octet most still_open m))
 rising_events most still_open m r h =
     kept_events most Rising still_open m (record {
       fewer = rising_filter;
       more = λ can q. unfold opened_by in rising_push still_open
-          (record { id = id m; opener = message_key m }) q (h can.named);
+          (record { key = key m; opener = message_key m }) q (h can.named);
     }) r
 
 -- ---- There are at most as many open messages as may be open.
@@ -197,14 +199,14 @@ few_events most still_open m h = kept_events most (IsFew most) still_open m
           λ can q. few_push most still_open (opened_by m) can.room;
     }) h
 
--- ---- No two open messages have the same request id.
+-- ---- No two open messages have the same key.
 
 abbrev pub Differ : List Open → Type 0
 Differ [] = Unit {0}
-Differ (o ∷ still_open) = Each (λ a. a.id ≡ o.id → ⊥) still_open × Differ still_open
+Differ (o ∷ still_open) = Each (λ a. a.key ≡ o.key → ⊥) still_open × Differ still_open
 
 differ_by : (test : Open → Bool) (o : Open) (still_open : List Open) (b : Bool) →
-    Each (λ a. a.id ≡ o.id → ⊥) still_open
+    Each (λ a. a.key ≡ o.key → ⊥) still_open
     → Differ (filter test still_open) → Differ
     (cond b (o ∷ filter test still_open) (filter test still_open))
 differ_by test o still_open true h k = search (arith, each_filter)
@@ -216,22 +218,27 @@ differ_filter test [] h = tt
 differ_filter test (o ∷ still_open) h = search (arith, differ_by, differ_filter test still_open h.1)
 
 differ_push : (still_open : List Open) (o : Open) → Differ still_open →
-    Each (λ a. a.id ≡ o.id → ⊥) still_open → Differ (still_open ++ o ∷ [])
+    Each (λ a. a.key ≡ o.key → ⊥) still_open → Differ (still_open ++ o ∷ [])
 differ_push [] o h k = (tt, tt)
 differ_push (a ∷ still_open) o h k = search (arith, each_append, differ_push still_open o h.1 k.1)
 
-none_by : (i : ℕ) (a : Open) (still_open : List Open) (b : Bool) → (a.id == i) ≡ b
-    → (find (λ o. o.id == i) still_open ≡ None → Each (λ a. a.id ≡ i → ⊥) still_open)
-    → (if b then Some a else find (λ o. o.id == i) still_open) ≡ None
-    → (a.id ≡ i → ⊥) × Each (λ a. a.id ≡ i → ⊥) still_open
-none_by i a still_open true e ih k = absurd cc
-none_by i a still_open false e ih k = search (arith, eq-eqb)
+-- a key is this request id exactly if the test says so
+pub key_apart : (i : ℕ) (k : Option ℕ) → is_id i k ≡ false → (k ≡ Some i → ⊥)
+key_apart i None e is = absurd cc
+key_apart i (Some id) e is = search (arith, eq-eqb)
 
-none_found : (i : ℕ) (still_open : List Open) → find (λ o. o.id == i) still_open ≡ None →
-    Each (λ a. a.id ≡ i → ⊥) still_open
+none_by : (i : ℕ) (a : Open) (still_open : List Open) (b : Bool) → is_id i a.key ≡ b
+    → (find (λ o. is_id i o.key) still_open ≡ None → Each (λ a. a.key ≡ Some i → ⊥) still_open)
+    → (if b then Some a else find (λ o. is_id i o.key) still_open) ≡ None
+    → (a.key ≡ Some i → ⊥) × Each (λ a. a.key ≡ Some i → ⊥) still_open
+none_by i a still_open true e ih k = absurd cc
+none_by i a still_open false e ih k = (key_apart i a.key e, ih k)
+
+none_found : (i : ℕ) (still_open : List Open) → find (λ o. is_id i o.key) still_open ≡ None →
+    Each (λ a. a.key ≡ Some i → ⊥) still_open
 none_found i [] h = tt
-none_found i (a ∷ still_open) h = none_by i a still_open (a.id == i) refl (none_found i still_open)
-    h
+none_found i (a ∷ still_open) h = none_by i a still_open (is_id i a.key) refl
+    (none_found i still_open) h
 
 pub differ_events : (most : ℕ) (still_open : List Open) (m : Message) → Differ still_open →
     Differ (opened still_open (events_of_octet most still_open m))
@@ -239,14 +246,15 @@ unfolding opener_of opened_by
 differ_events most still_open m h =
     kept_events most Differ still_open m (record {
       fewer = differ_filter;
-      more = λ can q. differ_push still_open
-          (record { id = id m; opener = message_key m }) q (none_found (id m) still_open can.none);
+      more = λ can q. rw can.id_is (differ_push still_open
+          (record { key = Some (id m); opener = message_key m }) q
+          (none_found (id m) still_open (rw can.id_is at can.none)));
     }) h
 
 -- ---- Each open message is an opener.
 
 unfoldable pub AreOpeners : List Open → Type 0
-AreOpeners still_open = Each (λ o. is_opener o.opener.header ≡ true) still_open
+AreOpeners still_open = Each (λ o. has_fragments o.opener.header ≡ true) still_open
 
 openers_filter : (test : Open → Bool) (still_open : List Open) → AreOpeners still_open →
     AreOpeners (filter test still_open)
@@ -254,7 +262,7 @@ unfolding AreOpeners
 openers_filter test still_open h = search (arith, each_filter)
 
 openers_push : (still_open : List Open) (o : Open) → AreOpeners still_open →
-    is_opener o.opener.header ≡ true → AreOpeners (still_open ++ o ∷ [])
+    has_fragments o.opener.header ≡ true → AreOpeners (still_open ++ o ∷ [])
 unfolding AreOpeners
 openers_push still_open o h k = search (arith, each_append)
 
@@ -264,5 +272,5 @@ openers_events most still_open m h =
     kept_events most AreOpeners still_open m (record {
       fewer = openers_filter;
       more = λ can q. unfold opened_by in openers_push still_open
-          (record { id = id m; opener = message_key m }) q can.opener;
+          (record { key = key m; opener = message_key m }) q can.opener;
     }) h

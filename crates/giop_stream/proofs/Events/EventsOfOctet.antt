@@ -7,9 +7,11 @@ use Rattle.std.proofs.lemmas.List.{append-nil, length_push}
 use Rattle.std.proofs.lemmas.List.Concat.{flat_map-append}
 use Rattle.giop_stream.specs.declared.fault.FramingFault.{FramingFault}
 use Rattle.giop_stream.specs.HeaderOctets.{fronts}
-use Rattle.giop_message.specs.Headers.{size, is_fragment}
+use Rattle.giop_message.specs.Headers.{size}
+use Rattle.giop_stream.specs.Kinds.{is_any_fragment, named_at}
 use Rattle.giop_stream.specs.Framing.{Message, with_payload}
-use Rattle.giop_stream.specs.Events.{EventKind, Begins, Takes, Opens, Continues, Cancelled, Faults, Closes, MessageKey, Event, Open, message_key, place, own, event_of_open, id, opener_of, has_named, goes_past, continues, events_at_request_id, events_of_octet, events_of, changed, opened, events_from, now_of, header_events, payload_events, request_id_events, message_end_events, events_with_id, Now}
+use Rattle.giop_stream.specs.Events.{EventKind, Begins, Takes, Opens, Continues, Cancelled, Faults, Closes, MessageKey, Event, Open, message_key, place, own, event_of_open, key, open_under, opener_of, has_named, goes_past, continues, events_at_name, events_of_octet, events_of, changed, opened, events_from, now_of, header_events, payload_events, naming_events, message_end_events, events_with_key, Now}
+use Rattle.giop_stream.proofs.Events.MessageKinds.{long_enough}
 use Rattle.giop_stream.proofs.Events.EventInduction.{IsJoined, either, of_header, of_later}
 use Rattle.giop_stream.proofs.Lists.{fronts_push, by_growth, each_append, each_filter}
 
@@ -110,10 +112,10 @@ pub quiet_octet : (still_open : List Open) (now : Now) (o : Option Open) →
 unfolding payload_events
 quiet_octet still_open now o = search (arith, quiet_if, quiet_about, still_takes, quiet_own)
 
-pub quiet_continues : (still_open : List Open) (now : Now) (o : Option Open) →
-    opened still_open (continues now o) ≡ still_open
-quiet_continues still_open now None = search (arith, quiet_own, still_faulted)
-quiet_continues still_open now (Some o) = search (
+pub quiet_continues : (still_open : List Open) (now : Now) (key : Option ℕ) (o : Option Open) →
+    opened still_open (continues now key o) ≡ still_open
+quiet_continues still_open now key None = search (arith, quiet_own, still_faulted)
+quiet_continues still_open now key (Some o) = search (
   arith,
   quiet_both,
   quiet_own,
@@ -124,18 +126,20 @@ quiet_continues still_open now (Some o) = search (
   still_faulted,
 )
 
--- Before the last octet of a message, no message opens or closes, if its request id isn't complete
--- or it is a Fragment.
-pub four : (most : ℕ) (still_open : List Open) (m : Message) → (length m.payload == 4) ≡ true
-    → ((length m.payload < 4) ⊎ (is_fragment m.header ≡ true)) →
-    opened still_open (events_at_request_id most still_open m) ≡ still_open
-unfolding request_id_events
-four most still_open m e (inl k) = search (arith, eqb-true)
-four most still_open m e (inr k) = search (arith, quiet_continues)
+-- Before the last octet of a message, no message opens or closes, if the message has no place among
+-- the open ones yet, or is a Fragment.
+abbrev pub IsQuiet : Message → Type 0
+IsQuiet m = (length m.payload < named_at m.header) ⊎ (is_any_fragment m.header ≡ true)
+
+pub quiet_name : (most : ℕ) (still_open : List Open) (m : Message) →
+    (length m.payload == named_at m.header) ≡ true → IsQuiet m →
+    opened still_open (events_at_name most still_open m) ≡ still_open
+unfolding naming_events
+quiet_name most still_open m e (inl k) = search (arith, eqb-true)
+quiet_name most still_open m e (inr k) = search (arith, quiet_continues)
 
 pub quiet_one : (most : ℕ) (still_open : List Open) (m : Message) → length m.payload < size m.header
-    → ((length m.payload < 4) ⊎ (is_fragment m.header ≡ true)) →
-    opened still_open (events_of_octet most still_open m) ≡ still_open
+    → IsQuiet m → opened still_open (events_of_octet most still_open m) ≡ still_open
 unfolding events_of_octet
 quiet_one most still_open m h k = search (
   arith,
@@ -144,16 +148,15 @@ quiet_one most still_open m h k = search (
   quiet_if,
   quiet_header,
   quiet_octet,
-  four,
+  quiet_name,
   quiet_none,
 )
 
 payload_run : (most : ℕ) (still_open : List Open) (m : Message) (xs : List ℕ) →
-    length xs < size m.header
-    → ((length xs < 4) ⊎ (is_fragment m.header ≡ true)) →
+    length xs < size m.header → IsQuiet (with_payload m xs) →
     opened still_open (events_of most still_open (with_payload m xs)) ≡ still_open
 payload_run most still_open m =
-    by_growth (λ xs. length xs < size m.header → ((length xs < 4) ⊎ (is_fragment m.header ≡ true)) →
+    by_growth (λ xs. length xs < size m.header → IsQuiet (with_payload m xs) →
     opened still_open (events_of most still_open (with_payload m xs)) ≡ still_open)
     (λ h k. rw (events_of_none most still_open m)
     (quiet_one most still_open (with_payload m []) h k))
@@ -169,8 +172,9 @@ payload_run most still_open m =
 
 -- The events of an octet are the same, whether they are computed from the messages that were open
 -- before its message or from those that are open now.
-free : (most : ℕ) (still_open other : List Open) (m : Message) → 4 < length m.payload →
-    is_fragment m.header ≡ false → events_of_octet most still_open m ≡ events_of_octet most other m
+free : (most : ℕ) (still_open other : List Open) (m : Message) →
+    named_at m.header < length m.payload → is_any_fragment m.header ≡ false →
+    events_of_octet most still_open m ≡ events_of_octet most other m
 unfolding events_of_octet payload_events message_end_events goes_past
 free most still_open other m h k = search (arith, ne_eqb)
 
@@ -225,7 +229,13 @@ unfolding ForSome
 found Q test [] h = tt
 found Q test (o ∷ still_open) h = search (arith, found_by, found Q test still_open h.1)
 
-module _ (most : ℕ) (P : Event → Type 0) (still_open : List Open) (now : Now) (id : ℕ)
+found_under : (Q : Open → Type 0) (still_open : List Open) (key : Option ℕ) → Each Q still_open →
+    ForSome Q (open_under still_open key)
+unfolding ForSome
+found_under Q still_open None h = tt
+found_under Q still_open (Some id) h = search (arith, found)
+
+module _ (most : ℕ) (P : Event → Type 0) (still_open : List Open) (now : Now) (key : Option ℕ)
     (other : Option Open)
     (h : (what : EventKind) → P (record { place = now.place; subject = now.subject; what = what }))
     (k : ForSome (About P now) other) where
@@ -239,14 +249,14 @@ module _ (most : ℕ) (P : Event → Type 0) (still_open : List Open) (now : Now
   unfolding payload_events
   octet_each = search (arith, either, about_each, mine)
 
-  parts_each : Each P (events_with_id most still_open now id other)
-  unfolding events_with_id
+  parts_each : Each P (events_with_key most still_open now key other)
+  unfolding events_with_key
   parts_each =
       each_append P (if now.payload_count == 0 then header_events now else payload_events now other)
       _
       (either (Each P) (now.payload_count == 0) _ _
       (of_header (Each P) joined now (mine Begins) (λ fault. mine (Faults fault))) octet_each)
-      (of_later most (Each P) joined still_open now id other
+      (of_later most (Each P) joined still_open now key other
       (record {
         mine = λ what later. mine what;
         theirs =
@@ -263,25 +273,26 @@ pub events_of_octet_each : (most : ℕ) (P : Event → Type 0) (still_open : Lis
     })) still_open → Each P (events_of_octet most still_open m)
 unfolding events_of_octet opener_of About
 events_of_octet_each most P still_open m h k =
-    parts_each most P still_open (now_of m) (id m) (opener_of still_open m) h
-    (found (About P (now_of m)) (λ o. o.id == id m) still_open k)
+    parts_each most P still_open (now_of m) (key m) (opener_of still_open m) h
+    (found_under (About P (now_of m)) still_open (key m) k)
 
--- After a Fragment's request id, no event is one of the Fragment itself.
-module _ (most : ℕ) (P : Event → Type 0) (still_open : List Open) (now : Now) (id : ℕ)
+-- After a Fragment has its place among the open messages, no event is one of the Fragment itself.
+module _ (most : ℕ) (P : Event → Type 0) (still_open : List Open) (now : Now) (key : Option ℕ)
     (other : Option Open)
-    (f : is_fragment now.subject.header ≡ true) (past : 4 < now.payload_count)
+    (f : is_any_fragment now.subject.header ≡ true)
+    (past : named_at now.subject.header < now.payload_count)
     (long : now.payload_count ≤ size now.subject.header)
     (k : ForSome (About P now) other) where
   past_end : Each P (message_end_events now other)
   unfolding message_end_events
-  past_end = search (arith, le-ltb, either, about_each)
+  past_end = search (arith, long_enough, either, about_each)
 
   past_octet : Each P (payload_events now other)
   unfolding payload_events
   past_octet = search (arith, lt-ltb, about_each)
 
-  past_each : Each P (events_with_id most still_open now id other)
-  unfolding events_with_id
+  past_each : Each P (events_with_key most still_open now key other)
+  unfolding events_with_key
   past_each = search (arith, ne_eqb, each_append, past_octet, either, past_end)
 
 pub events_of_octet_agree : (most : ℕ) (P : Event → Type 0) (still_open : List Open) (m : Message) →
@@ -298,13 +309,13 @@ unfolding events_of_octet opener_of About goes_past
 events_of_octet_agree most P still_open m long h k = go (goes_past m) refl
   where
     one : ForSome (About P (now_of m)) (opener_of still_open m)
-    one = search (arith, found)
+    one = search (arith, found_under)
 
     go : (b : Bool) → goes_past m ≡ b → Each P (events_of_octet most still_open m)
     go false e = search (arith, parts_each, one)
     go true e = search (arith, and_parts, past_each, ltb-true, one)
 
--- a message before its request id is complete
+-- a message before it has its place among the open ones
 pub not_past : (m : Message) → has_named m ≡ false → goes_past m ≡ false
 unfolding has_named goes_past
 not_past m h = search (arith, leb-false, le-ltb)
@@ -320,7 +331,7 @@ changed_each : (P : MessageKey → Type 0) (still_open : List Open) (subject : M
     (what : EventKind) → Each (λ o. P o.opener) still_open
     → P subject → Each (λ o. P o.opener) (changed still_open subject what)
 unfolding changed
-changed_each P still_open subject (Opens i) h w = search (arith, each_append)
+changed_each P still_open subject (Opens key) h w = search (arith, each_append)
 changed_each P still_open subject Closes h w = search (arith, each_filter, not)
 changed_each P still_open subject (Cancelled j) h w = search (arith, each_filter, not)
 changed_each P still_open subject _ h w = h

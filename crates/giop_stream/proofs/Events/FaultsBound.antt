@@ -133,7 +133,7 @@ one_each : (R : MessageReader) (n : ℕ) (e : Event) → IsNumber n e.subject.nu
 unfolding lines_of_event
 one_each R n e h so_far all Begins = search (arith, one_line)
 one_each R n e h so_far all (Takes x) = search (arith, each_map, one_said)
-one_each R n e h so_far all (Opens id) = tt
+one_each R n e h so_far all (Opens key) = tt
 one_each R n e h so_far all (Continues i) = search (arith, one_line)
 one_each R n e h so_far all (Cancelled j) = search (arith, one_line)
 one_each R n e h so_far all (Faults fault) = search (arith, one_line)

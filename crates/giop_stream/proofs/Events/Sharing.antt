@@ -3,10 +3,12 @@ use Rattle.std.proofs.Common.{◌≡◌, ℕ, ◌≤◌, Bool, true, false, List
 use Rattle.std.specs.Prelude.{◌==◌, if◌then◌else◌}
 use Rattle.std.proofs.lemmas.Bool.{lt-ltb, le-ltb, cases_lt, ne_eqb, eq-eqb}
 use Rattle.std.proofs.lemmas.List.{append-nil, length_push, get_or_push, take-append-le, drop-append-le, take_all, drop_all}
+use Rattle.giop_stream.specs.Kinds.{is_old, named_at}
 use Rattle.giop_stream.specs.Framing.{Message, with_payload, cut, messages}
-use Rattle.giop_stream.specs.Events.{EventKind, Begins, Takes, Faults, Event, Open, own, event_of_open, id, opener_of, goes_past, events_at_header, events_at_octet, events_of_octet, events_of, opened, events_from, events, octet, joined, now_of, header_events, payload_events, Now}
+use Rattle.giop_stream.specs.Events.{EventKind, Begins, Takes, Faults, Event, Open, own, event_of_open, id, key, opener_of, goes_past, events_at_header, events_at_octet, events_of_octet, events_of, opened, events_from, events, octet, joined, now_of, header_events, payload_events, Now}
 use Rattle.giop_stream.specs.Shares.{continued, share, shares}
 use Rattle.giop_stream.proofs.Lists.{by_growth}
+use Rattle.giop_stream.proofs.Events.MessageKinds.{named_four}
 use Rattle.giop_stream.proofs.Events.EventsOfOctet.{events_of_push, events_of_none}
 use Rattle.giop_stream.proofs.StreamLines.LinesOfOctet.{joined_append}
 use Rattle.giop_stream.proofs.Events.EventInduction.{IsLater, IsJoined, of_header, of_later}
@@ -66,7 +68,7 @@ events_of_octet_is most i still_open m first h =
     still_open m) _
     ∙ rw (
       h,
-      of_later most (IsSilent i) (silent_both i) still_open (now_of m) (id m)
+      of_later most (IsSilent i) (silent_both i) still_open (now_of m) (key m)
           (opener_of still_open m) (record {
             mine = λ what later. silent_own i (now_of m) what (silent what later);
             theirs = λ what later. silent_about i (now_of m) (opener_of still_open m) what
@@ -104,7 +106,7 @@ octet_joined most i still_open m xs x = search (
   takes_if,
 )
 
--- an octet that does not come after a Fragment's request id
+-- an octet that does not come after a Fragment has its place among the open messages
 pub own_joined : (most : ℕ) (still_open : List Open) (m : Message) (xs : List ℕ) (x : ℕ) →
     goes_past (with_payload m (xs ++ x ∷ [])) ≡ false
     → joined m.number (events_of_octet most still_open (with_payload m (xs ++ x ∷ []))) ≡ x ∷ []
@@ -127,11 +129,23 @@ unfolding continued
 continued_none i None = refl
 continued_none i (Some o) = search (arith, both_empty)
 
-same_opener : (still_open : List Open) (m : Message) (xs : List ℕ) (x : ℕ) → 4 ≤ length xs
+same_id : (m : Message) (xs : List ℕ) (x : ℕ) → 4 ≤ length xs →
+    id (with_payload m (xs ++ x ∷ [])) ≡ id (with_payload m xs)
+unfolding id
+same_id m xs x h = search (arith, take-append-le)
+
+same_key : (m : Message) (xs : List ℕ) (x : ℕ) → named_at m.header ≤ length xs → (b : Bool) →
+    is_old m.header ≡ b → key (with_payload m (xs ++ x ∷ [])) ≡ key (with_payload m xs)
+unfolding key
+same_key m xs x h true e = rw e refl
+same_key m xs x h false e = search (arith, same_id, named_four)
+
+same_opener : (still_open : List Open) (m : Message) (xs : List ℕ) (x : ℕ) →
+    named_at m.header ≤ length xs
     → opener_of still_open (with_payload m (xs ++ x ∷ []))
     ≡ opener_of still_open (with_payload m xs)
-unfolding opener_of id
-same_opener still_open m xs x h = search (arith, take-append-le)
+unfolding opener_of
+same_opener still_open m xs x h = search (arith, same_key)
 
 share_grows : (i : ℕ) (still_open : List Open) (m : Message) (xs : List ℕ) (x : ℕ)
     → share i still_open (with_payload m (xs ++ x ∷ [])) ≡ share i still_open (with_payload m xs)

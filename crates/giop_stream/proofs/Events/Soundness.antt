@@ -5,6 +5,7 @@ use Rattle.std.specs.Prelude.{IfSome}
 use Rattle.std.specs.List.{list_any, AllByRecursion as Each}
 use Rattle.std.proofs.lemmas.Bool.{ltb-true}
 use Rattle.giop_message.specs.Headers.{size}
+use Rattle.giop_stream.specs.Kinds.{named_at}
 use Rattle.std.proofs.lemmas.List.{length_push}
 use Rattle.giop_stream.specs.Rules.{Rules}
 use Rattle.giop_stream.specs.Framing.{Message, with_payload, Cut, cut, messages}
@@ -37,8 +38,8 @@ pub record Fits (n : ℕ) (c : Cut) : Type 0 where
   pub held : length c.held ≤ n
   pub short : length c.held < 12
 
--- the open messages: there are at most `most`, no two have the same request id, and each is an
--- opener
+-- the open messages: there are at most `most`, no two have the same key, and each is one
+-- that Fragments continue
 pub record AreSound (most : ℕ) (still_open : List Open) : Type 0 where
   pub few : IsFew most still_open
   pub differ : Differ still_open
@@ -52,10 +53,11 @@ pub record IsSound (R : Rules) (p : List ℕ) : Type 0 where
   pub fits : (cut p).stop ≡ None → Fits (length p) (cut p)
   pub rising : Rising (open_after R.most p)
   pub early : (cut p).stop ≡ None → IfSome (cut p).current
-      (λ m. length m.payload < 4 → Below m.number (open_after R.most p))
+      (λ m. length m.payload < named_at m.header → Below m.number (open_after R.most p))
   pub still_open : AreSound R.most (open_after R.most p)
   pub begun : (cut p).stop ≡ None → IfSome (cut p).current
-      (λ m. length m.payload ≤ 4 → joined m.number (events R.most p) ≡ m.payload)
+      (λ m. length m.payload ≤ named_at m.header →
+      joined m.number (events R.most p) ≡ m.payload)
 
 settled_fits : (n : ℕ) (whole : List Message) (m : Message) → place m ≡ n →
     m.number ≡ suc (length whole) → length m.header ≡ 12 → Fits n (end_message whole m)
@@ -67,9 +69,9 @@ settled_length : (whole : List Message) (m : Message) →
 settled_length whole m = search (arith, settled_messages, length_push)
 
 settled_early : (most : ℕ) (whole : List Message) (m : Message) (still_open : List Open) →
-    (length m.payload ≤ 4 → Below m.number still_open)
+    (length m.payload ≤ named_at m.header → Below m.number still_open)
     → IfSome (end_message whole m).current
-    (λ m. length m.payload < 4 → Below m.number
+    (λ m. length m.payload < named_at m.header → Below m.number
     (opened still_open (events_of_octet most still_open m)))
 unfolding end_message
 settled_early most whole m still_open h = search (arith, quiet_one, ltb-true)
@@ -97,11 +99,11 @@ pub dealt_sound : (R : Rules) → IsCausal R.reading →
     → place m ≡ suc (length p) → m.number ≡ suc (length whole) → length m.header ≡ 12 →
     (cut p).stop ≡ None
     → length (messages (cut p)) ≤ suc (length whole) →
-    (length m.payload ≤ 4 → Below m.number (open_after R.most p))
+    (length m.payload ≤ named_at m.header → Below m.number (open_after R.most p))
     → length (messages (cut p)) + start_count
     (sorted_lines R.reading (octets_of R p) (events_of_octet R.most (open_after R.most p) m))
     ≡ suc (length whole)
-    → (length m.payload ≤ 4 → joined m.number (events R.most p)
+    → (length m.payload ≤ named_at m.header → joined m.number (events R.most p)
     ++ joined m.number (events_of_octet R.most (open_after R.most p) m) ≡ m.payload)
     → IsSound R p → IsSound R p'
 dealt_sound R causal p p' whole m len ec ev pl nm twelve st more low starts grows sound =
@@ -147,12 +149,13 @@ dealt_sound R causal p p' whole m len ec ev pl nm twelve st more low starts grow
       starts = sc ∙ (rw (sound.starts) starts ∙ sym count);
       fits = λ st. rw (ec, len) (settled_fits (suc (length p)) whole m pl nm twelve);
       rising = rw (open_grows R.most p p' es ev)
-          (rising_events R.most still_open m sound.rising (λ four. low (omega arith)));
+          (rising_events R.most still_open m sound.rising (λ named. low (omega arith)));
       early = λ st.
           let grows = open_grows R.most p p' es ev in
-          rw ec (settled_current whole m (λ m. length m.payload < 4 →
+          rw ec (settled_current whole m (λ m. length m.payload < named_at m.header →
           Below m.number (opened still_open (events_of_octet R.most still_open m)))
-          (λ m. length m.payload < 4 → Below m.number (open_after R.most p'))
+          (λ m. length m.payload < named_at m.header →
+          Below m.number (open_after R.most p'))
           (λ k short. subst (Below m.number) (sym grows) (k short))
           (settled_early R.most whole m still_open low));
       still_open = rw opens (record {
@@ -161,7 +164,8 @@ dealt_sound R causal p p' whole m len ec ev pl nm twelve st more low starts grow
         openers = openers_events R.most still_open m sound.still_open.openers;
       });
       begun = λ st. rw (ec, ev) (settled_if whole m
-          (λ m. length m.payload ≤ 4 → joined m.number (events R.most p ++ es) ≡ m.payload)
+          (λ m. length m.payload ≤ named_at m.header →
+          joined m.number (events R.most p ++ es) ≡ m.payload)
           (λ short. joined_append m.number (events R.most p) es ∙ grows short));
     }
   where

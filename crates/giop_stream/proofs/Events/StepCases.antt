@@ -4,6 +4,7 @@ use Rattle.std.specs.Prelude.{◌==◌, IfSome}
 use Rattle.std.proofs.lemmas.Bool.{eq-eqb, cases_eq}
 use Rattle.std.proofs.lemmas.List.{length_push}
 use Rattle.giop_checkpoint.specs.declared.fault.StreamFault.{StreamFault}
+use Rattle.giop_stream.specs.Kinds.{named_at}
 use Rattle.giop_stream.specs.Rules.{Rules}
 use Rattle.giop_stream.specs.Framing.{Message, with_payload, Cut, cut, messages}
 use Rattle.giop_stream.specs.Events.{place, events_from, events, open_after, joined}
@@ -21,9 +22,10 @@ pub quiet_sound : (R : Rules) → (p p' : List ℕ) → length p' ≡ suc (lengt
     start_count (lines R p') ≡ start_count (lines R p)
     → ((cut p').stop ≡ None → Fits (suc (length p)) (cut p'))
     → ((cut p').stop ≡ None → IfSome (cut p').current
-    (λ m. length m.payload < 4 → Below m.number (open_after R.most p')))
+    (λ m. length m.payload < named_at m.header → Below m.number (open_after R.most p')))
     → ((cut p').stop ≡ None → IfSome (cut p').current
-    (λ m. length m.payload ≤ 4 → joined m.number (events R.most p') ≡ m.payload)) →
+    (λ m. length m.payload ≤ named_at m.header →
+    joined m.number (events R.most p') ≡ m.payload)) →
     IsSound R p → IsSound R p'
 quiet_sound R p p' len ms ev sd sc fits early begun sound = record {
   places = rw (ev, len) (each_weaker (λ e. e.place ≤ length p) (λ e. e.place ≤ suc (length p))

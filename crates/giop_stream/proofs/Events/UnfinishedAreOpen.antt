@@ -1,4 +1,4 @@
--- The first messages (all except 1.2 Fragments) that are not over are the open ones and the current
+-- The first messages (all except Fragments) that are not over are the open ones and the current
 -- one, as far as these are not over.
 use Rattle.std.proofs.Common.{inl, inr, ◌⊎◌, ◌≡◌, ℕ, suc, ◌<◌, ◌≤◌, Bool, true, false, cond, not, List, [], ◌∷◌, ◌++◌, length, map, refl, sym, subst, ◌∙◌, Option, Some, None, arith}
 use Rattle.std.specs.Prelude.{if◌then◌else◌, ◌||◌, IfSome}
@@ -6,7 +6,8 @@ use Rattle.std.specs.List.{filter, list_any, AllByRecursion as Each}
 use Rattle.std.proofs.lemmas.Bool.{or_left, ltb-false}
 use Rattle.std.proofs.lemmas.List.{append-nil, map-append, length_push}
 use Rattle.std.proofs.lemmas.List.Elements.{filter-append}
-use Rattle.giop_message.specs.Headers.{size, is_fragment, is_opener}
+use Rattle.giop_message.specs.Headers.{size}
+use Rattle.giop_stream.specs.Kinds.{has_fragments, is_any_fragment, named_at}
 use Rattle.giop_stream.specs.Rules.{Rules}
 use Rattle.giop_stream.specs.Framing.{Message, with_payload, Cut, cut, messages}
 use Rattle.giop_message.specs.MessageReader.{IsCausal, IsEnding, IsStreamable}
@@ -41,7 +42,8 @@ pub record IsComplete (R : Rules) (p : List ℕ) : Type 0 where
   pub kept : alive (is_over R p) (first_messages (messages (cut p)))
       ≡ alive (is_over R p) (numbers_of (open_after R.most p)
       ++ tail_now (open_after R.most p) (cut p).current)
-  pub named : IfSome (cut p).current (λ m. is_opener m.header ≡ true → 4 ≤ length m.payload →
+  pub named : IfSome (cut p).current (λ m. has_fragments m.header ≡ true →
+      named_at m.header ≤ length m.payload →
       Known (is_over R p) (open_after R.most p) m)
 
 over_same : (R : Rules) (p p' : List ℕ) → lines_of_messages R p' ≡ lines_of_messages R p →
@@ -69,7 +71,7 @@ alive_less over more [] = refl
 alive_less over more (i ∷ xs) = search (arith, less_by, alive, not, alive_less over more xs)
 
 head_of : Message → List ℕ
-head_of m = if is_fragment m.header then [] else m.number ∷ []
+head_of m = if is_any_fragment m.header then [] else m.number ∷ []
 
 heads_push : (ms : List Message) (m : Message) → first_messages (ms ++ m ∷ []) ≡ first_messages ms
     ++ head_of m
@@ -77,7 +79,7 @@ unfolding first_messages head_of
 heads_push ms m = search (arith, filter-append, not, map-append, cond, map)
 
 known_tail : (over : ℕ → Bool) (still_open : List Open) (m : Message) →
-    (is_fragment m.header ≡ false → Known over still_open m) →
+    (is_any_fragment m.header ≡ false → Known over still_open m) →
     alive over (tail_of still_open m) ≡ []
 unfolding tail_of Known alive
 known_tail over still_open m h = search (arith, alive, tail_of, dead_tail)
@@ -99,7 +101,8 @@ alive_same over over' more xs ys h k =
     rw (mix, alive_less over more xs, alive_less over more ys, k) refl
 
 settled_kept : (over : ℕ → Bool) (whole : List Message) (m : Message) (still_open : List Open)
-    → (size m.header ≤ length m.payload → is_fragment m.header ≡ false → Known over still_open m)
+    → (size m.header ≤ length m.payload → is_any_fragment m.header ≡ false →
+    Known over still_open m)
     → alive over (base still_open m) ≡ alive over
     (numbers_of still_open ++ tail_now still_open (end_message whole m).current)
 unfolding end_message base tail_now
@@ -131,11 +134,11 @@ complete_deal : (R : Rules) → IsCausal R.reading → IsEnding R.reading →
     → length p' ≡ suc (length p) → cut p' ≡ end_message whole m → events R.most p' ≡ events R.most p
     ++ events_of_octet R.most (open_after R.most p) m
     → Each (λ e. e.place ≤ length p) (events R.most p) → place m ≡ suc (length p)
-    → length m.payload ≤ size m.header → (length m.payload ≡ 4 →
+    → length m.payload ≤ size m.header → (length m.payload ≡ named_at m.header →
     Below m.number (open_after R.most p))
     → alive (is_over R p) (first_messages whole ++ head_of m)
     ≡ alive (is_over R p) (base (open_after R.most p) m)
-    → (is_opener m.header ≡ true → 4 < length m.payload →
+    → (has_fragments m.header ≡ true → named_at m.header < length m.payload →
     Known (is_over R p) (open_after R.most p) m)
     → IsComplete R p'
 complete_deal R causal ending p p' whole m len ec ev old pl fits low start known =
@@ -151,7 +154,8 @@ complete_deal R causal ending p p' whole m len ec ev old pl fits low start known
     let d : Each (Dead over) es = dead R ending p p' es sd in
     let mix : (i : ℕ) → over i ≡ (is_over R p i || list_any (is_last_of i) ls) =
     λ i. is_over_grows R p p' ls i sd in
-    let after : is_opener m.header ≡ true → 4 < length m.payload → Known over still_open m =
+    let after : has_fragments m.header ≡ true → named_at m.header < length m.payload →
+    Known over still_open m =
     λ o long. known_later (is_over R p) over (λ i. list_any (is_last_of i) ls) still_open m mix
     (known o long) in
     let ms : first_messages (messages (cut p')) ≡ first_messages whole ++ head_of m =
@@ -163,9 +167,9 @@ complete_deal R causal ending p p' whole m len ec ev old pl fits low start known
     let three = settled_kept over whole m (opened still_open es)
     (λ full f. done_known R.most over m still_open f (omega arith) after d) in
     let named' : IfSome (end_message whole m).current
-    (λ m. is_opener m.header ≡ true → 4 ≤ length m.payload →
+    (λ m. has_fragments m.header ≡ true → named_at m.header ≤ length m.payload →
     Known over (opened still_open es) m) =
-    settled_if whole m (λ m. is_opener m.header ≡ true → 4 ≤ length m.payload →
+    settled_if whole m (λ m. has_fragments m.header ≡ true → named_at m.header ≤ length m.payload →
     Known over (opened still_open es) m)
     (λ o long. opener_known R.most over m still_open o long fits (after o) d) in
     record {
@@ -190,8 +194,8 @@ first_base over still_open hs m low h = search (arith, not_open, alive, numbers_
 record Ready (R : Rules) (p : List ℕ) (m : Message) : Type 0 where
   start : alive (is_over R p) (first_messages (cut p).whole ++ head_of m)
       ≡ alive (is_over R p) (base (open_after R.most p) m)
-  low : length m.payload ≡ 4 → Below m.number (open_after R.most p)
-  known : is_opener m.header ≡ true → 4 < length m.payload →
+  low : length m.payload ≡ named_at m.header → Below m.number (open_after R.most p)
+  known : has_fragments m.header ≡ true → named_at m.header < length m.payload →
       Known (is_over R p) (open_after R.most p) m
 
 module _ (R : Rules) (causal : IsCausal R.reading) (ending : IsEnding R.reading) (p : List ℕ)

@@ -1,22 +1,22 @@
 -- Which messages are unfinished: the open ones and the current one, unless they are over.
 use Rattle.std.proofs.Common.{arith, ◌≡◌, ℕ, Bool, true, false, cond, not, List, [], ◌∷◌, ◌++◌, length, refl, ◌∙◌, Option, Some, None}
-use Rattle.std.specs.Prelude.{if◌then◌else◌, ◌||◌, ◌&&◌, ◌==◌, nat_le, flat_map}
+use Rattle.std.specs.Prelude.{if◌then◌else◌, ◌||◌, ◌&&◌, nat_le, flat_map}
 use Rattle.std.specs.List.{AllByRecursion as Each}
 use Rattle.std.proofs.lemmas.Bool.{eq-eqb, or_right}
-use Rattle.giop_message.specs.Headers.{is_fragment}
+use Rattle.giop_stream.specs.Kinds.{is_any_fragment, named_at}
 use Rattle.giop_stream.specs.Rules.{Rules}
 use Rattle.giop_stream.specs.Framing.{Message, Cut, cut, read_of}
 use Rattle.giop_message.specs.MessageReader.{IsCausal, IsEnding, IsStreamable}
 use Rattle.giop_stream.specs.Text.{truncated_line}
 use Rattle.giop_stream.specs.Stream.{is_inside, is_over, unfinished}
-use Rattle.giop_stream.specs.Events.{Open, message_key, id, opener_of, has_named, events, open_after, joined}
+use Rattle.giop_stream.specs.Events.{Open, message_key, key, opener_of, has_named, events, open_after, joined}
 use Rattle.giop_stream.specs.OpenSlots.{OctetsByNumber, octets_of, is_open, slots_of, Tracked, tracked_after, left_by, left_open}
 use Rattle.giop_stream.specs.EngineState.{opener_key, owner_of_next, owner_of_next_in, state_of}
 use Rattle.giop_stream.specs.EngineStep.{left_current, left_over}
 use Rattle.giop_stream.proofs.Lists.{each_weaker}
 use Rattle.giop_stream.proofs.StreamLines.LastLines.{octets_known}
 use Rattle.giop_stream.proofs.StreamLines.FirstMessages.{numbers_of, tail_of, alive}
-use Rattle.giop_stream.proofs.Events.EventsByEngine.{found_in}
+use Rattle.giop_stream.proofs.Events.EventsByEngine.{found_under}
 use Rattle.giop_stream.proofs.Events.UnfinishedAreOpen.{tail_now, alive_append, complete}
 
 -- The message numbers that an engine has at the finish are those of the unfinished messages.
@@ -61,15 +61,15 @@ current_left : (over : ℕ → Bool) (c : Tracked) (current : Option Message)
     ≡ alive over (tail_now c.still_open current)
 unfolding left_current owner_of_next has_named opener_of alive tail_now tail_of
 current_left over c None h k = refl
-current_left over c (Some m) h k = go (is_fragment m.header) refl
+current_left over c (Some m) h k = go (is_any_fragment m.header) refl
   where
     continued : (o : Option Open) → opener_of c.still_open m ≡ o →
         left_current c (opener_key o) ≡ []
     continued None e = refl
-    continued (Some o) e = rw (found_in (λ o. is_open c.still_open o.opener.number ≡ true)
-        (λ o. o.id == id m) c.still_open o (all_open c.still_open) e) refl
+    continued (Some o) e = rw (found_under (λ o. is_open c.still_open o.opener.number ≡ true)
+        c.still_open (key m) o (all_open c.still_open) e) refl
 
-    fragment : is_fragment m.header ≡ true → (b d : Bool) → is_open c.still_open m.number ≡ d →
+    fragment : is_any_fragment m.header ≡ true → (b d : Bool) → is_open c.still_open m.number ≡ d →
         left_current c (if b then opener_key (opener_of c.still_open m) else Some (message_key m))
         ≡ []
     fragment f true d e = search (arith, continued)
@@ -83,10 +83,11 @@ current_left over c (Some m) h k = go (is_fragment m.header) refl
     itself false true e = rw (h m.number e, e) refl
     itself false false e = search (arith)
 
-    go : (b : Bool) → is_fragment m.header ≡ b
-        → left_current c (if is_fragment m.header && nat_le 4 (length m.payload) then
+    go : (b : Bool) → is_any_fragment m.header ≡ b
+        → left_current c (if is_any_fragment m.header && nat_le (named_at m.header)
+        (length m.payload) then
         opener_key (opener_of c.still_open m) else Some (message_key m)) ≡ alive over
-        (if is_fragment m.header || is_open c.still_open m.number then [] else m.number ∷ [])
+        (if is_any_fragment m.header || is_open c.still_open m.number then [] else m.number ∷ [])
     go true f = search (arith, fragment)
     go false f = search (arith, or_none, itself)
 

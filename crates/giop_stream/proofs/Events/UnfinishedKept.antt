@@ -3,15 +3,17 @@
 use Rattle.std.proofs.Common.{inl, inr, ◌⊎◌, ◌≡◌, ℕ, ◌<◌, ◌≤◌, Bool, true, false, List, [], ◌∷◌, ◌++◌, length, map, refl, ap, Option, Some, None, arith}
 use Rattle.std.specs.Prelude.{nat_le, ◌==◌, if◌then◌else◌}
 use Rattle.std.specs.List.{AllByRecursion as Each}
-use Rattle.std.proofs.lemmas.Bool.{and_right, and_parts, cases_lt, lt-ltb, le-ltb, eq-eqb, ne_eqb, eqb-true}
+use Rattle.std.proofs.lemmas.Bool.{cases_lt, eq-eqb, ne_eqb, eqb-true}
 use Rattle.std.proofs.lemmas.List.{append-nil, map-append}
 use Rattle.giop_stream.specs.declared.fault.FramingFault.{FramingFault}
-use Rattle.giop_stream.specs.declared.fault.FramingFault.TheVariants.{Short, IdOpen, TooManyOpen}
-use Rattle.giop_message.specs.Headers.{size, kind, may_be_fragmented, is_fragment, is_opener}
+use Rattle.giop_stream.specs.declared.fault.FramingFault.TheVariants.{OldFragment, Short, IdOpen, TooManyOpen}
+use Rattle.giop_message.specs.Headers.{size}
+use Rattle.giop_stream.specs.Kinds.{has_fragments, is_any_fragment, named_at}
 use Rattle.giop_stream.specs.Framing.{Message}
-use Rattle.giop_stream.specs.Events.{EventKind, Opens, Cancelled, Faults, Closes, MessageKey, Event, Open, id, own, event_of_open, opener_of, events_at_header, events_at_octet, opens, cancels, events_at_request_id, events_at_end, events_of_octet, changed, opened, now_of, request_id_events, message_end_events}
+use Rattle.giop_stream.specs.Events.{EventKind, Opens, Cancelled, Faults, Closes, MessageKey, Event, Open, key, own, event_of_open, opener_of, events_at_header, events_at_octet, opens, cancels, events_at_name, events_at_end, events_of_octet, changed, opened, now_of, naming_events, message_end_events}
 use Rattle.giop_stream.specs.OpenSlots.{is_open}
 use Rattle.giop_stream.proofs.Events.EventsOfOctet.{opened_append, quiet_header, quiet_octet, quiet_continues, quiet_if, quiet_own, quiet_none, still_faulted}
+use Rattle.giop_stream.proofs.Events.MessageKinds.{first_no_fragment, short_first, long_enough, other_long}
 use Rattle.giop_stream.proofs.Events.EventsKeep.{Below}
 use Rattle.giop_stream.proofs.StreamLines.LastLines.{any_right, is_final, Dead}
 use Rattle.giop_stream.proofs.StreamLines.FirstMessages.{numbers_of, tail_of, base, alive, without, removed}
@@ -94,11 +96,11 @@ unfolding is_open
 open_last still_open o = search (arith, any_right, eq-eqb)
 
 stays_opens : (over : ℕ → Bool) (m : Message) (still_open : List Open) →
-    is_fragment m.header ≡ false → Below m.number still_open →
-    Stays over m still_open (own (now_of m) (Opens (id m)))
+    is_any_fragment m.header ≡ false → Below m.number still_open → (k : Option ℕ) →
+    Stays over m still_open (own (now_of m) (Opens k))
 unfolding Stays own opened changed base tail_of numbers_of
-stays_opens over m still_open f low =
-    let o : Open = record { id = id m; opener = record { number = m.number; header = m.header } } in
+stays_opens over m still_open f low k =
+    let o : Open = record { key = k; opener = record { number = m.number; header = m.header } } in
     let now : is_open (still_open ++ o ∷ []) m.number ≡ true = open_last still_open o in
     rw (
       f,
@@ -109,15 +111,22 @@ stays_opens over m still_open f low =
     (ap (alive over) (append-nil (map (λ o. o.opener.number) still_open ++ m.number ∷ [])))
 
 stays_opening : (most : ℕ) (over : ℕ → Bool) (m : Message) (still_open : List Open) →
-    Below m.number still_open → is_fragment m.header ≡ false
-    → (o : Option Open) → Stays over m still_open (opens most still_open (now_of m) (id m) o)
-stays_opening most over m still_open low f (Some other) = search (
+    Below m.number still_open → is_any_fragment m.header ≡ false
+    → (k : Option ℕ) (o : Option Open) → Stays over m still_open
+    (opens most still_open (now_of m) k o)
+stays_opening most over m still_open low f None o = search (
   arith,
   stays_quiet,
   quiet_own,
   still_faulted,
 )
-stays_opening most over m still_open low f None = search (
+stays_opening most over m still_open low f (Some id) (Some other) = search (
+  arith,
+  stays_quiet,
+  quiet_own,
+  still_faulted,
+)
+stays_opening most over m still_open low f (Some id) None = search (
   arith,
   stays_quiet,
   quiet_own,
@@ -138,11 +147,11 @@ stays_cancels over m still_open (Some o) d = search (
   quiet_none,
 )
 
-stays_id : (most : ℕ) (over : ℕ → Bool) (m : Message) (still_open : List Open) →
-    Below m.number still_open → Each (Dead over) (events_at_request_id most still_open m) →
-    Stays over m still_open (events_at_request_id most still_open m)
-unfolding request_id_events
-stays_id most over m still_open low = search (
+stays_name : (most : ℕ) (over : ℕ → Bool) (m : Message) (still_open : List Open) →
+    Below m.number still_open → Each (Dead over) (events_at_name most still_open m) →
+    Stays over m still_open (events_at_name most still_open m)
+unfolding naming_events
+stays_name most over m still_open low = search (
   arith,
   stays_if,
   stays_quiet,
@@ -167,7 +176,7 @@ unfolding Stays
 stays_both over m still_open es more h k = search (arith, opened_append)
 
 pub stays_events : (most : ℕ) (over : ℕ → Bool) (m : Message) (still_open : List Open) →
-    (length m.payload ≡ 4 → Below m.number still_open)
+    (length m.payload ≡ named_at m.header → Below m.number still_open)
     → Each (Dead over) (events_of_octet most still_open m) →
     Stays over m still_open (events_of_octet most still_open m)
 unfolding events_of_octet
@@ -178,7 +187,7 @@ stays_events most over m still_open low d = search (
   quiet_octet,
   each_right,
   stays_if,
-  stays_id,
+  stays_name,
   eqb-true,
   stays_quiet,
   quiet_none,
@@ -187,15 +196,7 @@ stays_events most over m still_open low d = search (
   stays_both,
 )
 
--- When a first message (one that is no 1.2 Fragment) has its last octet, it is open or over.
-opener_kind : (h : List ℕ) → may_be_fragmented h ≡ true → (kind h == 7) ≡ false
-unfolding may_be_fragmented
-opener_kind h e = search (arith, ne_eqb)
-
-opener_no_fragment : (h : List ℕ) → is_opener h ≡ true → is_fragment h ≡ false
-unfolding is_opener is_fragment
-opener_no_fragment h e = search (arith, and_parts, and_right, opener_kind)
-
+-- When a first message (one that is no Fragment) has its last octet, it is open or over.
 unfoldable pub Known : (ℕ → Bool) → List Open → Message → Type 0
 Known over still_open m = (is_open still_open m.number ≡ true) ⊎ (over m.number ≡ true)
 
@@ -208,53 +209,53 @@ final_faulted : (fault : FramingFault) → is_final (Faults fault) ≡ true
 unfolding is_final
 final_faulted fault = refl
 
-opens_known : (over : ℕ → Bool) (m : Message) (still_open : List Open) →
-    Known over (opened still_open (own (now_of m) (Opens (id m)))) m
+opens_known : (over : ℕ → Bool) (m : Message) (still_open : List Open) (k : Option ℕ) →
+    Known over (opened still_open (own (now_of m) (Opens k))) m
 unfolding Known opened own changed
-opens_known over m still_open = inl (open_last still_open
-    (record { id = id m; opener = record { number = m.number; header = m.header } }))
+opens_known over m still_open k = inl (open_last still_open
+    (record { key = k; opener = record { number = m.number; header = m.header } }))
 
-known_opens : (most : ℕ) (over : ℕ → Bool) (m : Message) (still_open : List Open) →
-    Each (Dead over) (opens most still_open (now_of m) (id m) (opener_of still_open m)) →
-    Known over (opened still_open (opens most still_open (now_of m) (id m)
-    (opener_of still_open m))) m
+known_opens : (most : ℕ) (over : ℕ → Bool) (m : Message) (still_open : List Open) (k : Option ℕ)
+    (o : Option Open) → Each (Dead over) (opens most still_open (now_of m) k o) →
+    Known over (opened still_open (opens most still_open (now_of m) k o)) m
 unfolding Known
-known_opens most over m still_open = go (opener_of still_open m)
+known_opens most over m still_open None o d =
+    inr (dead_own over m (Faults OldFragment) (final_faulted OldFragment) d)
+known_opens most over m still_open (Some id) (Some other) d =
+    inr (dead_own over m (Faults IdOpen) (final_faulted IdOpen) d)
+known_opens most over m still_open (Some id) None d = pick (nat_le most (length still_open)) d
   where
-    go : (o : Option Open) → Each (Dead over) (opens most still_open (now_of m) (id m) o)
-        → Known over (opened still_open (opens most still_open (now_of m) (id m) o)) m
-    go (Some other) d = inr (dead_own over m (Faults IdOpen) (final_faulted IdOpen) d)
-    go None d = pick (nat_le most (length still_open)) d
-      where
-        pick : (b : Bool) → Each (Dead over)
-            (if b then own (now_of m) (Faults TooManyOpen) else own (now_of m) (Opens (id m)))
-            → Known over (opened still_open (if b then own (now_of m) (Faults TooManyOpen) else own
-            (now_of m) (Opens (id m)))) m
-        pick true d = inr (dead_own over m (Faults TooManyOpen) (final_faulted TooManyOpen) d)
-        pick false d = opens_known over m still_open
+    pick : (b : Bool) → Each (Dead over)
+        (if b then own (now_of m) (Faults TooManyOpen) else own (now_of m) (Opens (Some id)))
+        → Known over (opened still_open (if b then own (now_of m) (Faults TooManyOpen) else own
+        (now_of m) (Opens (Some id)))) m
+    pick true d = inr (dead_own over m (Faults TooManyOpen) (final_faulted TooManyOpen) d)
+    pick false d = opens_known over m still_open (Some id)
 
-opener_end : (still_open : List Open) (m : Message) → is_opener m.header ≡ true →
-    4 ≤ size m.header → events_at_end still_open m ≡ []
+opener_end : (still_open : List Open) (m : Message) → has_fragments m.header ≡ true →
+    named_at m.header ≤ size m.header → events_at_end still_open m ≡ []
 unfolding message_end_events
-opener_end still_open m o h = search (arith, le-ltb)
+opener_end still_open m o h = search (arith, long_enough)
 
-head_end : (still_open : List Open) (m : Message) → is_opener m.header ≡ false →
-    is_fragment m.header ≡ false → events_at_end still_open m ≡ own (now_of m) Closes
+head_end : (still_open : List Open) (m : Message) → has_fragments m.header ≡ false →
+    is_any_fragment m.header ≡ false → events_at_end still_open m ≡ own (now_of m) Closes
 unfolding message_end_events
-head_end still_open m o f = search (arith, and_right)
+head_end still_open m o f = search (arith, other_long)
 
-short_end : (still_open : List Open) (m : Message) → is_opener m.header ≡ true → size m.header < 4 →
+short_end : (still_open : List Open) (m : Message) → has_fragments m.header ≡ true →
+    size m.header < named_at m.header →
     events_at_end still_open m ≡ own (now_of m) (Faults Short)
 unfolding message_end_events
-short_end still_open m o h = search (arith, lt-ltb)
+short_end still_open m o h = search (arith, short_first)
 
-opener_id : (most : ℕ) (still_open : List Open) (m : Message) → is_opener m.header ≡ true →
-    events_at_request_id most still_open m
-    ≡ opens most still_open (now_of m) (id m) (opener_of still_open m)
-unfolding request_id_events
-opener_id most still_open m o = search (arith, opener_no_fragment)
+opener_name : (most : ℕ) (still_open : List Open) (m : Message) → has_fragments m.header ≡ true →
+    events_at_name most still_open m
+    ≡ opens most still_open (now_of m) (key m) (opener_of still_open m)
+unfolding naming_events
+opener_name most still_open m o = search (arith, first_no_fragment)
 
-third_none : (still_open : List Open) (m : Message) → is_opener m.header ≡ true → 4 ≤ size m.header
+third_none : (still_open : List Open) (m : Message) → has_fragments m.header ≡ true →
+    named_at m.header ≤ size m.header
     → (if length m.payload == size m.header then events_at_end still_open m else []) ≡ []
 third_none still_open m o h = search (arith, opener_end)
 
@@ -265,7 +266,8 @@ first_quiet still_open m = search (arith, quiet_if, quiet_header, quiet_octet)
 
 -- the open messages after the three parts of an octet's events
 after_parts : (most : ℕ) (still_open : List Open) (m : Message) (second third : List Event)
-    → (if length m.payload == 4 then events_at_request_id most still_open m else []) ≡ second
+    → (if length m.payload == named_at m.header then events_at_name most still_open m else []) ≡
+    second
     → (if length m.payload == size m.header then events_at_end still_open m else []) ≡ third
     → opened still_open (events_of_octet most still_open m)
     ≡ opened (opened still_open second) third
@@ -274,46 +276,54 @@ after_parts most still_open m second third h k = search (arith, opened_append, f
 
 dead_parts : (most : ℕ) (over : ℕ → Bool) (still_open : List Open) (m : Message)
     (second third : List Event)
-    → (if length m.payload == 4 then events_at_request_id most still_open m else []) ≡ second
+    → (if length m.payload == named_at m.header then events_at_name most still_open m else []) ≡
+    second
     → (if length m.payload == size m.header then events_at_end still_open m else []) ≡ third →
     Each (Dead over) (events_of_octet most still_open m)
     → Each (Dead over) (second ++ third)
 unfolding events_of_octet
 dead_parts most over still_open m second third h k d = search (arith, each_right)
 
-second_none : (most : ℕ) (still_open : List Open) (m : Message) → 4 < length m.payload →
-    (if length m.payload == 4 then events_at_request_id most still_open m else []) ≡ []
+second_none : (most : ℕ) (still_open : List Open) (m : Message) →
+    named_at m.header < length m.payload →
+    (if length m.payload == named_at m.header then events_at_name most still_open m else []) ≡ []
 second_none most still_open m h = search (arith, ne_eqb)
 
 pub opener_known : (most : ℕ) (over : ℕ → Bool) (m : Message) (still_open : List Open) →
-    is_opener m.header ≡ true → 4 ≤ length m.payload
-    → length m.payload ≤ size m.header → (4 < length m.payload → Known over still_open m)
+    has_fragments m.header ≡ true → named_at m.header ≤ length m.payload
+    → length m.payload ≤ size m.header → (named_at m.header < length m.payload →
+    Known over still_open m)
     → Each (Dead over) (events_of_octet most still_open m) →
     Known over (opened still_open (events_of_octet most still_open m)) m
 unfolding opened
-opener_known most over m still_open o long fits before d = elim (cases_lt 4 (length m.payload)) [
-  | inl past ↦
-      let none : (if length m.payload == size m.header then events_at_end still_open m else [])
-      ≡ [] = third_none still_open m o (omega arith) in
-      rw (after_parts most still_open m [] [] (second_none most still_open m past) none)
-      (before past)
-  | inr least ↦
-      let now : length m.payload ≡ 4 = omega arith in
-      let two : (if length m.payload == 4 then events_at_request_id most still_open m else [])
-      ≡ opens most still_open (now_of m) (id m) (opener_of still_open m) =
-      rw (eq-eqb (length m.payload) 4 now) (opener_id most still_open m o) in
-      let none : (if length m.payload == size m.header then events_at_end still_open m else [])
-      ≡ [] = third_none still_open m o (omega arith) in
-      let dead_two = each_left (Dead over) (opens most still_open (now_of m) (id m)
-      (opener_of still_open m)) [] (dead_parts most over still_open m
-      (opens most still_open (now_of m) (id m) (opener_of still_open m)) [] two none d) in
-      rw (after_parts most still_open m (opens most still_open (now_of m) (id m)
-      (opener_of still_open m)) [] two none) (known_opens most over m still_open dead_two)
-]
+opener_known most over m still_open o long fits before d =
+    elim (cases_lt (named_at m.header) (length m.payload)) [
+      | inl past ↦
+          let none : (if length m.payload == size m.header then events_at_end still_open m else [])
+          ≡ [] = third_none still_open m o (omega arith) in
+          rw (after_parts most still_open m [] [] (second_none most still_open m past) none)
+          (before past)
+      | inr least ↦
+          let now : length m.payload ≡ named_at m.header = omega arith in
+          let two : (if length m.payload == named_at m.header then events_at_name most still_open m
+          else [])
+          ≡ opens most still_open (now_of m) (key m) (opener_of still_open m) =
+          rw (eq-eqb (length m.payload) (named_at m.header) now)
+          (opener_name most still_open m o) in
+          let none : (if length m.payload == size m.header then events_at_end still_open m else [])
+          ≡ [] = third_none still_open m o (omega arith) in
+          let dead_two = each_left (Dead over) (opens most still_open (now_of m) (key m)
+          (opener_of still_open m)) [] (dead_parts most over still_open m
+          (opens most still_open (now_of m) (key m) (opener_of still_open m)) [] two none d) in
+          rw (after_parts most still_open m (opens most still_open (now_of m) (key m)
+          (opener_of still_open m)) [] two none) (known_opens most over m still_open (key m)
+          (opener_of still_open m) dead_two)
+    ]
 
 pub done_known : (most : ℕ) (over : ℕ → Bool) (m : Message) (still_open : List Open) →
-    is_fragment m.header ≡ false
-    → length m.payload ≡ size m.header → (is_opener m.header ≡ true → 4 < length m.payload →
+    is_any_fragment m.header ≡ false
+    → length m.payload ≡ size m.header → (has_fragments m.header ≡ true →
+    named_at m.header < length m.payload →
     Known over still_open m)
     → Each (Dead over) (events_of_octet most still_open m) →
     Known over (opened still_open (events_of_octet most still_open m)) m

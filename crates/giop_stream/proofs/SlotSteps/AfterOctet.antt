@@ -1,23 +1,25 @@
 -- A payload octet after its owner has taken it, as the code does it: at the request id, and at the
 -- end.
-use Rattle.std.proofs.Common.{◌≡◌, ℕ, ◌≤◌, Bool, true, false, List, length, refl, sym, subst, Option, Some, None, arith}
+use Rattle.std.proofs.Common.{◌≡◌, ℕ, ◌≤◌, Bool, true, false, not, List, length, refl, sym, subst, ◌∙◌, Option, Some, None, arith}
 use Rattle.std.specs.Prelude.{◌==◌, ◌&&◌, if◌then◌else◌}
-use Rattle.std.proofs.lemmas.Bool.{eq-eqb, eqb-true, lt-leb, le-leb, lt-ltb, le-ltb, cases_lt, false≢true}
+use Rattle.std.proofs.lemmas.Bool.{eq-eqb, eqb-true, ne_eqb, and_parts, lt-leb, le-leb, lt-ltb, le-ltb, cases_lt, false≢true}
 use Rattle.giop_sig.specs.Table.{Table}
 use Rattle.giop_message.specs.Phases.{unbroken}
 use Rattle.giop_message.specs.Signatures.{Answers, signatures_of}
 use Rattle.giop_message.specs.Messages.{message, message_lines}
 use Rattle.giop_message.specs.ReaderOfTable.{message_reader, first_request_id}
 use Rattle.giop_message.specs.Headers.{size}
+use Rattle.giop_stream.specs.Kinds.{is_old, named_at}
 use Rattle.giop_stream.specs.declared.slots.Slots.{Slots}
 use Rattle.giop_stream.specs.declared.current.Current.{Current}
 use Rattle.giop_stream.specs.Framing.{Message}
-use Rattle.giop_stream.specs.Events.{MessageKey, Open, id, message_key, has_named, goes_past, events_at_request_id, events_at_end}
+use Rattle.giop_stream.specs.Events.{MessageKey, Open, id, message_key, has_named, goes_past, events_at_name, events_at_end}
 use Rattle.giop_stream.specs.Effects.{effects, no_effect}
 use Rattle.giop_stream.specs.OpenSlots.{Tracked, IsNotOpen}
 use Rattle.giop_stream.specs.SlotsRepresent.{RepresentsMessage, SlotsRepresent, current_of}
-use Rattle.giop_stream.specs.PayloadOwner.{IsAtRequestId, IsAfterTake, IsAtOctet, IsNewest, owner_after_id, owner_of_octet, owner_after, id_events, end_events}
+use Rattle.giop_stream.specs.PayloadOwner.{IsAtRequestId, IsAfterTake, IsAtOctet, IsNewest, owner_after_name, owner_of_octet, owner_after, name_events, end_events}
 use Rattle.giop_stream.specs.EngineState.{owner_of_next}
+use Rattle.giop_stream.proofs.Events.MessageKinds.{named_old, named_four}
 use Rattle.giop_stream.proofs.SlotSteps.RequestIds.{id_is_id}
 use Rattle.giop_stream.proofs.Lists.{each_weaker}
 use Rattle.giop_stream.proofs.SlotSteps.EventsOnSlots.{current_kept}
@@ -30,7 +32,8 @@ both_by : (f a b : Bool) (x y : Option MessageKey) → a ≡ b →
     (if f && a then x else y) ≡ (if f && b then x else y)
 both_by f a b x y e = rw e refl
 
-pub owner_elsewhere : (still_open : List Open) (m : Message) → (length m.payload == 4) ≡ false →
+pub owner_elsewhere : (still_open : List Open) (m : Message) →
+    (length m.payload == named_at m.header) ≡ false →
     owner_of_next still_open m ≡ owner_of_octet still_open m
 unfolding owner_of_next owner_of_octet has_named goes_past
 owner_elsewhere still_open m other = search (
@@ -45,12 +48,12 @@ owner_elsewhere still_open m other = search (
   eq-eqb,
 )
 
-pub owner_at_id : (still_open : List Open) (m : Message) → length m.payload ≡ 4 →
-    owner_of_next still_open m ≡ owner_after_id still_open m
-unfolding owner_of_next owner_after_id has_named
-owner_at_id still_open m four = search (arith, le-leb)
+pub owner_at_id : (still_open : List Open) (m : Message) → length m.payload ≡ named_at m.header →
+    owner_of_next still_open m ≡ owner_after_name still_open m
+unfolding owner_of_next owner_after_name has_named
+owner_at_id still_open m named = search (arith, le-leb)
 
-pub owner_own : (still_open : List Open) (m : Message) → length m.payload ≤ 4 →
+pub owner_own : (still_open : List Open) (m : Message) → length m.payload ≤ named_at m.header →
     owner_of_octet still_open m ≡ Some (message_key m)
 unfolding owner_of_octet
 owner_own still_open m few = rw (not_past m few) refl
@@ -62,51 +65,65 @@ newest_apart n still_open newest = search (arith, each_weaker)
 
 module _ (C : Table) (l : Answers) (s : Slots) (c : Tracked) (m : Message) (now : Current)
     (h : IsAfterTake C l s c m now) where
-  four_is : (now.payload_count == 4) ≡ true → length m.payload ≡ 4
-  four_is e = search (arith, eqb-true)
+  -- whether the code takes the octet for the last one of a request id
+  abbrev At : Bool → Type 0
+  At r = ((now.payload_count == 4) && not (is_old now.header)) ≡ r
 
-  pub id_here : (now.payload_count == 4) ≡ true →
-      id_events s.slots.most c.still_open m ≡ events_at_request_id s.slots.most c.still_open m
-  unfolding id_events
-  id_here e = search (arith, eq-eqb, four_is)
+  new_is : At true → is_old m.header ≡ false
+  new_is e = search (arith, and_parts, h.current.header, not)
 
-  pub no_id : (now.payload_count == 4) ≡ false →
-      effects (message_reader C l) c (id_events s.slots.most c.still_open m) ≡ no_effect c
-  unfolding id_events
-  no_id e = search (arith, effects_none)
+  four_is : At true → length m.payload ≡ 4
+  four_is e = search (arith, and_parts, eqb-true)
+
+  named_is : At true → length m.payload ≡ named_at m.header
+  named_is e = four_is e ∙ sym (named_four m.header (new_is e))
+
+  -- if it doesn't, the message has no place at this octet
+  not_named : At false → (b : Bool) → is_old m.header ≡ b →
+      (length m.payload == named_at m.header) ≡ false
+  not_named e true old = ne_eqb _ _ (λ k. absurd (omega (arith, h.some, k, named_old m.header old)))
+  not_named e false new = search (arith, named_four, h.current.header, not)
+
+  pub id_here : At true →
+      name_events s.slots.most c.still_open m ≡ events_at_name s.slots.most c.still_open m
+  unfolding name_events
+  id_here e = search (arith, eq-eqb, named_is)
+
+  pub no_id : At false →
+      effects (message_reader C l) c (name_events s.slots.most c.still_open m) ≡ no_effect c
+  unfolding name_events
+  no_id e = rw (not_named e (is_old m.header) refl) (effects_none (message_reader C l) c)
 
   -- the request id that is read from the octets of the message itself
   pub named_here : (i : ℕ) → ((w : MessageKey) (xs : List ℕ) (j : ℕ) →
       RepresentsMessage C l (current_of s.owner) w (Some xs)
       → first_request_id (message_lines (message (signatures_of C (l w.number) unbroken) w.header
       xs))
-      ≡ Some j → i ≡ j) → (now.payload_count == 4) ≡ true
-      → IsAtRequestId C l s c m now i
+      ≡ Some j → i ≡ j) → At true → IsAtRequestId C l s c m now i
   named_here i f e =
-      let four = four_is e in
-      let few : length m.payload ≤ 4 = omega (arith, four) in
-      let apart = newest_apart m.number c.still_open (h.newest four) in
+      let named = named_is e in
+      let few : length m.payload ≤ named_at m.header = omega (arith, named) in
+      let apart = newest_apart m.number c.still_open (h.newest named) in
       let keeps : SlotsRepresent C l s c (Some (message_key m)) =
       rw (owner_own c.still_open m few) at h.keeps in
       record {
         keeps = keeps;
         rising = h.rising;
         current = h.current;
+        new = new_is e;
         id_is = λ name. sym (f (message_key m) m.payload (id m)
-            (subst (RepresentsMessage C l (current_of s.owner) (message_key m)) (h.alive name four)
+            (subst (RepresentsMessage C l (current_of s.owner) (message_key m)) (h.alive name named)
             (current_kept C l s c (message_key m) apart keeps))
-            (id_is_id C l m four (h.says name)));
+            (id_is_id C l m (four_is e) (h.says name)));
         not_open = λ name. apart;
-        alive = λ name. (m.payload, h.alive name four);
+        alive = λ name. (m.payload, h.alive name named);
       }
 
-  pub owner_then : (now.payload_count == 4) ≡ true →
-      owner_of_next c.still_open m ≡ owner_after_id c.still_open m
-  owner_then e = search (arith, owner_at_id, four_is)
+  pub owner_then : At true → owner_of_next c.still_open m ≡ owner_after_name c.still_open m
+  owner_then e = search (arith, owner_at_id, named_is)
 
-  pub owner_still : (now.payload_count == 4) ≡ false →
-      owner_of_next c.still_open m ≡ owner_of_octet c.still_open m
-  owner_still e = search (arith, owner_elsewhere)
+  pub owner_still : At false → owner_of_next c.still_open m ≡ owner_of_octet c.still_open m
+  owner_still e = owner_elsewhere c.still_open m (not_named e (is_old m.header) refl)
 
 module _ (C : Table) (l : Answers) (s : Slots) (c : Tracked) (m : Message) (now : Current)
     (h : IsAtOctet C l s c m now) (payload_count : length m.payload ≡ now.payload_count) where

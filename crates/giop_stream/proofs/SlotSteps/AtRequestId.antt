@@ -11,15 +11,16 @@ use Rattle.giop_stream.specs.declared.slots.Slots.{Slots}
 use Rattle.giop_stream.specs.declared.current.Current.{Current}
 use Rattle.giop_stream.specs.Rules.{rules_by}
 use Rattle.giop_stream.specs.Framing.{Message}
-use Rattle.giop_stream.specs.Events.{MessageKey, Open, Opens, Faults, Cancelled, message_key, opener_of, events_at_request_id}
+use Rattle.giop_stream.specs.Events.{MessageKey, Open, Opens, Faults, Cancelled, message_key, key, is_id, opener_of, events_at_name}
 use Rattle.giop_stream.specs.OpenSlots.{Tracked}
 use Rattle.giop_stream.specs.Effects.{effects, one_effect, no_effect, lines_of, lines_for}
 use Rattle.giop_stream.specs.Lines.{lines_of_event, up_to_last_line}
-use Rattle.giop_stream.specs.Kinds.{may_be_cancelled}
+use Rattle.giop_stream.specs.Kinds.{is_old, may_be_cancelled}
 use Rattle.giop_stream.specs.declared.slots.Slot.{Slot as Contents}
 use Rattle.giop_stream.specs.SlotsRepresent.{SlotsRepresent}
-use Rattle.giop_stream.specs.PayloadOwner.{IsAtRequestId, owner_after_id}
+use Rattle.giop_stream.specs.PayloadOwner.{IsAtRequestId, owner_after_name}
 use Rattle.giop_stream.specs.EngineState.{opener_key}
+use Rattle.giop_stream.proofs.Events.MessageKinds.{any_is, fragment_any}
 use Rattle.giop_stream.proofs.SlotSteps.EventsOnSlots.{open_slot}
 use Rattle.giop_stream.proofs.SlotSteps.SlotLists.{are_as_many, entry_there, slots_many}
 use Rattle.giop_stream.proofs.SlotSteps.FindingOpen.{none_open, one_open}
@@ -46,21 +47,21 @@ cancel_named header f = search (arith)
 
 module _ (C : Table) (l : Answers) where
   pub opens_lines : (c : Tracked) (m : Message) (at i : ℕ) →
-      (one_effect (message_reader C l) c at (message_key m) (Opens i)).lines ≡ []
+      (one_effect (message_reader C l) c at (message_key m) (Opens (Some i))).lines ≡ []
   unfolding lines_of lines_for lines_of_event up_to_last_line
   opens_lines c m at i = search (arith)
 
 -- ---- The owner of the octets after the request id.
 
 pub owner_fragment : (still_open : List Open) (m : Message) → is_fragment m.header ≡ true →
-    owner_after_id still_open m ≡ opener_key (opener_of still_open m)
-unfolding owner_after_id
-owner_fragment still_open m f = rw f refl
+    owner_after_name still_open m ≡ opener_key (opener_of still_open m)
+unfolding owner_after_name
+owner_fragment still_open m f = rw (fragment_any m.header f) refl
 
-pub owner_other : (still_open : List Open) (m : Message) → is_fragment m.header ≡ false →
-    owner_after_id still_open m ≡ Some (message_key m)
-unfolding owner_after_id
-owner_other still_open m f = rw f refl
+pub owner_other : (still_open : List Open) (m : Message) → is_old m.header ≡ false →
+    is_fragment m.header ≡ false → owner_after_name still_open m ≡ Some (message_key m)
+unfolding owner_after_name
+owner_other still_open m new f = search (arith, any_is)
 
 -- ---- The slot of an open message.
 
@@ -79,9 +80,9 @@ module _ (C : Table) (l : Answers) (s : Slots) (c : Tracked) (m : Message) (now 
   -- ---- The search.
 
   opener_is : has_name m.header ≡ true → opener_of c.still_open m
-      ≡ find (λ o. o.id == i) c.still_open
-  unfolding opener_of
-  opener_is name = search (arith)
+      ≡ find (λ o. is_id i o.key) c.still_open
+  unfolding opener_of key
+  opener_is name = rw (h.new, h.id_is name) refl
 
   pub misses : has_name m.header ≡ true → (r : Option ℕ) →
       r ≡ position_from (λ slot. slot.key == i) 0 s.slots.entries
@@ -109,43 +110,43 @@ module _ (C : Table) (l : Answers) (s : Slots) (c : Tracked) (m : Message) (now 
   pub twice : (r : Option ℕ) → r ≡ position_from (λ slot. slot.key == i) 0 s.slots.entries →
       is_some r ≡ true
       → is_fragment m.header ≡ false → is_opener m.header ≡ true
-      → effects (message_reader C l) c (events_at_request_id s.slots.most c.still_open m)
+      → effects (message_reader C l) c (events_at_name s.slots.most c.still_open m)
       ≡ one_effect (message_reader C l) c now.place (message_key m) (Faults IdOpen)
   twice r e n f g = let o = hits (opener_named m.header g) r e n in
-      opener_twice (rules_by C l s.slots.most) c c.still_open m o.0 f g o.1
+      opener_twice (rules_by C l s.slots.most) c c.still_open m o.0 h.new f g o.1
       ∙ rw h.current.place refl
 
   pub no_room : (r : Option ℕ) → r ≡ position_from (λ slot. slot.key == i) 0 s.slots.entries →
       is_some r ≡ false
       → s.slots.most ≤ length s.slots.entries → is_fragment m.header ≡ false →
       is_opener m.header ≡ true
-      → effects (message_reader C l) c (events_at_request_id s.slots.most c.still_open m)
+      → effects (message_reader C l) c (events_at_name s.slots.most c.still_open m)
       ≡ one_effect (message_reader C l) c now.place (message_key m) (Faults TooManyOpen)
   no_room r e n full f g =
       let many = as_many in
       let room : s.slots.most ≤ length c.still_open = omega (arith, many, full) in
-      opener_no_room (rules_by C l s.slots.most) c c.still_open m f g
+      opener_no_room (rules_by C l s.slots.most) c c.still_open m h.new f g
       (misses (opener_named m.header g) r e n) room ∙ rw h.current.place refl
 
   pub opens_one : (r : Option ℕ) → r ≡ position_from (λ slot. slot.key == i) 0 s.slots.entries →
       is_some r ≡ false
       → length s.slots.entries < s.slots.most → is_fragment m.header ≡ false →
       is_opener m.header ≡ true
-      → effects (message_reader C l) c (events_at_request_id s.slots.most c.still_open m)
-      ≡ one_effect (message_reader C l) c now.place (message_key m) (Opens i)
+      → effects (message_reader C l) c (events_at_name s.slots.most c.still_open m)
+      ≡ one_effect (message_reader C l) c now.place (message_key m) (Opens (Some i))
   opens_one r e n few f g =
       let many = as_many in
       let room : length c.still_open < s.slots.most = omega (arith, many, few) in
-      opener_opens (rules_by C l s.slots.most) c c.still_open m f g
+      opener_opens (rules_by C l s.slots.most) c c.still_open m h.new f g
       (misses (opener_named m.header g) r e n) room
       ∙ rw (h.current.place, h.id_is (opener_named m.header g)) refl
 
   -- ---- A Fragment.
 
   pub unknown : is_fragment m.header ≡ true → opener_of c.still_open m ≡ None
-      → effects (message_reader C l) c (events_at_request_id s.slots.most c.still_open m)
+      → effects (message_reader C l) c (events_at_name s.slots.most c.still_open m)
       ≡ one_effect (message_reader C l) c now.place (message_key m) (Faults NoOpen)
-  unknown f e = fragment_unknown (rules_by C l s.slots.most) c c.still_open m f e
+  unknown f e = fragment_unknown (rules_by C l s.slots.most) c c.still_open m h.new f e
       ∙ rw h.current.place refl
 
   -- ---- A CancelRequest.
@@ -153,9 +154,9 @@ module _ (C : Table) (l : Answers) (s : Slots) (c : Tracked) (m : Message) (now 
   pub misses_all : (r : Option ℕ) → r ≡ position_from (λ slot. slot.key == i) 0 s.slots.entries →
       is_some r ≡ false
       → is_fragment m.header ≡ false → is_opener m.header ≡ false → is_cancel m.header ≡ true
-      → effects (message_reader C l) c (events_at_request_id s.slots.most c.still_open m)
+      → effects (message_reader C l) c (events_at_name s.slots.most c.still_open m)
       ≡ no_effect c
-  misses_all r e n f g b = cancel_misses (rules_by C l s.slots.most) c c.still_open m f g b
+  misses_all r e n f g b = cancel_misses (rules_by C l s.slots.most) c c.still_open m h.new f g b
       (misses (cancel_named m.header b) r e n)
 
   -- whether the open message that was found may be cancelled
@@ -168,16 +169,17 @@ module _ (C : Table) (l : Answers) (s : Slots) (c : Tracked) (m : Message) (now 
   pub spares : (o : Open) → is_fragment m.header ≡ false → is_opener m.header ≡ false →
       is_cancel m.header ≡ true
       → opener_of c.still_open m ≡ Some o → may_be_cancelled o.opener.header ≡ false
-      → effects (message_reader C l) c (events_at_request_id s.slots.most c.still_open m)
+      → effects (message_reader C l) c (events_at_name s.slots.most c.still_open m)
       ≡ no_effect c
-  spares o f g b e j = cancel_spares (rules_by C l s.slots.most) c c.still_open m o f g b e j
+  spares o f g b e j = cancel_spares (rules_by C l s.slots.most) c c.still_open m o h.new f g b e j
 
   pub cancels_one : (o : Open) → is_fragment m.header ≡ false → is_opener m.header ≡ false →
       is_cancel m.header ≡ true
       → opener_of c.still_open m ≡ Some o → may_be_cancelled o.opener.header ≡ true
-      → effects (message_reader C l) c (events_at_request_id s.slots.most c.still_open m)
+      → effects (message_reader C l) c (events_at_name s.slots.most c.still_open m)
       ≡ one_effect (message_reader C l) c now.place o.opener (Cancelled now.number)
-  cancels_one o f g b e j = cancel_closes (rules_by C l s.slots.most) c c.still_open m o f g b e j
+  cancels_one o f g b e j =
+      cancel_closes (rules_by C l s.slots.most) c c.still_open m o h.new f g b e j
       ∙ rw (h.current.place, h.current.number) refl
 
   -- ---- Any message.
@@ -187,7 +189,7 @@ module _ (C : Table) (l : Answers) (s : Slots) (c : Tracked) (m : Message) (now 
 
   pub no_name : is_fragment now.header ≡ false → is_opener now.header ≡ false →
       is_cancel now.header ≡ false
-      → effects (message_reader C l) c (events_at_request_id s.slots.most c.still_open m)
+      → effects (message_reader C l) c (events_at_name s.slots.most c.still_open m)
       ≡ no_effect c
-  no_name f g b = other_id (rules_by C l s.slots.most) c c.still_open m
+  no_name f g b = other_id (rules_by C l s.slots.most) c c.still_open m h.new
       (header_is is_fragment false f) (header_is is_opener false g) (header_is is_cancel false b)

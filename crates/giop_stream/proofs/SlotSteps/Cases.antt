@@ -7,11 +7,12 @@ use Rattle.giop_message.specs.Headers.{order, is_fragment, is_opener, is_cancel}
 use Rattle.giop_stream.specs.Rules.{Rules}
 use Rattle.giop_stream.specs.Framing.{Message}
 use Rattle.giop_message.specs.MessageReader.{MessageReader}
-use Rattle.giop_stream.specs.Kinds.{may_be_cancelled, refused}
-use Rattle.giop_stream.specs.Events.{EventKind, Begins, Takes, Opens, Continues, Cancelled, Faults, MessageKey, Event, Open, message_key, place, id, own, event_of_open, opener_of, goes_past, events_at_header, events_at_octet, same_order, events_at_request_id, now_of, header_events, payload_events, request_id_events}
+use Rattle.giop_stream.specs.Kinds.{is_old, may_be_cancelled, refused}
+use Rattle.giop_stream.specs.Events.{EventKind, Begins, Takes, Opens, Continues, Cancelled, Faults, MessageKey, Event, Open, message_key, place, id, key, own, event_of_open, opener_of, goes_past, events_at_header, events_at_octet, same_order, events_at_name, now_of, header_events, payload_events, naming_events}
 use Rattle.giop_stream.specs.Lines.{Line, line, lines_of_event, up_to_last_line}
 use Rattle.giop_stream.specs.Effects.{lines_at, tracked_at, lines_of, effects, one_effect, no_effect, starts, goes_on, lines_for}
 use Rattle.giop_stream.specs.OpenSlots.{Tracked}
+use Rattle.giop_stream.proofs.Events.MessageKinds.{any_is, first_is}
 use Rattle.giop_stream.proofs.SlotSteps.EventsInSlots.{tracked_stays, tracked_begins}
 
 -- ---- The effects of few events.
@@ -117,11 +118,11 @@ octet_lost R c still_open m h e = search (arith, effects_nobody, get_or)
 -- ---- The request id of a Fragment.
 
 pub fragment_unknown : (R : Rules) (c : Tracked) (still_open : List Open) (m : Message) →
-    is_fragment m.header ≡ true
-    → opener_of still_open m ≡ None → effects R.reading c (events_at_request_id R.most still_open m)
+    is_old m.header ≡ false → is_fragment m.header ≡ true
+    → opener_of still_open m ≡ None → effects R.reading c (events_at_name R.most still_open m)
     ≡ one_effect R.reading c (place m) (message_key m) (Faults NoOpen)
-unfolding request_id_events
-fragment_unknown R c still_open m f e = search (arith, effects_own)
+unfolding naming_events key
+fragment_unknown R c still_open m new f e = search (arith, any_is, first_is, effects_own)
 
 went_on : (R : MessageReader) (m : Message) (o : Open) (xs : List ℕ)
     → lines_of R (record {
@@ -141,80 +142,94 @@ goes_first R c m o xs es k = search (arith, effects_append, effects_own, tracked
 
 pub fragment_in_order : (R : Rules) (c : Tracked) (still_open : List Open) (m : Message) (o : Open)
     (xs : List ℕ)
-    → is_fragment m.header ≡ true → opener_of still_open m ≡ Some o → c.known m.number ≡ Some xs
+    → is_old m.header ≡ false → is_fragment m.header ≡ true → opener_of still_open m ≡ Some o →
+    c.known m.number ≡ Some xs
     → same_order (order m.header) (order o.opener.header) ≡ true
-    → effects R.reading c (events_at_request_id R.most still_open m) ≡
+    → effects R.reading c (events_at_name R.most still_open m) ≡
     record { tracked = c; lines = goes_on m o ∷ [] }
-unfolding request_id_events
-fragment_in_order R c still_open m o xs f e k s = search (arith, goes_first, effects_none)
+unfolding naming_events
+fragment_in_order R c still_open m o xs new f e k s = search (
+  arith,
+  any_is,
+  first_is,
+  goes_first,
+  effects_none,
+)
 
 pub fragment_out_of_order : (R : Rules) (c : Tracked) (still_open : List Open) (m : Message)
     (o : Open) (xs : List ℕ)
-    → is_fragment m.header ≡ true → opener_of still_open m ≡ Some o → c.known m.number ≡ Some xs
+    → is_old m.header ≡ false → is_fragment m.header ≡ true → opener_of still_open m ≡ Some o →
+    c.known m.number ≡ Some xs
     → same_order (order m.header) (order o.opener.header) ≡ false
     → (let fault = one_effect R.reading c (place m) o.opener (Faults FragmentOrder) in
-    effects R.reading c (events_at_request_id R.most still_open m)
+    effects R.reading c (events_at_name R.most still_open m)
     ≡ record { tracked = fault.tracked; lines = goes_on m o ∷ fault.lines })
-unfolding request_id_events
-fragment_out_of_order R c still_open m o xs f e k s = search (arith, goes_first, effects_about)
+unfolding naming_events
+fragment_out_of_order R c still_open m o xs new f e k s = search (
+  arith,
+  any_is,
+  first_is,
+  goes_first,
+  effects_about,
+)
 
 -- ---- The request id of a message that has fragments.
 
 pub opener_twice : (R : Rules) (c : Tracked) (still_open : List Open) (m : Message) (o : Open) →
-    is_fragment m.header ≡ false
+    is_old m.header ≡ false → is_fragment m.header ≡ false
     → is_opener m.header ≡ true → opener_of still_open m ≡ Some o
-    → effects R.reading c (events_at_request_id R.most still_open m)
+    → effects R.reading c (events_at_name R.most still_open m)
     ≡ one_effect R.reading c (place m) (message_key m) (Faults IdOpen)
-unfolding request_id_events
-opener_twice R c still_open m o f h e = search (arith, effects_own)
+unfolding naming_events key
+opener_twice R c still_open m o new f h e = search (arith, any_is, first_is, effects_own)
 
 pub opener_no_room : (R : Rules) (c : Tracked) (still_open : List Open) (m : Message) →
-    is_fragment m.header ≡ false
+    is_old m.header ≡ false → is_fragment m.header ≡ false
     → is_opener m.header ≡ true → opener_of still_open m ≡ None → R.most ≤ length still_open
-    → effects R.reading c (events_at_request_id R.most still_open m)
+    → effects R.reading c (events_at_name R.most still_open m)
     ≡ one_effect R.reading c (place m) (message_key m) (Faults TooManyOpen)
-unfolding request_id_events
-opener_no_room R c still_open m f h e n = search (arith, le-leb, effects_own)
+unfolding naming_events key
+opener_no_room R c still_open m new f h e n = search (arith, any_is, first_is, le-leb, effects_own)
 
 pub opener_opens : (R : Rules) (c : Tracked) (still_open : List Open) (m : Message) →
-    is_fragment m.header ≡ false
+    is_old m.header ≡ false → is_fragment m.header ≡ false
     → is_opener m.header ≡ true → opener_of still_open m ≡ None → length still_open < R.most
-    → effects R.reading c (events_at_request_id R.most still_open m)
-    ≡ one_effect R.reading c (place m) (message_key m) (Opens (id m))
-unfolding request_id_events
-opener_opens R c still_open m f h e n = search (arith, lt-leb, effects_own)
+    → effects R.reading c (events_at_name R.most still_open m)
+    ≡ one_effect R.reading c (place m) (message_key m) (Opens (Some (id m)))
+unfolding naming_events key
+opener_opens R c still_open m new f h e n = search (arith, any_is, first_is, lt-leb, effects_own)
 
 -- ---- The request id of a CancelRequest.
 
 pub cancel_closes : (R : Rules) (c : Tracked) (still_open : List Open) (m : Message) (o : Open) →
-    is_fragment m.header ≡ false
+    is_old m.header ≡ false → is_fragment m.header ≡ false
     → is_opener m.header ≡ false → is_cancel m.header ≡ true → opener_of still_open m ≡ Some o
     → may_be_cancelled o.opener.header ≡ true →
-    effects R.reading c (events_at_request_id R.most still_open m)
+    effects R.reading c (events_at_name R.most still_open m)
     ≡ one_effect R.reading c (place m) o.opener (Cancelled m.number)
-unfolding request_id_events
-cancel_closes R c still_open m o f g h e s = search (arith, effects_about)
+unfolding naming_events
+cancel_closes R c still_open m o new f g h e s = search (arith, any_is, first_is, effects_about)
 
 pub cancel_spares : (R : Rules) (c : Tracked) (still_open : List Open) (m : Message) (o : Open) →
-    is_fragment m.header ≡ false
+    is_old m.header ≡ false → is_fragment m.header ≡ false
     → is_opener m.header ≡ false → is_cancel m.header ≡ true → opener_of still_open m ≡ Some o
     → may_be_cancelled o.opener.header ≡ false →
-    effects R.reading c (events_at_request_id R.most still_open m) ≡ no_effect c
-unfolding request_id_events
-cancel_spares R c still_open m o f g h e s = search (arith, effects_none)
+    effects R.reading c (events_at_name R.most still_open m) ≡ no_effect c
+unfolding naming_events
+cancel_spares R c still_open m o new f g h e s = search (arith, any_is, first_is, effects_none)
 
 pub cancel_misses : (R : Rules) (c : Tracked) (still_open : List Open) (m : Message) →
-    is_fragment m.header ≡ false
+    is_old m.header ≡ false → is_fragment m.header ≡ false
     → is_opener m.header ≡ false → is_cancel m.header ≡ true → opener_of still_open m ≡ None →
-    effects R.reading c (events_at_request_id R.most still_open m) ≡ no_effect c
-unfolding request_id_events
-cancel_misses R c still_open m f g h e = search (arith, effects_none)
+    effects R.reading c (events_at_name R.most still_open m) ≡ no_effect c
+unfolding naming_events
+cancel_misses R c still_open m new f g h e = search (arith, any_is, first_is, effects_none)
 
 -- ---- The request id of any other message.
 
 pub other_id : (R : Rules) (c : Tracked) (still_open : List Open) (m : Message) →
-    is_fragment m.header ≡ false
+    is_old m.header ≡ false → is_fragment m.header ≡ false
     → is_opener m.header ≡ false → is_cancel m.header ≡ false →
-    effects R.reading c (events_at_request_id R.most still_open m) ≡ no_effect c
-unfolding request_id_events
-other_id R c still_open m f g h = search (arith, effects_none)
+    effects R.reading c (events_at_name R.most still_open m) ≡ no_effect c
+unfolding naming_events
+other_id R c still_open m new f g h = search (arith, any_is, first_is, effects_none)

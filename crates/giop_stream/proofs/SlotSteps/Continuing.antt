@@ -8,6 +8,7 @@ use Rattle.giop_cdr.specs.Numbers.{num}
 use Rattle.giop_sig.specs.Table.{Table}
 use Rattle.giop_message.specs.Phases.{unbroken}
 use Rattle.giop_message.specs.Headers.{order, is_fragment}
+use Rattle.giop_stream.specs.Kinds.{named_at}
 use Rattle.giop_message.specs.MessageReader.{Value, due}
 use Rattle.giop_message.specs.Signatures.{Answers}
 use Rattle.giop_message.specs.ReaderOfTable.{message_reader}
@@ -23,17 +24,18 @@ use Rattle.giop_stream.specs.declared.fragment.Continuation.{Continuation}
 use Rattle.giop_stream.specs.Rules.{Rules, rules_by}
 use Rattle.giop_stream.specs.Framing.{Message, with_payload}
 use Rattle.giop_stream.specs.Text.{line_text, start_line}
-use Rattle.giop_stream.specs.Events.{MessageKey, Takes, Faults, Open, message_key, id, opener_of, events_at_request_id, events_of_octet, same_order}
+use Rattle.giop_stream.specs.Events.{MessageKey, Takes, Faults, Open, message_key, id, key, opener_of, events_at_name, events_of_octet, same_order}
 use Rattle.giop_stream.specs.Lines.{Line, Said}
 use Rattle.giop_stream.specs.Stream.{fault_count}
 use Rattle.giop_stream.specs.Effects.{Effect, effects, then_effect, one_effect, no_effect, line_effect, goes_on, starts, with_octet, effect_to}
 use Rattle.giop_stream.specs.OpenSlots.{Tracked, IsNotOpen, slots_at}
 use Rattle.giop_stream.specs.SlotsRepresent.{SlotsRepresent}
-use Rattle.giop_stream.specs.PayloadOwner.{IsAtRequestId, IsAtOctet, SaysId, owner_after, id_events}
+use Rattle.giop_stream.specs.PayloadOwner.{IsAtRequestId, IsAtOctet, SaysId, owner_after, name_events}
 use Rattle.giop_stream.specs.EngineState.{owner_of_next}
 use Rattle.giop_stream.specs.DoesEffect.{DoesEffect}
 use Rattle.giop_stream.specs.Continuation.{IsContinuing, IsBeforeContinuation}
 use Rattle.giop_stream.proofs.Lists.{each_weaker}
+use Rattle.giop_stream.proofs.Events.MessageKinds.{fragment_not_old, fragment_four}
 use Rattle.giop_stream.proofs.SlotSteps.Performing.{BeginsSo}
 use Rattle.giop_stream.proofs.SlotSteps.Cases.{fragment_in_order, fragment_out_of_order}
 use Rattle.giop_stream.proofs.SlotSteps.EventsInSlots.{slots_stay}
@@ -42,7 +44,7 @@ use Rattle.giop_stream.proofs.SlotSteps.ReadingEffects.{take_lines, reader_lines
 use Rattle.giop_stream.proofs.SlotSteps.Ending.{owner_early}
 use Rattle.giop_stream.proofs.SlotSteps.AfterOctet.{owner_at_id}
 use Rattle.giop_stream.proofs.SlotSteps.AtRequestId.{fragment_named, owner_fragment}
-use Rattle.giop_stream.proofs.SlotSteps.Parts.{first, second, third, first_still_open, in_parts, third_owner, some_come, takes_at, known_is, named_at, come_is}
+use Rattle.giop_stream.proofs.SlotSteps.Parts.{first, second, third, first_still_open, in_parts, third_owner, some_come, takes_at, known_is, after_second, come_is}
 
 -- ---- At the request id.
 
@@ -61,18 +63,20 @@ module _ (C : Table) (l : Answers) (s : Slots) (c : Tracked) (owner : Option Mes
     (m : Message) (now : Current) (h : IsContinuing C l s c owner m now) where
   pub in_order : (o : Open) → is_fragment m.header ≡ true → opener_of c.still_open m ≡ Some o →
       same_order (order m.header) (order o.opener.header) ≡ true
-      → effects (message_reader C l) c (events_at_request_id s.slots.most c.still_open m)
+      → effects (message_reader C l) c (events_at_name s.slots.most c.still_open m)
       ≡ line_effect (goes_on m o) (no_effect c)
-  in_order o f e same = fragment_in_order (rules_by C l s.slots.most) c c.still_open m o h.alive.0 f
-      e h.alive.1 same
+  in_order o f e same =
+      fragment_in_order (rules_by C l s.slots.most) c c.still_open m o h.alive.0
+      (fragment_not_old m.header f) f e h.alive.1 same
 
   pub out_of_order : (o : Open) → is_fragment m.header ≡ true → opener_of c.still_open m ≡ Some o →
       same_order (order m.header) (order o.opener.header) ≡ false
-      → effects (message_reader C l) c (events_at_request_id s.slots.most c.still_open m)
+      → effects (message_reader C l) c (events_at_name s.slots.most c.still_open m)
       ≡ line_effect (goes_on m o) (one_effect (message_reader C l) c now.place o.opener
       (Faults FragmentOrder))
   out_of_order o f e other =
-      fragment_out_of_order (rules_by C l s.slots.most) c c.still_open m o h.alive.0 f e h.alive.1
+      fragment_out_of_order (rules_by C l s.slots.most) c c.still_open m o h.alive.0
+      (fragment_not_old m.header f) f e h.alive.1
       other ∙ rw h.current.place refl
 
   -- the line of a Fragment, as the code writes it
@@ -83,12 +87,12 @@ module _ (C : Table) (l : Answers) (s : Slots) (c : Tracked) (owner : Option Mes
   -- the line of the Fragment is the first of the lines
   pub goes_first : (o : Open) → is_fragment m.header ≡ true → opener_of c.still_open m ≡ Some o
       → BeginsSo (goes_on m o) (effects (message_reader C l) c
-      (events_at_request_id s.slots.most c.still_open m)).lines
+      (events_at_name s.slots.most c.still_open m)).lines
   goes_first o f e = go (same_order (order m.header) (order o.opener.header)) refl
     where
       go : (b : Bool) → same_order (order m.header) (order o.opener.header) ≡ b →
           BeginsSo (goes_on m o) (effects (message_reader C l) c
-          (events_at_request_id s.slots.most c.still_open m)).lines
+          (events_at_name s.slots.most c.still_open m)).lines
       go true same = search (arith, in_order)
       go false other = record {
         more =
@@ -159,11 +163,15 @@ module _ (C : Table) (l : Answers) (s : Slots) (c : Tracked) (m : Message) (now 
   abbrev pub c' : Tracked
   c' = (first R c m').tracked
 
-  four : length m'.payload ≡ 4
-  four = search (arith, length_push)
+  -- a Fragment of 1.2 has its place after its request id
+  four : named_at m.header ≡ 4
+  four = fragment_four m.header h.fragment
 
-  few : length m.payload < 4
-  few = omega (arith, h.three)
+  named : length m'.payload ≡ named_at m'.header
+  named = omega (arith, four, h.three, length_push m.payload x)
+
+  few : length m.payload < named_at m.header
+  few = omega (arith, four, h.three)
 
   apart : IsNotOpen m.number c.still_open
   apart = search (arith, each_weaker, few)
@@ -201,21 +209,21 @@ module _ (C : Table) (l : Answers) (s : Slots) (c : Tracked) (m : Message) (now 
   opener_at = search (arith, one_open, keeps)
 
   pub opener_is : opener_of c'.still_open m' ≡ Some opener_at.o
-  unfolding opener_of
-  opener_is = search (arith, opener_at)
+  unfolding opener_of key
+  opener_is = rw (fragment_not_old m.header h.fragment, h.spells) opener_at.is
 
-  pub ids_are : id_events s.slots.most c'.still_open m'
-      ≡ events_at_request_id s.slots.most c'.still_open m'
-  unfolding id_events
-  ids_are = search (arith, eq-eqb, four)
+  pub ids_are : name_events s.slots.most c'.still_open m'
+      ≡ events_at_name s.slots.most c'.still_open m'
+  unfolding name_events
+  ids_are = search (arith, eq-eqb, named)
 
   -- after this octet, the octets belong to the message that the Fragment continues
   owner_is : owner_of_next c'.still_open m' ≡ Some opener_at.o.opener
-  owner_is = search (arith, owner_at_id, four, owner_fragment, opener_is)
+  owner_is = search (arith, owner_at_id, named, owner_fragment, opener_is)
 
   pub behind_id : (s' : Slots) → SlotsRepresent C l s' (second R c m').tracked
       (Some opener_at.o.opener) → IsAtOctet C l s' (second R c m').tracked m' now
-  behind_id s' k = search (arith, named_at, owner_is)
+  behind_id s' k = search (arith, after_second, owner_is)
 
   pub starts_text : line_text (starts (with_payload m [])) ≡ start_line now.number now.header
   starts_text = search (arith)
@@ -242,7 +250,7 @@ module _ (C : Table) (l : Answers) (s : Slots) (c : Tracked) (m : Message) (now 
   -- what the code does at the request id, and after it
   pub second_does : {A E : Type 0} (n : A → ℕ) (r : Result A E) (a b : OutLog) (s' : Slots)
       → DoesEffect C l n r a b s' (effects (message_reader C l) c'
-      (events_at_request_id s.slots.most c'.still_open m')) (Some opener_at.o.opener)
+      (events_at_name s.slots.most c'.still_open m')) (Some opener_at.o.opener)
       → DoesEffect C l n r a b s' (second R c m') (Some opener_at.o.opener)
   second_does n r a b s' p = rw ids_are p
 

@@ -1,37 +1,39 @@
 -- A message's last octet, as the code does it.
 use Rattle.std.proofs.Common.{◌≡◌, ℕ, ◌<◌, ◌≤◌, Bool, true, false, List, [], length, refl, Option, Some, None, arith}
-use Rattle.std.specs.Prelude.{◌&&◌, ◌||◌, nat_lt, if◌then◌else◌}
-use Rattle.std.proofs.lemmas.Bool.{and_parts, ltb-true, ltb-false, lt-leb, le-leb}
+use Rattle.std.specs.Prelude.{◌&&◌, ◌||◌, if◌then◌else◌}
+use Rattle.std.proofs.lemmas.Bool.{lt-leb, le-leb}
 use Rattle.giop_sig.specs.Table.{Table}
 use Rattle.giop_message.specs.Signatures.{Answers}
 use Rattle.giop_message.specs.ReaderOfTable.{message_reader}
-use Rattle.giop_message.specs.Headers.{size, is_fragment}
+use Rattle.giop_message.specs.Headers.{size}
 use Rattle.giop_stream.specs.declared.fault.FramingFault.TheVariants.{Short}
 use Rattle.giop_stream.specs.declared.slots.Slots.{Slots}
 use Rattle.giop_stream.specs.declared.current.Current.{Current}
 use Rattle.giop_stream.specs.Framing.{Message}
-use Rattle.giop_stream.specs.Kinds.{is_short, is_followed}
+use Rattle.giop_stream.specs.Kinds.{is_any_fragment, named_at, is_short, is_followed}
 use Rattle.giop_stream.specs.Events.{Open, Event, Closes, Faults, message_key, opener_of, has_named, own, event_of_open, events_at_end, now_of, message_end_events}
 use Rattle.giop_stream.specs.Effects.{effects, one_effect, no_effect, effect_to}
 use Rattle.giop_stream.specs.OpenSlots.{Tracked}
 use Rattle.giop_stream.specs.PayloadOwner.{IsAtOctet}
 use Rattle.giop_stream.specs.EngineState.{opener_key, owner_of_next}
+use Rattle.giop_stream.proofs.Events.MessageKinds.{short_before, fragment_long}
 use Rattle.giop_stream.proofs.SlotSteps.Cases.{effects_none, effects_own, effects_about, effects_nobody}
 
 -- ---- The owner of the octets.
 
-pub owner_early : (still_open : List Open) (m : Message) → length m.payload < 4 →
+pub owner_early : (still_open : List Open) (m : Message) → length m.payload < named_at m.header →
     owner_of_next still_open m ≡ Some (message_key m)
 unfolding owner_of_next has_named
 owner_early still_open m few = search (arith, lt-leb)
 
-pub owner_plain : (still_open : List Open) (m : Message) → is_fragment m.header ≡ false →
+pub owner_plain : (still_open : List Open) (m : Message) → is_any_fragment m.header ≡ false →
     owner_of_next still_open m ≡ Some (message_key m)
 unfolding owner_of_next has_named
 owner_plain still_open m f = rw f refl
 
-pub owner_passed : (still_open : List Open) (m : Message) → is_fragment m.header ≡ true →
-    4 ≤ length m.payload → owner_of_next still_open m ≡ opener_key (opener_of still_open m)
+pub owner_passed : (still_open : List Open) (m : Message) → is_any_fragment m.header ≡ true →
+    named_at m.header ≤ length m.payload →
+    owner_of_next still_open m ≡ opener_key (opener_of still_open m)
 unfolding owner_of_next has_named
 owner_passed still_open m f many = search (arith, le-leb)
 
@@ -51,9 +53,6 @@ last_by false true true xs ys e = absurd cc
 last_by false true false xs ys e = refl
 last_by false false more xs ys e = refl
 
-long_by : (n : ℕ) (o : Bool) → (nat_lt n 4 && (o || true)) ≡ false → 4 ≤ n
-long_by n o e = search (arith, ltb-false)
-
 module _ (C : Table) (l : Answers) (s : Slots) (c : Tracked) (m : Message) (now : Current)
     (h : IsAtOctet C l s c m now) where
   header_at : (says : List ℕ → Bool) (r : Bool) → r ≡ says now.header → says m.header ≡ r
@@ -62,29 +61,30 @@ module _ (C : Table) (l : Answers) (s : Slots) (c : Tracked) (m : Message) (now 
   pub ends_short : true ≡ is_short now.header
       → effects (message_reader C l) c (events_at_end c.still_open m)
       ≡ one_effect (message_reader C l) c now.place (message_key m) (Faults Short)
-  unfolding message_end_events is_short
+  unfolding message_end_events
   ends_short e = search (arith, header_at, effects_own)
 
   pub own_short : true ≡ is_short now.header → length m.payload ≡ size m.header →
       owner_of_next c.still_open m ≡ Some (message_key m)
-  unfolding is_short
-  own_short e last = search (arith, and_parts, header_at, ltb-true, owner_early)
+  own_short e last =
+      let short = header_at is_short true e in
+      owner_early c.still_open m (omega (arith, last, short_before m.header short))
 
   pub ends_followed : false ≡ is_short now.header → true ≡ is_followed now.header →
       effects (message_reader C l) c (events_at_end c.still_open m) ≡ no_effect c
-  unfolding message_end_events is_short is_followed
+  unfolding message_end_events is_followed
   ends_followed e k = search (arith, header_at, followed_by, effects_none)
 
   ends_last : false ≡ is_short now.header → false ≡ is_followed now.header
-      → events_at_end c.still_open m ≡ (if is_fragment m.header then event_of_open (now_of m)
+      → events_at_end c.still_open m ≡ (if is_any_fragment m.header then event_of_open (now_of m)
       (opener_of c.still_open m) Closes else own (now_of m) Closes)
-  unfolding message_end_events is_short is_followed
+  unfolding message_end_events is_followed
   ends_last e k = search (arith, header_at, last_by)
 
-  long_enough : false ≡ is_short now.header → is_fragment m.header ≡ true →
-      length m.payload ≡ size m.header → 4 ≤ length m.payload
-  unfolding is_short
-  long_enough e f last = search (arith, header_at, long_by)
+  long_enough : false ≡ is_short now.header → is_any_fragment m.header ≡ true →
+      length m.payload ≡ size m.header → named_at m.header ≤ length m.payload
+  long_enough e f last =
+      omega (arith, last, fragment_long m.header f (header_at is_short false e))
 
   about_does : (r : Option Open) → effects (message_reader C l) c
       (event_of_open (now_of m) r Closes) ≡ effect_to C l now.place c (opener_key r) Closes

@@ -85,29 +85,30 @@ slots_left R c e h apart = search (
 )
 
 -- an event that opens a message changes nothing of the octets that are kept of it
-opens_then : (R : MessageReader) (e : Event) (i : ℕ) (o : Option (List ℕ)) → e.what ≡ Opens i →
+opens_then : (R : MessageReader) (e : Event) (i : Option ℕ) (o : Option (List ℕ)) →
+    e.what ≡ Opens i →
     octets_then R e o ≡ o
 unfolding octets_then lines_of lines_for lines_of_event up_to_last_line octet
 opens_then R e i None h = refl
 opens_then R e i (Some xs) h = search (arith, append-nil)
 
-opens_still_open : (still_open : List Open) (subject : MessageKey) (what : EventKind) (i : ℕ) →
-    what ≡ Opens i
-    → changed still_open subject what ≡ still_open ++ record { id = i; opener = subject } ∷ []
+opens_still_open : (still_open : List Open) (subject : MessageKey) (what : EventKind)
+    (i : Option ℕ) → what ≡ Opens i
+    → changed still_open subject what ≡ still_open ++ record { key = i; opener = subject } ∷ []
 unfolding changed
 opens_still_open still_open subject what i h = rw h refl
 
 -- an event that opens a message adds a slot
-pub slot_opens : (R : MessageReader) (c : Tracked) (e : Event) (i : ℕ) → e.what ≡ Opens i →
+pub slot_opens : (R : MessageReader) (c : Tracked) (e : Event) (i : Option ℕ) → e.what ≡ Opens i →
     IsNotOpen e.subject.number c.still_open
     → slots_at (tracked_at R c e)
     ≡ slots_at c ++ record {
-      open_as = record { id = i; opener = e.subject };
+      open_as = record { key = i; opener = e.subject };
       octets =
           c.known e.subject.number;
     } ∷ []
 slot_opens R c e i h apart =
-    let o : Open = record { id = i; opener = e.subject } in
+    let o : Open = record { key = i; opener = e.subject } in
     let now : (tracked_at R c e).known e.subject.number ≡ c.known e.subject.number =
     own_then R c e ∙ opens_then R e i (c.known e.subject.number) h in
     let others =

@@ -155,7 +155,7 @@ module _ (C : Table) (l : Answers) where
       let was = slot_here s c w k x h p get in
       let slot : Slot = record { open_as = p.slot; octets = part.octets } in
       let new : IsSlot C l (with_message x message) slot =
-      record { number = was.number; header = was.header; id = was.id; message = rw p.is kept }
+      record { number = was.number; header = was.header; key = was.key; message = rw p.is kept }
       in
       let slots' = slot_at effect.tracked.known c.known c.still_open k p.slot rising p.here
       (λ i other. alters.others i (λ same. other (same ∙ sym number))) in
@@ -256,15 +256,15 @@ module _ (C : Table) (l : Answers) where
       (slots_get c k p.slot p.here)))
 
   -- an event that opens a message changes nothing of the octets that are kept of it
-  opens_then : (at : ℕ) (w : MessageKey) (i : ℕ) (o : Option (List ℕ)) →
+  opens_then : (at : ℕ) (w : MessageKey) (i : Option ℕ) (o : Option (List ℕ)) →
       octets_then (message_reader C l) (event at w (Opens i)) o ≡ o
   unfolding octets_then lines_of lines_for lines_of_event up_to_last_line octet
   opens_then at w i None = refl
   opens_then at w i (Some xs) = ap Some (append-nil xs)
 
-  opened_still_open : (at : ℕ) (c : Tracked) (w : MessageKey) (i : ℕ)
+  opened_still_open : (at : ℕ) (c : Tracked) (w : MessageKey) (i : Option ℕ)
       → (tracked_at (message_reader C l) c (event at w (Opens i))).still_open ≡ c.still_open
-      ++ record { id = i; opener = w } ∷ []
+      ++ record { key = i; opener = w } ∷ []
   unfolding tracked_at changed
   opened_still_open at c w i = refl
 
@@ -276,12 +276,12 @@ module _ (C : Table) (l : Answers) where
       → SlotsRepresent C l s c (Some w) → IsNotOpen w.number c.still_open → w.number ≡ number →
       w.header ≡ header
       → SlotsRepresent C l (record { slots = slots'; owner = owners.Open (Some k) })
-      (tracked_at (message_reader C l) c (event at w (Opens i))) (Some w)
+      (tracked_at (message_reader C l) c (event at w (Opens (Some i)))) (Some w)
   open_keeps s slots' c w at number header i message k items is long h apart n f =
-      let ev = event at w (Opens i) in
-      let o : Open = record { id = i; opener = w } in
+      let ev = event at w (Opens (Some i)) in
+      let o : Open = record { key = Some i; opener = w } in
       let known : (tracked_at (message_reader C l) c ev).known w.number ≡ c.known w.number =
-      own_then (message_reader C l) c ev ∙ opens_then at w i (c.known w.number) in
+      own_then (message_reader C l) c ev ∙ opens_then at w (Some i) (c.known w.number) in
       let same : Each (λ a. (tracked_at (message_reader C l) c ev).known a.opener.number
       ≡ c.known a.opener.number) c.still_open =
       each_weaker (λ a. a.opener.number ≡ w.number → ⊥)
@@ -293,7 +293,7 @@ module _ (C : Table) (l : Answers) where
       record {
         slots = rw (
           items,
-          opened_still_open at c w i,
+          opened_still_open at c w (Some i),
           slot_comes (tracked_at (message_reader C l) c ev).known c.known c.still_open o same,
           known,
         )
@@ -303,11 +303,15 @@ module _ (C : Table) (l : Answers) where
             (record {
               number = sym n;
               header = sym f;
-              id = refl;
+              key = refl;
               message =
                   rw is (current_kept s c w apart h);
             }));
-        owner = (o, rw (opened_still_open at c w i, long, many) (get_last c.still_open o), refl);
+        owner = (
+          o,
+          rw (opened_still_open at c w (Some i), long, many) (get_last c.still_open o),
+          refl,
+        );
       }
 
   gone_still_open : (at : ℕ) (c : Tracked) (w : MessageKey) (what : EventKind) → IsGone what

@@ -1,5 +1,5 @@
 -- A payload octet in three parts, as the code does it: its owner takes it; then come the events of
--- the request id, and then those of the message's end.
+-- the message's place among the open ones, and then those of its end.
 use Rattle.std.proofs.Common.{append-nil, append_assoc, length-append, suc, ◌≡◌, ℕ, ◌+◌, ◌-◌, ◌<◌, ◌≤◌, Bool, true, false, List, [], ◌∷◌, ◌++◌, length, get_or, refl, sym, ap, ◌∙◌, Option, Some, None, arith}
 use Rattle.std.specs.Prelude.{◌==◌, if◌then◌else◌}
 use Rattle.std.proofs.lemmas.Bool.{ne_eqb, eqb-true, le-leb, lt-ltb, cases_lt}
@@ -8,21 +8,23 @@ use Rattle.giop_sig.specs.Table.{Table}
 use Rattle.giop_message.specs.Signatures.{Answers}
 use Rattle.giop_message.specs.ReaderOfTable.{message_reader}
 use Rattle.giop_message.specs.MessageReader.{MessageReader, IsStreamable}
-use Rattle.giop_message.specs.Headers.{is_fragment, has_name}
+use Rattle.giop_message.specs.Headers.{has_name}
+use Rattle.giop_stream.specs.Kinds.{is_old, is_any_fragment, named_at}
 use Rattle.giop_message.proofs.MessageLaws.{is_ordered, is_closing, is_named}
 use Rattle.giop_stream.specs.declared.slots.Slots.{Slots}
 use Rattle.giop_stream.specs.declared.current.Current.{Current}
 use Rattle.giop_stream.specs.Rules.{Rules, rules_by}
 use Rattle.giop_stream.specs.Framing.{Message, with_payload}
-use Rattle.giop_stream.specs.Events.{Takes, MessageKey, Open, Event, message_key, place, opener_of, has_named, goes_past, id, events_at_octet, events_at_request_id, events_of_octet, opened, Rising, request_id_events, message_end_events}
+use Rattle.giop_stream.specs.Events.{Takes, MessageKey, Open, Event, message_key, place, opener_of, has_named, goes_past, id, key, events_at_octet, events_at_name, events_of_octet, opened, Rising, naming_events, message_end_events}
 use Rattle.giop_stream.specs.Effects.{Effect, effects, tracked_at, then_effect, with_octet, event, effect_to}
 use Rattle.giop_stream.specs.OpenSlots.{Tracked}
 use Rattle.giop_stream.specs.SlotsRepresent.{SlotsRepresent}
 use Rattle.giop_stream.specs.PayloadRuns.{run_effect}
-use Rattle.giop_stream.specs.PayloadOwner.{IsBeforeOctet, IsBeforeOctets, effect_before, IsAfterTake, IsAtOctet, IsNewest, owner_of_octet, owner_after, id_events, end_events}
+use Rattle.giop_stream.specs.PayloadOwner.{IsBeforeOctet, IsBeforeOctets, effect_before, IsAfterTake, IsAtOctet, IsNewest, owner_of_octet, owner_after, name_events, end_events}
 use Rattle.giop_stream.specs.EngineState.{opener_key, owner_of_next}
+use Rattle.giop_stream.proofs.Events.MessageKinds.{named_four, named_within}
 use Rattle.giop_stream.proofs.Events.EventsOfOctet.{quiet_octet, quiet_continues}
-use Rattle.giop_stream.proofs.Events.EventsKeep.{rising_push, rising_filter, opened_by, kept_id}
+use Rattle.giop_stream.proofs.Events.EventsKeep.{rising_push, rising_filter, opened_by, kept_name}
 use Rattle.giop_stream.proofs.SlotSteps.OneSlotChanges.{own_then}
 use Rattle.giop_stream.proofs.StreamLines.IdBeforeEnd.{named_then}
 use Rattle.giop_stream.proofs.SlotSteps.Cases.{effects_append, octet_own, octet_passed, octet_lost}
@@ -37,41 +39,42 @@ unfolding effects opened tracked_at
 effects_still_open R c [] = refl
 effects_still_open R c (e ∷ es) = effects_still_open R (tracked_at R c e) es
 
--- a Fragment's request id opens and closes nothing
-fragment_still : (most : ℕ) (still_open : List Open) (m : Message) → is_fragment m.header ≡ true →
-    opened still_open (id_events most still_open m) ≡ still_open
-unfolding id_events request_id_events opened
+-- a Fragment opens and closes nothing as it has its place
+fragment_still : (most : ℕ) (still_open : List Open) (m : Message) →
+    is_any_fragment m.header ≡ true →
+    opened still_open (name_events most still_open m) ≡ still_open
+unfolding name_events naming_events opened
 fragment_still most still_open m f = search (arith, quiet_continues)
 
 -- if a message is no Fragment, the open messages make no difference to the events at its end
-plain_end : (still_open still_open' : List Open) (m : Message) → is_fragment m.header ≡ false →
+plain_end : (still_open still_open' : List Open) (m : Message) → is_any_fragment m.header ≡ false →
     end_events still_open' m ≡ end_events still_open m
 unfolding end_events message_end_events
 plain_end still_open still_open' m f = rw f refl
 
 end_same : (most : ℕ) (still_open : List Open) (m : Message) →
-    end_events (opened still_open (id_events most still_open m)) m ≡ end_events still_open m
+    end_events (opened still_open (name_events most still_open m)) m ≡ end_events still_open m
 end_same most still_open m = search (arith, fragment_still, plain_end)
 
--- after the events of the request id, the next octets have the same owner as before them
+-- after the events of the place, the next octets have the same owner as before them
 owner_same : (most : ℕ) (still_open : List Open) (m : Message) →
-    owner_of_next (opened still_open (id_events most still_open m)) m ≡ owner_of_next still_open m
+    owner_of_next (opened still_open (name_events most still_open m)) m ≡ owner_of_next still_open m
 owner_same most still_open m = search (arith, fragment_still, owner_plain)
 
-rising_id : (most : ℕ) (still_open : List Open) (m : Message) → Rising still_open →
-    (length m.payload ≡ 4 → IsNewest m.number still_open) →
-    Rising (opened still_open (id_events most still_open m))
-unfolding id_events opened opened_by
-rising_id most still_open m r newest = go (length m.payload == 4) refl
+rising_name : (most : ℕ) (still_open : List Open) (m : Message) → Rising still_open →
+    (length m.payload ≡ named_at m.header → IsNewest m.number still_open) →
+    Rising (opened still_open (name_events most still_open m))
+unfolding name_events opened opened_by
+rising_name most still_open m r newest = go (length m.payload == named_at m.header) refl
   where
-    go : (b : Bool) → (length m.payload == 4) ≡ b →
-        Rising (opened still_open (if b then events_at_request_id most still_open m else []))
+    go : (b : Bool) → (length m.payload == named_at m.header) ≡ b →
+        Rising (opened still_open (if b then events_at_name most still_open m else []))
     go true e =
-        kept_id most Rising still_open m (record {
+        kept_name most Rising still_open m (record {
           fewer = rising_filter;
           more = λ can q. rising_push still_open (opened_by m) q
               (newest can.named);
-        }) (eqb-true (length m.payload) 4 e) r
+        }) (eqb-true (length m.payload) (named_at m.header) e) r
     go false e = r
 
 -- ---- The parts.
@@ -81,7 +84,7 @@ module _ (R : Rules) (c : Tracked) (m : Message) where
   first = effects R.reading c (events_at_octet c.still_open m)
 
   abbrev pub second : Effect
-  second = effects R.reading first.tracked (id_events R.most first.tracked.still_open m)
+  second = effects R.reading first.tracked (name_events R.most first.tracked.still_open m)
 
   abbrev pub third : Effect
   third = effects R.reading second.tracked (end_events second.tracked.still_open m)
@@ -90,13 +93,13 @@ module _ (R : Rules) (c : Tracked) (m : Message) where
   first_still_open = search (arith, effects_still_open, quiet_octet)
 
   second_still_open : second.tracked.still_open
-      ≡ opened c.still_open (id_events R.most c.still_open m)
+      ≡ opened c.still_open (name_events R.most c.still_open m)
   second_still_open = search (arith, effects_still_open, first_still_open)
 
   parts : (length m.payload ≡ 0 → ⊥) → events_of_octet R.most c.still_open m
-      ≡ events_at_octet c.still_open m ++ (id_events R.most c.still_open m
+      ≡ events_at_octet c.still_open m ++ (name_events R.most c.still_open m
       ++ end_events c.still_open m)
-  unfolding events_of_octet id_events end_events
+  unfolding events_of_octet name_events end_events
   parts some = search (arith, ne_eqb)
 
   pub in_parts : (length m.payload ≡ 0 → ⊥) →
@@ -116,8 +119,9 @@ module _ (R : Rules) (c : Tracked) (m : Message) where
   second_owner = search (arith, first_still_open, owner_same, second_still_open)
 
   pub second_rising : Rising c.still_open →
-      (length m.payload ≡ 4 → IsNewest m.number c.still_open) → Rising second.tracked.still_open
-  second_rising r newest = search (arith, second_still_open, rising_id)
+      (length m.payload ≡ named_at m.header → IsNewest m.number c.still_open) →
+      Rising second.tracked.still_open
+  second_rising r newest = search (arith, second_still_open, rising_name)
 
   -- the events at the message's end make no difference to the owner of the octets after this one
   pub third_owner : owner_after second.tracked.still_open m ≡ owner_after third.tracked.still_open m
@@ -126,10 +130,21 @@ module _ (R : Rules) (c : Tracked) (m : Message) where
 
 -- ---- The owner of the next octet.
 
-same_opener : (still_open : List Open) (m : Message) (x : ℕ) → 4 ≤ length m.payload →
+same_id : (m : Message) (x : ℕ) → 4 ≤ length m.payload → id (with_octet m x) ≡ id m
+unfolding id
+same_id m x many = search (arith, take-append-le)
+
+pub same_key : (m : Message) (x : ℕ) → named_at m.header ≤ length m.payload → (b : Bool) →
+    is_old m.header ≡ b → key (with_octet m x) ≡ key m
+unfolding key
+same_key m x many true old = rw old refl
+same_key m x many false new = search (arith, same_id, named_four)
+
+same_opener : (still_open : List Open) (m : Message) (x : ℕ) →
+    named_at m.header ≤ length m.payload →
     opener_of still_open (with_octet m x) ≡ opener_of still_open m
-unfolding opener_of id
-same_opener still_open m x many = search (arith, take-append-le)
+unfolding opener_of
+same_opener still_open m x many = search (arith, same_key)
 
 pub owner_next : (still_open : List Open) (m : Message) (x : ℕ) →
     owner_of_octet still_open (with_octet m x) ≡ owner_of_next still_open m
@@ -187,7 +202,7 @@ module _ (C : Table) (l : Answers) (most : ℕ) (c : Tracked) (m : Message) (now
   unfolding run_effect
   takes_effect = search (arith, takes_at, some_place, append-nil)
 
-  pub known_is : length m.payload < 4 → has_name m.header ≡ true
+  pub known_is : length m.payload < named_at m.header → has_name m.header ≡ true
       → (first (rules_by C l most) c (with_octet m x)).tracked.known m.number
       ≡ Some (m.payload ++ x ∷ [])
   known_is few name =
@@ -201,7 +216,8 @@ module _ (C : Table) (l : Answers) (most : ℕ) (c : Tracked) (m : Message) (now
       ap (λ (d : Tracked). d.known m.number) tracked
       ∙ (own_then (message_reader C l) c (event now.place (message_key m) (Takes x))
       ∙ rw (h.alive name few) (named_then (message_reader C l) (in_turn C l) now.place
-      (message_key m) m.payload x name few))
+      (message_key m) m.payload x name
+      (omega (arith, few, named_within m.header))))
 
   pub taken_here : (s' : Slots) → SlotsRepresent C l s'
       (first (rules_by C l most) c (with_octet m x)).tracked (owner_of_next c.still_open m)
@@ -219,27 +235,28 @@ module _ (C : Table) (l : Answers) (most : ℕ) (c : Tracked) (m : Message) (now
         rising = rw still_open h.rising;
         current = h.current;
         payload_count = omega (arith, length_push m.payload x, h.payload_count);
-        newest = λ four. rw still_open (h.newest (omega (arith, length_push m.payload x, four)));
-        alive = λ name four. known_is (omega (arith, length_push m.payload x, four)) name;
+        some = omega (arith, length_push m.payload x);
+        newest = λ named. rw still_open (h.newest (omega (arith, length_push m.payload x, named)));
+        alive = λ name named. known_is (omega (arith, length_push m.payload x, named)) name;
         says = h.says;
       }
 
   pub come_is : length (m.payload ++ x ∷ []) ≡ now.payload_count
   come_is = search (arith, length_push)
 
-  pub named_at : (s' : Slots) → SlotsRepresent C l s'
+  pub after_second : (s' : Slots) → SlotsRepresent C l s'
       (second (rules_by C l most) c (with_octet m x)).tracked
       (owner_of_next (first (rules_by C l most) c (with_octet m x)).tracked.still_open
       (with_octet m x))
       → IsAtOctet C l s' (second (rules_by C l most) c (with_octet m x)).tracked (with_octet m x)
       now
-  named_at s' k =
+  after_second s' k =
       let R = rules_by C l most in
       let m' = with_octet m x in
       record {
         keeps = rw (← second_owner R c m') k;
         rising = second_rising R c m' h.rising
-            (λ four. h.newest (omega (arith, length_push m.payload x, four)));
+            (λ named. h.newest (omega (arith, length_push m.payload x, named)));
         current = h.current;
       }
 

@@ -1,9 +1,11 @@
--- A message that begins with its request id is never refused only because of its header.
-use Rattle.std.proofs.Common.{◌≡◌, ℕ, true, false, List, None, arith}
-use Rattle.std.specs.Prelude.{nat_lt, ◌==◌}
-use Rattle.std.proofs.lemmas.Bool.{ne_eqb, and_parts, and_right, eqb-true, or_cases}
-use Rattle.giop_message.specs.Headers.{minor, kind, may_be_fragmented, is_opener, is_fragment, is_cancel, has_name}
-use Rattle.giop_stream.specs.Kinds.{refused}
+-- A message that begins with its request id, or is of 1.1, is never refused only because of its
+-- header, if it has a place among the open messages.
+use Rattle.std.proofs.Common.{inl, inr, ◌≡◌, ℕ, ◌<◌, true, false, List, None, refl, arith}
+use Rattle.std.specs.Prelude.{nat_lt, ◌==◌, ◌&&◌}
+use Rattle.std.proofs.lemmas.Bool.{ne_eqb, and_parts, and_right, eqb-true, le-ltb, or_cases}
+use Rattle.giop_message.specs.Headers.{minor, kind, has_more, may_be_fragmented, is_opener, is_fragment, is_cancel, has_name}
+use Rattle.giop_stream.specs.Kinds.{is_old_opener, is_old_fragment, is_old, refused}
+use Rattle.giop_stream.proofs.Events.MessageKinds.{old_opener_low, old_fragment_kind, old_fragment_minor}
 
 refused_by : (h : List ℕ) (k : ℕ) → kind h ≡ k → nat_lt 7 k ≡ false → (k == 7) ≡ false →
     (minor h == 1) ≡ false → refused h ≡ None
@@ -18,9 +20,34 @@ fragment_accepted : (h : List ℕ) → is_fragment h ≡ true → refused h ≡ 
 unfolding is_fragment refused
 fragment_accepted h f = search (arith, and_parts, eqb-true)
 
+-- a message of one of these types
+low_accepted : (h : List ℕ) (k : ℕ) → kind h ≡ k → k < 3 → refused h ≡ None
+unfolding refused
+low_accepted h k e low =
+    let within : nat_lt 7 (kind h) ≡ false = le-ltb 7 (kind h) (omega (arith, e, low)) in
+    let a : (kind h == 7) ≡ false = ne_eqb _ _ (λ s. omega (arith, e, low, s)) in
+    let b : (kind h == 3) ≡ false = ne_eqb _ _ (λ s. omega (arith, e, low, s)) in
+    let c : (kind h == 4) ≡ false = ne_eqb _ _ (λ s. omega (arith, e, low, s)) in
+    rw (within, a, b, c, and_right ((minor h == 1) && has_more h) false refl) refl
+
 cancel_accepted : (h : List ℕ) → is_cancel h ≡ true → refused h ≡ None
-unfolding is_cancel refused may_be_fragmented
-cancel_accepted h c = search (arith, eqb-true, and_right)
+unfolding is_cancel
+cancel_accepted h c = low_accepted h 2 (eqb-true _ _ c) (omega arith)
+
+old_opener_accepted : (h : List ℕ) → is_old_opener h ≡ true → refused h ≡ None
+old_opener_accepted h o = low_accepted h (kind h) refl (omega (arith, old_opener_low h o))
+
+old_fragment_accepted : (h : List ℕ) → is_old_fragment h ≡ true → refused h ≡ None
+unfolding refused
+old_fragment_accepted h f = rw (old_fragment_kind h f, old_fragment_minor h f)
+    (rw (and_right (has_more h) false refl) refl)
+
+pub old_accepted : (h : List ℕ) → is_old h ≡ true → refused h ≡ None
+unfolding is_old
+old_accepted h e = elim (or_cases _ _ e) [
+  | inl o ↦ old_opener_accepted h o
+  | inr f ↦ old_fragment_accepted h f
+]
 
 pub named_accepted : (h : List ℕ) → has_name h ≡ true → refused h ≡ None
 named_accepted h n = search (arith, or_cases, cancel_accepted, opener_accepted, fragment_accepted)

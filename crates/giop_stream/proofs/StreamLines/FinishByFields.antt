@@ -7,7 +7,7 @@ use Rattle.giop_print.specs.Lines.{unfinished_line, total_line}
 use Rattle.giop_sig.specs.Table.{Table}
 use Rattle.giop_message.specs.Signatures.{Answers}
 use Rattle.giop_message.specs.declared.message.Message.{Message as CodeMessage}
-use Rattle.giop_message.specs.Headers.{is_fragment}
+use Rattle.giop_stream.specs.Kinds.{is_any_fragment}
 use Rattle.giop_stream.specs.declared.status.Totals.{Totals}
 use Rattle.giop_stream.specs.declared.slots.Slot.{Slot as Contents}
 use Rattle.giop_stream.specs.declared.slots.PayloadOwner.{PayloadOwner}
@@ -60,7 +60,7 @@ open_at (a ∷ still_open) (suc k) o e = search (arith, or_right, open_at still_
 -- the line of the current message at the finish; a Fragment has none
 unfoldable pub current_text : Option CodeMessage → List ℕ
 current_text None = []
-current_text (Some m) = if is_fragment m.header then [] else unfinished_line m.number
+current_text (Some m) = if is_any_fragment m.header then [] else unfinished_line m.number
 
 module _ (C : Table) (l : Answers) where
   line_kept : (n : ℕ) (own : Option CodeMessage) (w : MessageKey) (o : Option (List ℕ)) →
@@ -96,7 +96,7 @@ module _ (C : Table) (l : Answers) where
 
   kept_left : (message : Option CodeMessage) (w : MessageKey) (o : Option (List ℕ)) →
       RepresentsMessage C l message w o
-      → flat_map unfinished_line (if is_fragment w.header then [] else left_by w.number o)
+      → flat_map unfinished_line (if is_any_fragment w.header then [] else left_by w.number o)
       ≡ current_text message
   unfolding current_text
   kept_left None w None k = search (arith, flat_map)

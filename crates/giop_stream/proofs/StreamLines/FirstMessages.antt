@@ -1,11 +1,11 @@
--- Lists of message numbers: those of the first messages (all except 1.2 Fragments) that are not
+-- Lists of message numbers: those of the first messages (all except Fragments) that are not
 -- over, and those of the open ones.
 use Rattle.std.proofs.Common.{arith, ◌≡◌, ℕ, Bool, true, false, cond, not, List, [], ◌∷◌, ◌++◌, map, refl}
 use Rattle.std.specs.Prelude.{◌==◌, if◌then◌else◌, ◌||◌}
 use Rattle.std.specs.List.{filter}
 use Rattle.std.proofs.lemmas.Bool.{cases_eq, ne_eqb, eqb-true}
 use Rattle.std.proofs.lemmas.List.Elements.{filter-append}
-use Rattle.giop_message.specs.Headers.{is_fragment}
+use Rattle.giop_stream.specs.Kinds.{is_any_fragment}
 use Rattle.giop_stream.specs.Framing.{Message}
 use Rattle.giop_stream.specs.Events.{Open}
 use Rattle.giop_stream.specs.OpenSlots.{is_open}
@@ -16,7 +16,7 @@ unfoldable pub numbers_of : List Open → List ℕ
 numbers_of still_open = map (λ o. o.opener.number) still_open
 
 unfoldable pub tail_of : List Open → Message → List ℕ
-tail_of still_open m = if is_fragment m.header
+tail_of still_open m = if is_any_fragment m.header
     || is_open still_open m.number then [] else m.number ∷ []
 
 unfoldable pub base : List Open → Message → List ℕ

@@ -7,6 +7,7 @@ use Rattle.std.proofs.lemmas.Bool.{le-ltb, eq-eqb, ne_eqb, and_right, ltb-true}
 use Rattle.std.proofs.lemmas.List.{length_push}
 use Rattle.giop_message.specs.Phases.{unbroken}
 use Rattle.giop_message.specs.Headers.{size, has_name}
+use Rattle.giop_stream.specs.Kinds.{named_at}
 use Rattle.giop_stream.specs.Rules.{Rules}
 use Rattle.giop_stream.specs.Framing.{Message, cut}
 use Rattle.giop_message.specs.MessageReader.{LineClass, Value, MessageReader, IsStreamable, due}
@@ -83,21 +84,22 @@ named_then R laws at w xs x name short = search (arith, takes_last)
 
 -- ---- Octet by octet.
 
-pub not_past : (m : Message) → length m.payload ≤ 4 → goes_past m ≡ false
+pub not_past : (m : Message) → length m.payload ≤ named_at m.header → goes_past m ≡ false
 unfolding goes_past
 not_past m h = search (arith, and_right, le-ltb)
 
 pub early_octet : (most : ℕ) (still_open : List Open) (m : Message) → 0 < length m.payload →
-    length m.payload < 4
+    length m.payload < named_at m.header
     → length m.payload < size m.header → events_of_octet most still_open m
     ≡ events_at_octet still_open m
 unfolding events_of_octet
 early_octet most still_open m some few lacks = search (arith, ne_eqb, append-nil)
 
 pub first_octet : (most : ℕ) (still_open : List Open) (m : Message) → length m.payload ≡ 0 →
-    0 < size m.header → events_of_octet most still_open m ≡ events_at_header m
+    0 < named_at m.header → 0 < size m.header →
+    events_of_octet most still_open m ≡ events_at_header m
 unfolding events_of_octet
-first_octet most still_open m none some = search (arith, eq-eqb, ne_eqb, append-nil)
+first_octet most still_open m none named some = search (arith, eq-eqb, ne_eqb, append-nil)
 
 -- the octets of the current message are kept while its request id is incomplete
 abbrev pub IsAlive : Rules → List ℕ → Type 0

@@ -1,22 +1,23 @@
 -- Between which classes the lines are: those of each kind of event, those of lists of events, and
 -- those of each part of an octet.
 use Rattle.std.proofs.Common.{◌≡◌, ℕ, suc, ◌<◌, ◌≤◌, Bool, true, false, List, [], ◌∷◌, ◌++◌, length, refl, sym, append_assoc, Option, Some, None, arith}
-use Rattle.std.specs.Prelude.{nat_lt, ◌==◌, if◌then◌else◌, ◌&&◌, ◌||◌}
+use Rattle.std.specs.Prelude.{◌==◌, if◌then◌else◌}
 use Rattle.std.specs.List.{filter}
-use Rattle.std.proofs.lemmas.Bool.{le-ltb, eqb-true}
+use Rattle.std.proofs.lemmas.Bool.{eqb-true}
 use Rattle.std.proofs.lemmas.List.{append-nil}
 use Rattle.giop_stream.specs.declared.fault.FramingFault.{FramingFault}
-use Rattle.giop_stream.specs.declared.fault.FramingFault.TheVariants.{NoOpen, IdOpen, FragmentOrder}
+use Rattle.giop_stream.specs.declared.fault.FramingFault.TheVariants.{OldFragment, IdOpen, FragmentOrder}
 use Rattle.giop_message.specs.Phases.{unbroken}
-use Rattle.giop_message.specs.Headers.{order, size, is_fragment, is_opener}
+use Rattle.giop_message.specs.Headers.{order, size}
 use Rattle.giop_stream.specs.Rules.{Rules}
 use Rattle.giop_stream.specs.Framing.{Message}
 use Rattle.giop_message.specs.MessageReader.{MessageReader, IsOrdered, IsClosing}
-use Rattle.giop_stream.specs.Kinds.{may_be_cancelled, refused}
-use Rattle.giop_stream.specs.Events.{EventKind, Begins, Takes, Opens, Continues, Cancelled, Faults, Closes, Event, Open, own, event_of_open, id, opener_of, fault_events, opens, same_order, continues, cancels, events_at_request_id, events_at_end, now_of, header_events, request_id_events, message_end_events, Now}
+use Rattle.giop_stream.specs.Kinds.{is_short, named_at, may_be_cancelled, refused}
+use Rattle.giop_stream.specs.Events.{EventKind, Begins, Takes, Opens, Continues, Cancelled, Faults, Closes, Event, Open, own, event_of_open, key, opener_of, fault_events, opens, same_order, unopened, continues, cancels, events_at_name, events_at_end, now_of, header_events, naming_events, message_end_events, Now}
 use Rattle.giop_stream.specs.Lines.{line, lines_of_event}
 use Rattle.giop_stream.specs.OpenSlots.{OctetsByNumber}
 use Rattle.giop_stream.specs.Effects.{lines_for, kept_with}
+use Rattle.giop_stream.proofs.Events.MessageKinds.{long_enough}
 use Rattle.giop_stream.proofs.StreamLines.EventsTogether.{all_lines}
 use Rattle.giop_stream.proofs.StreamLines.Spans.{Spans, spans_none, spans_wider, spans_join, spans_one, class_spans, turn_spans, close_spans}
 
@@ -30,9 +31,9 @@ pub event_lines_begins : (R : MessageReader) → Tells R 0 0 Begins
 unfolding Tells lines_of_event line
 event_lines_begins R e so_far all = spans_one 0 _ refl
 
-event_lines_opens : (R : MessageReader) (id lo hi : ℕ) → Tells R lo hi (Opens id)
+event_lines_opens : (R : MessageReader) (key : Option ℕ) (lo hi : ℕ) → Tells R lo hi (Opens key)
 unfolding Tells lines_of_event
-event_lines_opens R id lo hi e so_far all = spans_none lo hi
+event_lines_opens R key lo hi e so_far all = spans_none lo hi
 
 event_lines_continues : (R : MessageReader) (i : ℕ) → Tells R 3 3 (Continues i)
 unfolding Tells lines_of_event line
@@ -144,17 +145,18 @@ always_header R now =
     go None = always_none R 5 5
     go (Some fault) = always_faulted R now fault
 
--- ---- The request id.
+-- ---- The octet with which a message has its place among the open ones.
 
 module _ (R : Rules) (now : Now) where
   faulted : (fault : FramingFault) → Always R.reading 3 5 (own now (Faults fault))
   faulted fault = always_wider R.reading 3 5 5 5 (own now (Faults fault)) (omega arith)
       (omega arith) (always_faulted R.reading now fault)
 
-  always_opens : (still_open : List Open) (id : ℕ) (o : Option Open) →
-      Always R.reading 3 5 (opens R.most still_open now id o)
-  always_opens still_open id (Some other) = faulted IdOpen
-  always_opens still_open id None = search (
+  always_opens : (still_open : List Open) (key : Option ℕ) (o : Option Open) →
+      Always R.reading 3 5 (opens R.most still_open now key o)
+  always_opens still_open None o = faulted OldFragment
+  always_opens still_open (Some id) (Some other) = faulted IdOpen
+  always_opens still_open (Some id) None = search (
     arith,
     always_if,
     faulted,
@@ -162,9 +164,10 @@ module _ (R : Rules) (now : Now) where
     event_lines_opens,
   )
 
-  always_continues : (o : Option Open) → Always R.reading 3 5 (continues now o)
-  always_continues None = faulted NoOpen
-  always_continues (Some o) =
+  always_continues : (key : Option ℕ) (o : Option Open) →
+      Always R.reading 3 5 (continues now key o)
+  always_continues key None = faulted (unopened key)
+  always_continues key (Some o) =
       always_join R.reading 3 3 5 5 (own now (Continues o.opener.number)) _ (omega arith)
       (omega arith) (omega arith)
       (always_own R.reading 3 3 now (Continues o.opener.number)
@@ -184,10 +187,10 @@ module _ (R : Rules) (now : Now) where
       (event_lines_cancelled R.reading now.subject.number)))
       (always_none R.reading 3 5)
 
-  always_id : (still_open : List Open) (id : ℕ) (o : Option Open) →
-      Always R.reading 3 5 (request_id_events R.most still_open now id o)
-  unfolding request_id_events
-  always_id still_open id o = search (
+  always_name : (still_open : List Open) (key : Option ℕ) (o : Option Open) →
+      Always R.reading 3 5 (naming_events R.most still_open now key o)
+  unfolding naming_events
+  always_name still_open key o = search (
     arith,
     always_if,
     always_continues,
@@ -198,7 +201,7 @@ module _ (R : Rules) (now : Now) where
 
 -- a message that ends before the request id that it needs
 abbrev pub ends_short : Message → Bool
-ends_short m = nat_lt (size m.header) 4 && (is_opener m.header || is_fragment m.header)
+ends_short m = is_short m.header
 
 -- if a message doesn't end before its request id, the joined message may close
 pub always_close : (R : MessageReader) → IsClosing R → (still_open : List Open) (m : Message) →
@@ -228,27 +231,25 @@ always_end R closing still_open m = go (ends_short m) refl
     go false long = always_wider R 5 8 6 8 (events_at_end still_open m) (omega arith) (omega arith)
         (always_close R closing still_open m long)
 
-long_enough : (m : Message) → 4 ≤ size m.header → ends_short m ≡ false
-long_enough m h = search (arith, le-ltb)
-
 -- the parts after the first one
 pub always_later : (R : Rules) → IsClosing R.reading → (still_open : List Open) (m : Message) →
     length m.payload ≤ size m.header
-    → Always R.reading 3 8 ((if length m.payload == 4 then events_at_request_id R.most still_open m
+    → Always R.reading 3 8
+    ((if length m.payload == named_at m.header then events_at_name R.most still_open m
     else []) ++ (if length m.payload == size m.header then events_at_end still_open m else []))
-always_later R closing still_open m fits = go (length m.payload == 4) refl
+always_later R closing still_open m fits = go (length m.payload == named_at m.header) refl
   where
-    go : (b : Bool) → (length m.payload == 4) ≡ b →
-        Always R.reading 3 8 ((if b then events_at_request_id R.most still_open m else [])
+    go : (b : Bool) → (length m.payload == named_at m.header) ≡ b →
+        Always R.reading 3 8 ((if b then events_at_name R.most still_open m else [])
         ++ (if length m.payload == size m.header then events_at_end still_open m else []))
     go true e =
-        let four = eqb-true (length m.payload) 4 e in
-        always_join R.reading 3 5 6 8 (events_at_request_id R.most still_open m)
+        let named = eqb-true (length m.payload) (named_at m.header) e in
+        always_join R.reading 3 5 6 8 (events_at_name R.most still_open m)
         (if length m.payload == size m.header then events_at_end still_open m else [])
         (omega arith) (omega arith) (omega arith)
-        (always_id R (now_of m) still_open (id m) (opener_of still_open m))
+        (always_name R (now_of m) still_open (key m) (opener_of still_open m))
         (always_if R.reading 6 8 (length m.payload == size m.header) (events_at_end still_open m) []
-        (always_close R.reading closing still_open m (long_enough m (omega arith)))
+        (always_close R.reading closing still_open m (long_enough m.header (omega arith)))
         (always_none R.reading 6 8))
     go false e =
         always_wider R.reading 3 8 5 8 (if length m.payload == size m.header then events_at_end

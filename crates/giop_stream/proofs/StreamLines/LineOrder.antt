@@ -6,19 +6,21 @@ use Rattle.std.specs.List.{AllByRecursion as Each}
 use Rattle.std.proofs.lemmas.Bool.{cases_lt, cases_eq, le-ltb, lt-ltb, eq-eqb, ne_eqb, and_parts, and_right}
 use Rattle.std.proofs.lemmas.List.{append-nil, length_push}
 use Rattle.giop_message.specs.Phases.{unbroken}
-use Rattle.giop_message.specs.Headers.{size, is_fragment, is_opener, is_cancel, has_name}
+use Rattle.giop_message.specs.Headers.{size, is_fragment, is_opener, has_name}
+use Rattle.giop_stream.specs.Kinds.{is_old, is_any_fragment, is_short, has_place, named_at}
 use Rattle.giop_stream.specs.Rules.{Rules}
 use Rattle.giop_stream.specs.Framing.{Message}
 use Rattle.giop_message.specs.MessageReader.{LineClass, Value, Fault, MessageReader, due, IsStreamable}
 use Rattle.giop_stream.specs.Effects.{IsBegun, lines_for, kept_with}
-use Rattle.giop_stream.specs.Events.{EventKind, Begins, Takes, Closes, MessageKey, Event, Open, own, event_of_open, opener_of, goes_past, events_at_header, events_at_octet, events_at_request_id, events_at_end, events_of_octet, octet, joined, now_of, header_events, payload_events, request_id_events, message_end_events, events_with_id, Now}
+use Rattle.giop_stream.specs.Events.{EventKind, Begins, Takes, Closes, MessageKey, Event, Open, own, event_of_open, opener_of, goes_past, events_at_header, events_at_octet, events_at_name, events_at_end, events_of_octet, octet, joined, now_of, header_events, payload_events, naming_events, message_end_events, events_with_key, Now}
 use Rattle.giop_stream.specs.Lines.{Line, Said, line, lines_of_event, is_last_of, up_to_last_line}
 use Rattle.giop_stream.specs.OpenSlots.{OctetsByNumber}
 use Rattle.giop_stream.proofs.StreamLines.EventsTogether.{all_lines}
 use Rattle.giop_stream.proofs.Lists.{each_filter}
 use Rattle.giop_stream.proofs.StreamLines.Ordering.{rank_of, Rises, Fine, fine_of}
 use Rattle.giop_stream.proofs.StreamLines.Spans.{Spans, spans_none, class_rank, LineClassesRise, rank_said, reader_classes_each, reader_classes_rise, class_spans, both_say, value_spans}
-use Rattle.giop_stream.proofs.StreamLines.Accepted.{named_accepted}
+use Rattle.giop_stream.proofs.StreamLines.Accepted.{named_accepted, old_accepted}
+use Rattle.giop_stream.proofs.Events.MessageKinds.{unplaced, unnamed, placed_named, any_placed, named_old, named_four, named_within, named_not_old}
 use Rattle.giop_stream.proofs.StreamLines.InClasses.{event_lines_begins, event_lines_takes, Always, join_spans, always_join, always_none, always_if, always_one, always_own, always_header, ends_short, always_close, always_end, always_later}
 
 -- ---- An octet, and the close after it.
@@ -157,45 +159,69 @@ module _ (R : MessageReader) (laws : IsStreamable R) where
 -- ---- All events of an octet.
 
 at_end_owner : (still_open : List Open) (m : Message) → ends_short m ≡ false →
-    is_fragment m.header ≡ false
+    is_any_fragment m.header ≡ false
     → (events_at_end still_open m ≡ []) ⊎ (events_at_end still_open m ≡ own (now_of m) Closes)
 unfolding message_end_events
 at_end_owner still_open m short f = search (arith)
 
 at_end_past : (still_open : List Open) (m : Message) → ends_short m ≡ false →
-    is_fragment m.header ≡ true
+    is_any_fragment m.header ≡ true
     → (events_at_end still_open m ≡ []) ⊎ (events_at_end still_open m
     ≡ event_of_open (now_of m) (opener_of still_open m) Closes)
 unfolding message_end_events
 at_end_past still_open m short f = search (arith)
 
-pub not_past : (m : Message) → length m.payload ≤ 4 → goes_past m ≡ false
+pub not_past : (m : Message) → length m.payload ≤ named_at m.header → goes_past m ≡ false
 unfolding goes_past
 not_past m h = search (arith, and_right, le-ltb)
 
-pub unnamed : (header : List ℕ) → has_name header ≡ false → (is_opener header ≡ false)
-    × (is_fragment header ≡ false) × (is_cancel header ≡ false)
-unnamed header h = search (arith)
+no_name : (most : ℕ) (still_open : List Open) (m : Message) → has_place m.header ≡ false →
+    events_at_name most still_open m ≡ []
+unfolding naming_events
+no_name most still_open m h = search (arith, unplaced)
 
-unnamed_id : (most : ℕ) (still_open : List Open) (m : Message) → has_name m.header ≡ false →
-    events_at_request_id most still_open m ≡ []
-unfolding request_id_events
-unnamed_id most still_open m h = search (arith, unnamed)
+-- a message that doesn't begin with its request id has no place after the octets of its header
+unnamed_past : (most : ℕ) (still_open : List Open) (m : Message) → 0 < length m.payload →
+    has_name m.header ≡ false
+    → (if length m.payload == named_at m.header then events_at_name most still_open m else []) ≡ []
+unnamed_past most still_open m some h = go (is_old m.header) (has_place m.header) refl refl
+  where
+    go : (a b : Bool) → is_old m.header ≡ a → has_place m.header ≡ b
+        → (if length m.payload == named_at m.header then events_at_name most still_open m else [])
+        ≡ []
+    go true b old e = search (arith, named_old, ne_eqb)
+    go false true old e = absurd (let no = placed_named m.header e old in cc)
+    go false false old e = search (arith, no_name)
+
+-- and if it is a Fragment, it is one of 1.1
+unnamed_old : (h : List ℕ) → has_name h ≡ false → is_any_fragment h ≡ true → is_old h ≡ true
+unnamed_old h n f = go (is_old h) refl
+  where
+    go : (b : Bool) → is_old h ≡ b → is_old h ≡ true
+    go true old = old
+    go false old = absurd (let no = placed_named h (any_placed h f) old in cc)
 
 -- a message isn't too short if it has no request id, or if it has at least 4 octets
 not_short : (m : Message) → (has_name m.header ≡ false) ⊎ (4 ≤ size m.header) → ends_short m ≡ false
+unfolding is_short
 not_short m (inl h) = search (arith, unnamed, and_right)
 not_short m (inr h) = search (arith, le-ltb)
 
 -- the last octet of a header
 short_begins : (R : MessageReader) (m : Message) → ends_short m ≡ true →
     Always R 0 0 (events_at_header m)
-unfolding header_events own
+unfolding header_events own is_short
 short_begins R m short =
     let named : has_name m.header ≡ true =
     rw ((and_parts (nat_lt (size m.header) 4) (is_opener m.header || is_fragment m.header)
     short).1) refl in
     rw (named_accepted m.header named) (always_own R 0 0 (now_of m) Begins (event_lines_begins R))
+
+old_begins : (R : MessageReader) (m : Message) → is_old m.header ≡ true →
+    Always R 0 0 (events_at_header m)
+unfolding header_events own
+old_begins R m old =
+    rw (old_accepted m.header old) (always_own R 0 0 (now_of m) Begins (event_lines_begins R))
 
 module _ (R : Rules) (laws : IsStreamable R.reading) (K : OctetsByNumber) (still_open : List Open)
     (m : Message) where
@@ -219,24 +245,30 @@ module _ (R : Rules) (laws : IsStreamable R.reading) (K : OctetsByNumber) (still
       length m.payload ≤ size m.header → IsFine
   unfolding events_of_octet
   plain_octet some h fits =
-      rw (events_of_octet, events_with_id, ne_eqb (length m.payload) 0 (λ e. omega arith), second)
-      (go (is_fragment m.header) refl)
+      rw (events_of_octet, events_with_key, ne_eqb (length m.payload) 0 (λ e. omega arith), second)
+      (go (is_any_fragment m.header) refl)
     where
-      second : (if length m.payload == 4 then events_at_request_id R.most still_open m else []) ≡ []
-      second = search (arith, unnamed_id, ne_eqb)
+      second : (if length m.payload == named_at m.header then events_at_name R.most still_open m
+          else []) ≡ []
+      second = elim h [
+        | inl k ↦ unnamed_past R.most still_open m some k
+        | inr k ↦ search (arith, named_within, ne_eqb)
+      ]
 
       long : ends_short m ≡ false
       long = search (arith, not_short)
 
-      go : (b : Bool) → is_fragment m.header ≡ b →
+      go : (b : Bool) → is_any_fragment m.header ≡ b →
           Fine (all_lines R.reading K (events_at_octet still_open m ++ close))
       go false f = unfold payload_events goes_past in
           rw (f) (takes_then R.reading laws K (now_of m) x (length m.payload == size m.header)
           (events_at_end still_open m) (at_end_owner still_open m long f))
       go true f = unfold payload_events goes_past in
-          let past : 4 < length m.payload = elim h
-          [ inl k ↦ absurd (let no = (unnamed m.header k).1 in cc) | inr k ↦ k ] in
-          rw (f, lt-ltb 4 (length m.payload) past)
+          let past : named_at m.header < length m.payload = elim h [
+            | inl k ↦ omega (arith, named_old m.header (unnamed_old m.header k f))
+            | inr k ↦ omega (arith, named_within m.header)
+          ] in
+          rw (f, lt-ltb (named_at m.header) (length m.payload) past)
           (passes_then R.reading laws K (now_of m) (opener_of still_open m) x
           (length m.payload == size m.header) (events_at_end still_open m)
           (at_end_past still_open m long f))
@@ -249,10 +281,10 @@ module _ (R : Rules) (laws : IsStreamable R.reading) (K : OctetsByNumber) (still
   named_octet some h short fits begun =
       rw (
         events_of_octet,
-        events_with_id,
+        events_with_key,
         payload_events,
         ne_eqb (length m.payload) 0 (λ e. omega arith),
-        not_past m short,
+        not_past m (omega (arith, named_four m.header (named_not_old m.header h))),
       )
       (fine_of _ (join_spans R.reading K 1 1 3 8 (own (now_of m) (Takes x)) _ (omega arith)
       (omega arith) (omega arith)
@@ -273,9 +305,30 @@ module _ (R : Rules) (laws : IsStreamable R.reading) (K : OctetsByNumber) (still
       (always_close R.reading laws.closing still_open m long) (always_none R.reading 6 8))
       K).rises
 
-  first_octet : length m.payload ≡ 0 → IsFine
+  -- the last octet of a header of 1.1, with which the message has its place
+  old_rises : length m.payload ≡ 0 → is_old m.header ≡ true →
+      Rises (all_lines R.reading K (events_at_header m
+      ++ ((if length m.payload == named_at m.header then events_at_name R.most still_open m else [])
+      ++ close)))
+  unfolding Always
+  old_rises none old =
+      (always_join R.reading 0 0 3 8 (events_at_header m) _ (omega arith) (omega arith)
+      (omega arith) (old_begins R.reading m old)
+      (always_later R laws.closing still_open m (omega (arith, none))) K).rises
+
+  first_by : length m.payload ≡ 0 → (b : Bool) → is_old m.header ≡ b → IsFine
   unfolding events_of_octet
-  first_octet none = search (arith, eq-eqb, ne_eqb, fine_of, first_rises, ends_short)
+  first_by none true old =
+      rw (events_of_octet, events_with_key, eq-eqb (length m.payload) 0 none)
+      (fine_of _ (old_rises none old))
+  first_by none false old =
+      let later : (length m.payload == named_at m.header) ≡ false =
+      ne_eqb _ _ (λ e. omega (arith, none, e, named_four m.header old)) in
+      rw (events_of_octet, events_with_key, eq-eqb (length m.payload) 0 none, later)
+      (fine_of _ (first_rises (ends_short m) refl))
+
+  first_octet : length m.payload ≡ 0 → IsFine
+  first_octet none = first_by none (is_old m.header) refl
 
   -- The lines of an octet are in order, and no two of those that are written have the same class.
   pub events_of_octet_fine : length m.payload ≤ size m.header →

@@ -8,8 +8,8 @@ use Rattle.giop_stream.specs.declared.fault.FramingFault.{FramingFault}
 use Rattle.giop_message.specs.Headers.{size}
 use Rattle.giop_stream.specs.Rules.{Rules}
 use Rattle.giop_stream.specs.Framing.{Message}
-use Rattle.giop_stream.specs.Kinds.{refused}
-use Rattle.giop_stream.specs.Events.{EventKind, Begins, Takes, Opens, Closes, Event, Open, message_key, place, id, own, event_of_open, opener_of, fault_events, events_at_request_id, events_at_end, events_of_octet, now_of, header_events, payload_events, Now}
+use Rattle.giop_stream.specs.Kinds.{named_at, refused}
+use Rattle.giop_stream.specs.Events.{EventKind, Begins, Takes, Opens, Closes, Event, Open, message_key, place, key, own, event_of_open, opener_of, fault_events, events_at_name, events_at_end, events_of_octet, now_of, header_events, payload_events, Now}
 use Rattle.giop_message.specs.MessageReader.{LineClass, MessageReader}
 use Rattle.giop_stream.specs.Lines.{Start, Started, Said, Line, has_class, line, lines_of_event, classes, by_class, is_last_of, up_to_last_line}
 use Rattle.giop_stream.specs.Stream.{is_start, start_count}
@@ -89,7 +89,7 @@ calm : (what : EventKind) → IsLater what → Calm what
 unfolding Calm lines_of_event NoStart line
 calm Begins h = absurd h
 calm (Takes x) h = absurd h
-calm (Opens i) h = λ R e so_far all. tt
+calm (Opens key) h = λ R e so_far all. tt
 calm Closes h = search (arith, closes_none)
 calm _ h = λ R e so_far all. (refl, tt)
 
@@ -103,15 +103,16 @@ quiet_octet now other = search (arith, either, quiet_about, calm_takes, quiet_ow
 
 -- the events of an octet after its first part
 later_part : (most : ℕ) → List Open → Message → List Event
-later_part most still_open m = (if length m.payload == 4 then events_at_request_id most still_open m
-    else []) ++ (if length m.payload == size m.header then events_at_end still_open m else [])
+later_part most still_open m =
+    (if length m.payload == named_at m.header then events_at_name most still_open m else [])
+    ++ (if length m.payload == size m.header then events_at_end still_open m else [])
 
 quiet_later : (most : ℕ) (still_open : List Open) (m : Message) →
     Each Quiet (later_part most still_open m)
 unfolding later_part
 quiet_later most still_open m =
     of_later most (Each Quiet) (record { none = tt; both = each_append Quiet }) still_open
-    (now_of m) (id m) (opener_of still_open m) (record {
+    (now_of m) (key m) (opener_of still_open m) (record {
       mine = λ what later. quiet_own (now_of m) what (calm what later);
       theirs = λ what later. quiet_about (now_of m) (opener_of still_open m) what (calm what later);
     })

@@ -6,9 +6,9 @@ use Rattle.giop_stream.specs.Rules.{Rules}
 use Rattle.giop_stream.specs.Text.{lines_text}
 use Rattle.giop_stream.specs.OpenSlots.{slots_of, is_open, left_open}
 use Rattle.giop_stream.specs.Effects.{lines_at, tracked_at, effects, lines_for, kept_with, kept_after}
-use Rattle.giop_stream.specs.Events.{own, event_of_open, header_events, payload_events, request_id_events, message_end_events, events_with_id}
+use Rattle.giop_stream.specs.Events.{own, event_of_open, header_events, payload_events, naming_events, message_end_events, events_with_key}
 use Rattle.giop_stream.specs.Octet.{octet_in}
-use Rattle.giop_stream.specs.EngineStep.{fresh, octet_at, id_of, other_of, events_at, stepped, ended, held_on, step, run, run_state, left_current, left_over, is_cut_short, final_totals, finish}
+use Rattle.giop_stream.specs.EngineStep.{fresh, octet_at, key_of, other_of, events_at, stepped, ended, held_on, step, run, run_state, left_current, left_over, is_cut_short, final_totals, finish}
 use Rattle.giop_stream.proofs.Worked.Rows.{small, rows, interleaved, id_alone, too_short, not_open, twice, too_many, cancelled, old_fragment, early_fragment, unknown_type, no_room, other_order, order_at_close, order_then_close, cancelled_early, short_fragment}
 
 record Runs (R : Rules) (p lines end : List ℕ) : Type 0 where
@@ -17,8 +17,9 @@ record Runs (R : Rules) (p lines end : List ℕ) : Type 0 where
 
 unfoldable pub runs : ℕ
 unfolding slots_of is_open lines_for kept_with kept_after left_open lines_at tracked_at effects
-    octet_in own event_of_open header_events payload_events request_id_events message_end_events
-    events_with_id fresh octet_at id_of other_of events_at stepped ended held_on step run run_state
+    octet_in own event_of_open header_events payload_events naming_events message_end_events
+    events_with_key fresh octet_at key_of other_of events_at stepped ended held_on step run
+    run_state
     left_current left_over is_cut_short final_totals finish
 runs = 0
 

@@ -18,7 +18,7 @@ returns-then-is_opener-clause-does g c =
     (sym c.if-is_fragment.ensures) in
     let o = header_is C l c.args.slots.now c' m c.args.now c.args.id h is_opener true
     (sym c.if-is_opener.ensures) in
-    rw (owner_other c'.still_open m f) (c.opens.ensures.does C l c' m h f o)
+    rw (owner_other c'.still_open m h.new f) (c.opens.ensures.does C l c' m h f o)
 
 pub returns-then-not-is_cancel-clause-does : goal.returns-then-not-is_cancel-clause-does
 returns-then-not-is_cancel-clause-does g c =
@@ -26,7 +26,7 @@ returns-then-not-is_cancel-clause-does g c =
     let f = header_is C l c.args.slots.now c' m c.args.now c.args.id h is_fragment false
     (sym c.if-is_fragment.ensures) in
     rw (
-      owner_other c'.still_open m f,
+      owner_other c'.still_open m h.new f,
       no_name C l c.args.slots.now c' m c.args.now c.args.id h (sym c.if-is_fragment.ensures)
           (sym c.if-is_opener.ensures) (sym c.if-not-is_cancel.ensures),
     ) (does_nothing _ _ refl h.keeps)
@@ -52,5 +52,5 @@ returns-clause-does g c =
     (sym c.if-is_opener.ensures) in
     let b = header_is C l c.args.slots.now c' m c.args.now c.args.id h is_cancel true
     (sym c.if-not-is_cancel.ensures) in
-    rw (owner_other c'.still_open m f) (counts_as _ _ _ _ refl
+    rw (owner_other c'.still_open m h.new f) (counts_as _ _ _ _ refl
     (c.in_ok-cancels.ensures.does C l c' m h f o b))

@@ -8,7 +8,7 @@ use Rattle.giop_stream.specs.Effects.{with_octet}
 use Rattle.giop_stream.specs.Further.{further}
 use Rattle.giop_stream.specs.DoesEffect.{DoesEffect}
 use Rattle.giop_stream.specs.PayloadOwner.{IsBeforeOctets, effect_before, octets_effect, owner_after}
-use Rattle.giop_stream.proofs.SlotSteps.Parts.{in_parts, some_come, come_is, taken_here, named_at, third_owner, at_last, takes_run}
+use Rattle.giop_stream.proofs.SlotSteps.Parts.{in_parts, some_come, come_is, taken_here, after_second, third_owner, at_last, takes_run}
 use Rattle.giop_stream.proofs.SlotSteps.Performing.{performs_on, first_failed, call_failed, then_failed, done_then, counts_as}
 use Rattle.giop_stream.proofs.SlotSteps.AtHeader.{ready_later}
 use Rattle.giop_stream.proofs.CodeSteps.OwnerRuns.{if_err}
@@ -142,7 +142,7 @@ returns-in_err-ended-clause-does g c = λ a c' m keeps rising agrees.
           let taken = taken_here C a most ran.tracked m' now x h.last c.take.new.self
           (rw h.same_owner took.kept) in
           let named = rw c.in_ok-count.ensures.most at (c.in_ok-named.ensures.does C a _ _ taken) in
-          let at = named_at C a most ran.tracked m' now x h.last c.at_fourth_octet.new.slots
+          let at = after_second C a most ran.tracked m' now x h.last c.at_fourth_octet.new.slots
           named.kept in
           let failed = c.from_residual-in_err-ended.ensures.0 in
           let here = come_is C a most ran.tracked m' now x h.last in
@@ -197,7 +197,7 @@ returns-clause-does g c = λ a c' m keeps rising agrees.
           let taken = taken_here C a most ran.tracked m' now x h.last c.take.new.self
           (rw h.same_owner took.kept) in
           let named = rw c.in_ok-count.ensures.most at (c.in_ok-named.ensures.does C a _ _ taken) in
-          let at = named_at C a most ran.tracked m' now x h.last c.at_fourth_octet.new.slots
+          let at = after_second C a most ran.tracked m' now x h.last c.at_fourth_octet.new.slots
           named.kept in
           let ended = c.in_ok-ended.ensures.does a _ _ at
           (come_is C a most ran.tracked m' now x h.last) in
