@@ -461,8 +461,8 @@ two_open = record {
     payload_count = refl;
     slots = record {
       slots = (
-        record { number = refl; header = refl; id = refl; message = first_follows },
-        (record { number = refl; header = refl; id = refl; message = second_follows }, tt),
+        record { number = refl; header = refl; key = refl; message = first_follows },
+        (record { number = refl; header = refl; key = refl; message = second_follows }, tt),
       );
       owner = refl;
     };
