@@ -15,7 +15,7 @@ is_old_opener header = (minor header == 1) && has_more header && nat_lt (kind he
 unfoldable pub is_old_fragment : List ℕ → Bool
 is_old_fragment header = (minor header == 1) && (kind header == 7)
 
--- the message is one of these
+-- the message is of 1.1, and Fragments continue it, or it is a Fragment
 unfoldable pub is_old : List ℕ → Bool
 is_old header = is_old_opener header || is_old_fragment header
 
