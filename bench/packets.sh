@@ -1,8 +1,8 @@
 #!/bin/sh
 # Octets a second and memory of the reading of captures of small packets, pcap and pcapng, beside tcpdump:
-# bench/packets.sh [OCTETS [COUNTER]]. The first program is packet_counts, which reads a capture and finds the TCP segment
+# bench/packets.sh [OCTETS [COUNTER]]. The first program is packet_bench, which reads a capture and finds the TCP segment
 # of each packet; the other is `tcpdump -r FILE -w /dev/null`, which reads and copies it.
-# It proves and builds packet_counts first, unless a program is named, and needs python3, tcpdump and GNU time. The two
+# It proves and builds packet_bench first, unless a program is named, and needs python3, tcpdump and GNU time. The two
 # programs run by turns, five times each, and each figure is the best of these runs: by the clock, and by the processor
 # time that the program took, which says more on a machine that does other work too. The memory is that of a run which has
 # read a whole capture from a pipe and waits for more: what it has taken, and what it maps of files, which is the program
@@ -11,7 +11,7 @@ set -eu
 
 octets=${1:-1000000000}
 top=$(cd "$(dirname "$0")/.." && pwd)
-counter=${2:-$top/crates/packet_counts/out/packet_counts}
+counter=${2:-$top/crates/packet_bench/out/packet_bench}
 work=$(mktemp -d)
 trap 'rm -rf "$work"' EXIT
 export PYTHONDONTWRITEBYTECODE=1
@@ -19,7 +19,7 @@ export PYTHONDONTWRITEBYTECODE=1
 for tool in python3 tcpdump /usr/bin/time; do
     command -v "$tool" >/dev/null || { echo "$tool is missing: apt-get install python3 tcpdump time" >&2; exit 1; }
 done
-[ $# -gt 1 ] || (cd "$top/crates/packet_counts" && rt run <stdin >"$work/build" 2>&1) || { cat "$work/build" >&2; exit 1; }
+[ $# -gt 1 ] || (cd "$top/crates/packet_bench" && rt run <stdin >"$work/build" 2>&1) || { cat "$work/build" >&2; exit 1; }
 
 # Runs a program over the capture, and notes its figures.
 run() {
@@ -64,12 +64,12 @@ for format in pcap pcapng; do
     size=$(wc -c <"$work/capture")
     for _ in 1 2 3 4 5; do
         run tcpdump tcpdump -r "$work/capture" -w /dev/null
-        run packet_counts "$counter"
+        run packet_bench "$counter"
     done
     hold tcpdump tcpdump -r - -w /dev/null
-    hold packet_counts "$counter"
+    hold packet_bench "$counter"
     printf '%s, %s octets: %s\n' "$format" "$size" "$(cat "$work/said")"
     printf '%-14s %12s %12s %10s %10s\n' program 'by clock' 'by processor' 'taken KiB' 'mapped KiB'
-    figures packet_counts
+    figures packet_bench
     figures tcpdump
 done

@@ -11,7 +11,7 @@ from typing import List
 from failing import CHECKPOINT, Case, Differences, Ended, cases, checkpoint_of, run
 from rows import row
 
-# Rows of giop_rows: one of a union in its own types, one of a reply by a request list, and two Requests in fragments.
+# Rows of giop_stream_rows: one of a union in its own types, one of a reply by a request list, and two Requests in fragments.
 ROWS = (
     "a union, a struct with an array, and a bounded sequence",
     "results of the operation that the list has",

@@ -1,4 +1,4 @@
-"""Rows of giop_rows as inputs of the program, and the two real connections among them."""
+"""Rows of giop_stream_rows as inputs of the program, and the two real connections among them."""
 
 from __future__ import annotations
 
@@ -10,8 +10,8 @@ TOP = Path(__file__).resolve().parent.parent
 
 
 def row(name: str) -> Tuple[str, str, bytes]:
-    """The signature file, the request list and the octets of a row of giop_rows."""
-    for rows in (TOP / "crates/giop_rows/stdin").read_text().split("\n=\n"):
+    """The signature file, the request list and the octets of a row of giop_stream_rows."""
+    for rows in (TOP / "crates/giop_stream_rows/stdin").read_text().split("\n=\n"):
         files, *others = rows.split("\n\n")
         for other in others:
             if other.startswith(f"{name}\n"):

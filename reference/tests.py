@@ -1,4 +1,4 @@
-"""Tests of the reference: python3 -m reference.tests. Its lines are those of the rows of crates/giop_rows, whose signature
+"""Tests of the reference: python3 -m reference.tests. Its lines are those of the rows of crates/giop_stream_rows, whose signature
 files have each form of a type; also where their streams end early. And those of the captures in checks/data, each with the
 octet of the capture with which it is due."""
 
@@ -14,12 +14,12 @@ from .signatures import requests_of, table_of
 from .stream import Known, dump
 
 TOP = Path(__file__).resolve().parent.parent
-ROWS = TOP / "crates/giop_rows/stdin"
+ROWS = TOP / "crates/giop_stream_rows/stdin"
 CAPTURES = [TOP / "checks/data" / f"captures-{name}" for name in ("worked.json", "generated.json.xz", "real.json.xz")]
 
 
 class Row(NamedTuple):
-    """A stream with its lines, what is known of it, and how it ends after 0, 1, 2, .. octets, in words of crates/giop_rows."""
+    """A stream with its lines, what is known of it, and how it ends after 0, 1, 2, .. octets, in words of crates/giop_stream_rows."""
 
     name: str
     known: Known
@@ -68,7 +68,7 @@ def endings(row: Row) -> Iterator[List[str]]:
 
 
 class Rows(unittest.TestCase):
-    """The rows of crates/giop_rows."""
+    """The rows of crates/giop_stream_rows."""
 
     def test_lines(self) -> None:
         count = 0

@@ -7,5 +7,5 @@ use Rattle.capture_file.specs.Fits.{Fits}
 
 pub fits_more : (few many : ℕ) (o : Outcome) → Fits few o → few ≤ many → Fits many o
 fits_more few many (Continues part) fits less = (fits.0, omega arith)
-fits_more few many (EndsPacket head part) fits less = (fits.0, omega arith)
+fits_more few many (EndsPacket info part) fits less = (fits.0, omega arith)
 fits_more few many (Fails kind) fits less = tt

@@ -8,7 +8,7 @@ use Rattle.capture_file.specs.declared.part.ByteOrder.{ByteOrder}
 use Rattle.capture_file.specs.declared.part.ByteOrder.TheVariants.{Big, Little}
 use Rattle.capture_file.specs.declared.part.Magic.{Magic}
 use Rattle.capture_file.specs.declared.part.FileHeader.{FileHeader}
-use Rattle.capture_file.specs.declared.part.Head.{Head}
+use Rattle.capture_file.specs.declared.part.PacketInfo.{PacketInfo}
 use Rattle.capture_file.specs.declared.part.Part.{Part}
 use Rattle.capture_file.specs.declared.part.Part.TheVariants as parts
 use Rattle.capture_file.specs.declared.part.Outcome.TheVariants.{Continues}
@@ -147,8 +147,8 @@ reads_file_header f h =
 
 -- ---- A record.
 
-abbrev head_of : PcapFile → PcapRecord → Head
-head_of f r = record {
+abbrev info_of : PcapFile → PcapRecord → PacketInfo
+info_of f r = record {
   link = f.link % 2 ^ 16;
   time = Some (r.seconds * 1000000000 + r.fraction * nanoseconds_in f.fractions);
 }
@@ -157,7 +157,7 @@ header_is : (f : PcapFile) (r : PcapRecord) (octets : List ℕ) → IsPcapRecord
     octets ≡ number_octets f.order r.seconds ++ number_octets f.order r.fraction
     ++ number_octets f.order (length r.octets)
     → record_header (header_of f) octets
-    ≡ Continues (parts.Record (header_of f) (head_of f r) (length r.octets))
+    ≡ Continues (parts.Record (header_of f) (info_of f r) (length r.octets))
 unfolding record_header record_time
 header_is f r octets h e =
     let a : List ℕ = number_octets f.order r.seconds in
@@ -218,7 +218,7 @@ reads_one f p r at h ending =
     (drop_all 16 (a ++ b ++ c ++ o) (omega (arith, sixteen))) in
     let place : length (p ++ q) ≡ length p + (16 + length r.octets) =
     omega (arith, length-append p q, all) in
-    reads_record p q (header_of f) [] at (head_of f r) (length r.octets) ending all
+    reads_record p q (header_of f) [] at (info_of f r) (length r.octets) ending all
     (header_is f r (take 12 q) h front)
     ∙ rw (place, back) refl
 

@@ -15,7 +15,7 @@ use Rattle.capture_file.specs.Blocks.{block_of, block_end, interface_header, opt
 use Rattle.capture_file.specs.PcapFiles.{number_octets}
 use Rattle.capture_file.specs.PcapngFiles.{half_octets, BlockOption, value_octets, ended_options, options_octets, InterfaceBlock, length_of, block_octets, is_unit_in_range, is_unit, IsOption, ticks_by, interface_of, IsBlock}
 use Rattle.capture_file.proofs.PcapFileReading.{long, spells, last_four}
-use Rattle.capture_file.proofs.PcapngParts.{due, on, half_long, spells_half, front_of, end_is, heads, in_block}
+use Rattle.capture_file.proofs.PcapngParts.{due, on, half_long, spells_half, front_of, end_is, infos, in_block}
 
 -- ---- An interface.
 
@@ -292,7 +292,7 @@ reads_interface o link snapshot options p given interfaces at h r =
       long o snapshot,
     ) in
     let size_is : size ≡ 20 + length O = omega (arith, length-append B O, eight) in
-    let one = heads o 1 size p given (parts.InterfaceHeader (in_block o size (length O))) interfaces
+    let one = infos o 1 size p given (parts.InterfaceHeader (in_block o size (length O))) interfaces
     at (omega arith) h.4 refl (omega (arith, size_is))
     (described o size (length O) (length interfaces) h.0 (omega (arith, size_is))) r in
     let two = on (p ++ A) B given (parts.InterfaceHeader (in_block o size (length O)))

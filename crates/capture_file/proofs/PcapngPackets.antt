@@ -8,7 +8,7 @@ use Rattle.capture_file.specs.declared.part.Block.{Block}
 use Rattle.capture_file.specs.declared.part.Body.{Body}
 use Rattle.capture_file.specs.declared.part.Interface.{Interface}
 use Rattle.capture_file.specs.declared.part.Part.TheVariants as parts
-use Rattle.capture_file.specs.declared.part.Head.{Head}
+use Rattle.capture_file.specs.declared.part.PacketInfo.{PacketInfo}
 use Rattle.capture_file.specs.declared.part.Outcome.TheVariants.{Continues, EndsPacket}
 use Rattle.capture_file.specs.Parts.{size}
 use Rattle.capture_file.specs.Reading.{PacketRecord, reading}
@@ -17,17 +17,17 @@ use Rattle.capture_file.specs.Blocks.{section_type, least_length, block_of, bloc
 use Rattle.capture_file.specs.PcapFiles.{number_octets}
 use Rattle.capture_file.specs.PcapngFiles.{EnhancedBlock, SimpleBlock, OtherBlock, length_of, block_octets, IsBlock}
 use Rattle.capture_file.proofs.PcapFileReading.{long, spells, first_four, second_four, last_four}
-use Rattle.capture_file.proofs.PcapngParts.{due, on, on_packet, alone, end_is, heads, in_block}
+use Rattle.capture_file.proofs.PcapngParts.{due, on, on_packet, alone, end_is, infos, in_block}
 
 -- ---- A packet.
 
-abbrev packet_head : Interface → ℕ → ℕ → Head
-packet_head i high low =
+abbrev packet_info : Interface → ℕ → ℕ → PacketInfo
+packet_info i high low =
     record { link = i.link; time = time_of (high * 2 ^ 32 + low) i.ticks }
 
 abbrev packet_body : Interface → ℕ → ℕ → ℕ → Body
 packet_body i high low captured =
-    record { head = packet_head i high low; packet_offset = 4; captured = captured }
+    record { info = packet_info i high low; packet_offset = 4; captured = captured }
 
 packet_is : (o : ByteOrder) (i : Interface) (size high low captured rest : ℕ) → high < 2 ^ 32 →
     low < 2 ^ 32 → captured ≤ 262144 →
@@ -80,7 +80,7 @@ pub reads_packet : (o : ByteOrder) (interface high low original : ℕ) (octets b
     ≡ due (given ++ record {
       place = length (p
           ++ block_octets o (EnhancedBlock interface high low original octets behind));
-      head = packet_head i high low;
+      info = packet_info i high low;
       octets = octets;
     } ∷ []) (parts.BlockHeader o) interfaces
     (length (p ++ block_octets o (EnhancedBlock interface high low original octets behind)))
@@ -118,7 +118,7 @@ reads_packet o interface high low original octets behind i p given interfaces at
     let last : Block = record { order = o; length = size; left = length behind } in
     let body = packet_body i high low (length octets) in
     let left : size - 32 ≡ length octets + length behind = omega (arith, size_is) in
-    let one = heads o 6 size p given (parts.EnhancedInterface block) interfaces at (omega arith)
+    let one = infos o 6 size p given (parts.EnhancedInterface block) interfaces at (omega arith)
     h.5 refl (omega (arith, size_is))
     (space o size (length octets + length behind) (length interfaces) left) r in
     let two = on (p ++ A) B given (parts.EnhancedInterface block) (parts.EnhancedHeader block i)
@@ -130,12 +130,12 @@ reads_packet o interface high low original octets behind i p given interfaces at
     (ap (enhanced_header block i) (take_all 12 C (omega (arith, twelve)))
     ∙ packet_is o i size high low (length octets) (length behind) h.2 h.3 h.4) in
     let four = on_packet (((p ++ A) ++ B) ++ C) (D ++ E) given (parts.Packet last body)
-    (parts.BlockHeader o) (packet_head i high low) interfaces (length (((p ++ A) ++ B) ++ C)) three
+    (parts.BlockHeader o) (packet_info i high low) interfaces (length (((p ++ A) ++ B) ++ C)) three
     (omega (arith, length-append D E, there, long o size))
     (ap (λ (xs : List ℕ). block_end last xs
-    (EndsPacket (packet_head i high low) (parts.BlockHeader o)))
+    (EndsPacket (packet_info i high low) (parts.BlockHeader o)))
     (last_four (4 + length octets + length behind) D E there (long o size))
-    ∙ end_is o size (length behind) (EndsPacket (packet_head i high low) (parts.BlockHeader o))
+    ∙ end_is o size (length behind) (EndsPacket (packet_info i high low) (parts.BlockHeader o))
     h.5.few) in
     let first : take (4 + length octets) (D ++ E) ≡ number_octets o original ++ octets =
     take-append-le (4 + length octets) D E (omega (arith, there))
@@ -149,7 +149,7 @@ reads_packet o interface high low original octets behind i p given interfaces at
     (drop_all 4 (number_octets o original) (omega (arith, long o original))) in
     subst (λ (ys : List ℕ). reading ys ≡ due (given ++ record {
       place = length ys;
-      head = packet_head i high low;
+      info = packet_info i high low;
       octets = octets;
     } ∷ []) (parts.BlockHeader o) interfaces (length ys)) (shift_twice p A B C D E)
     (rw inner at four)
@@ -162,7 +162,7 @@ shift_simple p a b d e = search (arith, append_assoc)
 
 abbrev simple_body : Interface → ℕ → Body
 simple_body i captured = record {
-  head = record { link = i.link; time = None };
+  info = record { link = i.link; time = None };
   packet_offset = 0;
   captured = captured;
 }
@@ -193,7 +193,7 @@ pub reads_simple : (o : ByteOrder) (original : ℕ) (octets behind : List ℕ) (
     reading (p ++ block_octets o (SimpleBlock original octets behind))
     ≡ due (given ++ record {
       place = length (p ++ block_octets o (SimpleBlock original octets behind));
-      head = record { link = i.link; time = None };
+      info = record { link = i.link; time = None };
       octets = octets;
     } ∷ []) (parts.BlockHeader o) interfaces
     (length (p ++ block_octets o (SimpleBlock original octets behind)))
@@ -203,12 +203,12 @@ reads_simple o original octets behind i p given interfaces at h here captured r 
     let B : List ℕ = number_octets o original in
     let D : List ℕ = octets ++ behind in
     let E : List ℕ = number_octets o size in
-    let head : Head = record { link = i.link; time = None } in
+    let info : PacketInfo = record { link = i.link; time = None } in
     let size_is : size ≡ 16 + (length octets + length behind) =
     omega (arith, length-append B D, length-append octets behind, long o original) in
     let there : length D ≡ 0 + length octets + length behind =
     omega (arith, length-append octets behind) in
-    let one = heads o 3 size p given
+    let one = infos o 3 size p given
     (parts.SimpleHeader (in_block o size (length octets + length behind))) interfaces at
     (omega arith) h.4 refl (omega (arith, size_is))
     (simple_space o size (length octets + length behind) (length interfaces)
@@ -223,18 +223,18 @@ reads_simple o original octets behind i p given interfaces at h here captured r 
     in
     let three = on_packet ((p ++ A) ++ B) (D ++ E) given
     (parts.Packet (in_block o size (length behind)) (simple_body i (length octets)))
-    (parts.BlockHeader o) head interfaces (length ((p ++ A) ++ B)) two
+    (parts.BlockHeader o) info interfaces (length ((p ++ A) ++ B)) two
     (omega (arith, length-append D E, there, long o size))
     (ap (λ (xs : List ℕ). block_end (in_block o size (length behind)) xs
-    (EndsPacket head (parts.BlockHeader o)))
+    (EndsPacket info (parts.BlockHeader o)))
     (last_four (0 + length octets + length behind) D E there (long o size))
-    ∙ end_is o size (length behind) (EndsPacket head (parts.BlockHeader o)) h.4.few) in
+    ∙ end_is o size (length behind) (EndsPacket info (parts.BlockHeader o)) h.4.few) in
     let inner : drop 0 (take (0 + length octets) (D ++ E)) ≡ octets =
     take-append-le (0 + length octets) D E (omega (arith, there))
     ∙ take-append-le (0 + length octets) octets behind (omega arith)
     ∙ take_all (0 + length octets) octets (omega arith) in
     subst (λ (ys : List ℕ). reading ys
-    ≡ due (given ++ record { place = length ys; head = head; octets = octets } ∷ [])
+    ≡ due (given ++ record { place = length ys; info = info; octets = octets } ∷ [])
     (parts.BlockHeader o) interfaces (length ys)) (shift_simple p A B D E)
     (rw inner at three)
 
@@ -263,7 +263,7 @@ reads_other o kind body p given interfaces at h r =
     let E : List ℕ = number_octets o size in
     let block : Block = record { order = o; length = size; left = length body } in
     let is = another o kind size (length body) (length interfaces) h.0 h.1 h.2 (omega arith) in
-    let one = heads o kind size p given (parts.BlockEnd block) interfaces at h.4 h.5
+    let one = infos o kind size p given (parts.BlockEnd block) interfaces at h.4 h.5
     (ne_eqb kind section_type h.3) (least o kind size (length interfaces) h.0 h.1 h.2
     (omega arith)) is r in
     let two = on (p ++ A) (body ++ E) given (parts.BlockEnd block) (parts.BlockHeader o) interfaces

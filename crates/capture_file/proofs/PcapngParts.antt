@@ -9,7 +9,7 @@ use Rattle.capture_file.specs.declared.part.Block.{Block}
 use Rattle.capture_file.specs.declared.part.Interface.{Interface}
 use Rattle.capture_file.specs.declared.part.Part.{Part}
 use Rattle.capture_file.specs.declared.part.Part.TheVariants as parts
-use Rattle.capture_file.specs.declared.part.Head.{Head}
+use Rattle.capture_file.specs.declared.part.PacketInfo.{PacketInfo}
 use Rattle.capture_file.specs.declared.part.Outcome.{Outcome}
 use Rattle.capture_file.specs.declared.part.Outcome.TheVariants.{Continues, EndsPacket}
 use Rattle.capture_file.specs.Parts.{size}
@@ -40,13 +40,13 @@ on p q given part more interfaces at r all is =
     (ap (λ (x : Reading). x.ending) r) all
     ∙ rw (is, r, append-nil given) refl
 
-pub on_packet : (p q : List ℕ) (given : List PacketRecord) (part more : Part) (head : Head)
+pub on_packet : (p q : List ℕ) (given : List PacketRecord) (part more : Part) (info : PacketInfo)
     (interfaces : List Interface) (at : ℕ) → reading p ≡ due given part interfaces at →
-    length q ≡ size part → next part interfaces (end_of part q) ≡ EndsPacket head more →
+    length q ≡ size part → next part interfaces (end_of part q) ≡ EndsPacket info more →
     reading (p ++ q) ≡ due (given
-    ++ record { place = length (p ++ q); head = head; octets = packet_in part q } ∷ []) more
+    ++ record { place = length (p ++ q); info = info; octets = packet_in part q } ∷ []) more
     (interfaces_behind part interfaces) (length (p ++ q))
-on_packet p q given part more head interfaces at r all is =
+on_packet p q given part more info interfaces at r all is =
     completes p q (record { part = part; interfaces = interfaces }) at []
     (ap (λ (x : Reading). x.ending) r) all
     ∙ rw (is, r) refl
@@ -95,14 +95,14 @@ unfolding block_end
 end_is o size left outcome small = search (arith, alone, eq-eqb)
 
 -- the header of a block
-pub heads : (o : ByteOrder) (kind size : ℕ) (p : List ℕ) (given : List PacketRecord) (more : Part)
+pub infos : (o : ByteOrder) (kind size : ℕ) (p : List ℕ) (given : List PacketRecord) (more : Part)
     (interfaces : List Interface) (at : ℕ) → kind < 2 ^ 32 → HasLength size →
     (kind == section_type) ≡ false → least_length kind ≤ size →
     block_of o kind size (length interfaces) ≡ Continues more →
     reading p ≡ due given (parts.BlockHeader o) interfaces at →
     reading (p ++ (number_octets o kind ++ number_octets o size))
     ≡ due given more interfaces (length (p ++ (number_octets o kind ++ number_octets o size)))
-heads o kind size p given more interfaces at small h other least is r =
+infos o kind size p given more interfaces at small h other least is r =
     let q : List ℕ = number_octets o kind ++ number_octets o size in
     let all : length q ≡ 8 =
     omega (

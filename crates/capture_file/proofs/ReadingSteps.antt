@@ -15,7 +15,7 @@ use Rattle.capture_file.specs.Laws.{PacketsBegin, FaultStays}
 
 pub size_some : (part : Part) → 1 ≤ size part
 size_some (parts.Packet block body) = omega arith
-size_some (parts.Record file head captured) = omega arith
+size_some (parts.Record file info captured) = omega arith
 size_some _ = omega arith
 
 -- if there are fewer octets than the part has, the reading ends within the part
@@ -38,7 +38,7 @@ behind_same : (state : ParserState) (packet : List ℕ) (place : ℕ) (o : Outco
     (k l : ParserState → Reading) → ((d : ParserState) → k d ≡ l d) →
     behind state packet place o k ≡ behind state packet place o l
 behind_same state packet place (Continues part) k l same = same _
-behind_same state packet place (EndsPacket head part) k l same = rw (same _)
+behind_same state packet place (EndsPacket info part) k l same = rw (same _)
 behind_same state packet place (Fails kind) k l same = refl
 
 -- any two bounds that are great enough give the same reading
@@ -79,7 +79,7 @@ behind_onward : (state : ParserState) (packet : List ℕ) (place : ℕ) (o : Out
     behind state packet place o l
     ≡ onward (behind state packet place o k).packets (behind state packet place o k).ending q
 behind_onward state packet place (Continues part) k l q each = each _
-behind_onward state packet place (EndsPacket head part) k l q each = search (arith, onward_more)
+behind_onward state packet place (EndsPacket info part) k l q each = search (arith, onward_more)
 behind_onward state packet place (Fails kind) k l q each = refl
 
 packet_same : (part : Part) (p q : List ℕ) → size part ≤ length p →
@@ -170,7 +170,7 @@ behind_ends : (state : ParserState) (packet : List ℕ) (at : ℕ) (o : Outcome)
     ((d : ParserState) → EndsAt place (k d).ending) →
     EndsAt place (behind state packet at o k).ending
 behind_ends state packet at (Continues part) k place within each = each _
-behind_ends state packet at (EndsPacket head part) k place within each = each _
+behind_ends state packet at (EndsPacket info part) k place within each = each _
 behind_ends state packet at (Fails kind) k place within each = within
 
 ends_from : (n : ℕ) (state : ParserState) (at : ℕ) (p : List ℕ) → length p ≤ n →

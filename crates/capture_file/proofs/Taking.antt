@@ -104,7 +104,7 @@ pub takes_outcome : (p q octets : List ℕ) (mid new : Capture) (answer : Progre
     Completes o mid new answer start held → Takes answer p q new octets
 takes_outcome p q octets mid new answer start held state packet (Continues part) is a b running
     count place slice c = search (arith, append-nil, holds_none)
-takes_outcome p q octets mid new answer start held state packet (EndsPacket head part) is a b
+takes_outcome p q octets mid new answer start held state packet (EndsPacket info part) is a b
     running count place slice c = search (arith, length-append, holds_none)
 takes_outcome p q octets mid new answer start held state packet (Fails kind) is a b running count
     place slice c = search (arith, append-nil)

@@ -179,7 +179,7 @@ units_at order octets = four_at order 0 octets * 2 ^ 32 + four_at order 4 octets
 unfoldable pub enhanced_header : Block → Interface → List ℕ → Outcome
 enhanced_header block interface octets =
     packet_of block (record {
-      head = record {
+      info = record {
         link = interface.link;
         time = time_of (units_at block.order octets) interface.ticks;
       };
@@ -196,7 +196,7 @@ abbrev pub of_first_interface : Block → ℕ → Option Interface → Outcome
 of_first_interface block original None = Fails faults.Interface
 of_first_interface block original (Some interface) =
     packet_of block (record {
-      head = record { link = interface.link; time = None };
+      info = record { link = interface.link; time = None };
       packet_offset = 0;
       captured = cut original interface.snapshot;
     })

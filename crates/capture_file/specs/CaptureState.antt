@@ -2,7 +2,7 @@
 -- (state).
 use Rattle.std.specs.Prelude.{◌≡◌, ℕ, ◌+◌, ◌≤◌, Bool, true, false, List, [], ◌∷◌, ◌++◌, length, slice_range, vec_capacity, Some, None, if◌then◌else◌}
 use Rattle.capture_file.specs.declared.capture.Capture.{Capture}
-use Rattle.capture_file.specs.declared.part.Head.{Head}
+use Rattle.capture_file.specs.declared.part.PacketInfo.{PacketInfo}
 use Rattle.capture_file.specs.declared.progress.Progress.{Progress}
 use Rattle.capture_file.specs.declared.progress.Progress.TheVariants as progress
 use Rattle.capture_file.specs.Parts.{front, passed, back}
@@ -47,8 +47,8 @@ abbrev pub IsIn : Capture → List ℕ → Type 0
 IsIn c octets = InRange c.packet_range.held c.packet_range.end c.packet_octets.items octets
 
 -- what is known of the packet, and its octets
-abbrev pub head_in : Capture → Head
-head_in c = c.packet_range.head
+abbrev pub info_in : Capture → PacketInfo
+info_in c = c.packet_range.info
 
 abbrev pub octets_around : Capture → List ℕ → List ℕ
 octets_around c octets = if c.packet_range.held then c.packet_octets.items else octets
@@ -67,7 +67,7 @@ Answers progress.Packet p taken c octets =
     (packets (p ++ taken)
     ≡ packets p ++ record {
       place = length (p ++ taken);
-      head = head_in c;
+      info = info_in c;
       octets = octets_in c octets;
     } ∷ [])
     × (fault (p ++ taken) ≡ None)

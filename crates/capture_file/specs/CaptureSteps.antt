@@ -3,7 +3,7 @@ use Rattle.std.specs.Prelude.{◌≡◌, ℕ, suc, ◌+◌, ◌≤◌, min, Bool
 use Rattle.capture_file.specs.declared.capture.Capture.{Capture}
 use Rattle.capture_file.specs.declared.capture.PacketRange.{PacketRange}
 use Rattle.capture_file.specs.declared.part.FileHeader.{FileHeader}
-use Rattle.capture_file.specs.declared.part.Head.{Head}
+use Rattle.capture_file.specs.declared.part.PacketInfo.{PacketInfo}
 use Rattle.capture_file.specs.declared.part.Part.{Part}
 use Rattle.capture_file.specs.declared.part.Part.TheVariants as parts
 use Rattle.capture_file.specs.declared.part.Outcome.{Outcome}
@@ -64,10 +64,10 @@ pub record PartBegins (old new : Capture) (state : Part) : Type 0 where
 abbrev pub Completes : Outcome → Capture → Capture → Progress → ℕ → Bool → Type 0
 Completes (Continues part) old new answer start held =
     (answer ≡ progress.More) × PartBegins old new part × (new.packets ≡ old.packets)
-Completes (EndsPacket head part) old new answer start held =
+Completes (EndsPacket info part) old new answer start held =
     (answer ≡ progress.Packet) × PartBegins old new part × (new.packets ≡ suc old.packets)
     × (new.packet_range ≡ record {
-      head = head;
+      info = info;
       start = start + packet_offset old.part;
       end = start + front old.part;
       held = held;
@@ -78,15 +78,15 @@ Completes (Fails kind) old new answer start held =
     × (new.packets ≡ old.packets) × (new.octets ≡ old.octets)
 
 -- a record may begin, and these octets begin with the whole record
-pub record IsRecordDue (c : Capture) (given : List ℕ) (head : Head) (captured : ℕ) :
+pub record IsRecordDue (c : Capture) (given : List ℕ) (info : PacketInfo) (captured : ℕ) :
     Type 0 where
   pub file : FileHeader
   pub part : c.part ≡ parts.RecordHeader file
   pub fresh : c.taken ≡ 0
-  pub whole : IsWholeRecord file given head captured
+  pub whole : IsWholeRecord file given info captured
 
 -- a whole record was taken, which begins at this index of the octets that the caller gave
-pub record TakesRecord (old new : Capture) (head : Head) (start captured : ℕ) : Type 0 where
+pub record TakesRecord (old new : Capture) (info : PacketInfo) (start captured : ℕ) : Type 0 where
   pub part : new.part ≡ old.part
   pub interfaces : new.interfaces.items ≡ old.interfaces.items
   pub taken : new.taken ≡ old.taken
@@ -94,7 +94,7 @@ pub record TakesRecord (old new : Capture) (head : Head) (start captured : ℕ) 
   pub octets : new.octets ≡ old.octets + (16 + captured)
   pub packets : new.packets ≡ suc old.packets
   pub packet_range : new.packet_range ≡ record {
-    head = head;
+    info = info;
     start = start + 16;
     end = start + (16 + captured);
     held = false;

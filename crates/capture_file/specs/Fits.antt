@@ -25,5 +25,5 @@ HasRoom more part = (front part ≤ room) × (adds part ≤ more)
 
 abbrev pub Fits : ℕ → Outcome → Type 0
 Fits more (Continues part) = HasRoom more part
-Fits more (EndsPacket head part) = HasRoom more part
+Fits more (EndsPacket info part) = HasRoom more part
 Fits more (Fails kind) = Unit {0}

@@ -14,7 +14,7 @@ next parts.Beginning interfaces octets = beginning octets
 next (parts.FileVersion magic) interfaces octets = file_version magic octets
 next (parts.FileRest magic) interfaces octets = file_rest magic octets
 next (parts.RecordHeader file) interfaces octets = record_header file octets
-next (parts.Record file head captured) interfaces octets = record_end file head
+next (parts.Record file info captured) interfaces octets = record_end file info
 next parts.SectionLength interfaces octets = section_length octets
 next (parts.ByteOrderMagic length) interfaces octets = byte_order_magic length octets
 next (parts.SectionVersion block) interfaces octets = section_version block octets
@@ -30,7 +30,7 @@ next (parts.EnhancedHeader block interface) interfaces octets =
     enhanced_header block interface octets
 next (parts.SimpleHeader block) interfaces octets = simple_header block interfaces octets
 next (parts.Packet block body) interfaces octets =
-    block_end block octets (EndsPacket body.head (parts.BlockHeader block.order))
+    block_end block octets (EndsPacket body.info (parts.BlockHeader block.order))
 next (parts.BlockEnd block) interfaces octets =
     block_end block octets (Continues (parts.BlockHeader block.order))
 

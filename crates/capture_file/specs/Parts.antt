@@ -8,7 +8,7 @@ use Rattle.capture_file.specs.declared.part.Part.TheVariants as parts
 -- how many octets of a part belong to a packet, with the original length if that stands directly
 -- before the packet's own
 abbrev pub front : Part → ℕ
-front (parts.Record file head captured) = 4 + captured
+front (parts.Record file info captured) = 4 + captured
 front (parts.Packet block body) = body.packet_offset + body.captured
 front _ = 0
 
@@ -22,7 +22,7 @@ passed _ = 0
 
 -- how many octets at a part's end are looked at
 abbrev pub back : Part → ℕ
-back (parts.Record file head captured) = 0
+back (parts.Record file info captured) = 0
 back (parts.TimeUnit block interface) = 1
 back (parts.BlockHeader order) = 8
 back (parts.InterfaceHeader block) = 8
@@ -33,7 +33,7 @@ back _ = 4
 
 -- how many octets stand before a packet's own
 abbrev pub packet_offset : Part → ℕ
-packet_offset (parts.Record file head captured) = 4
+packet_offset (parts.Record file info captured) = 4
 packet_offset (parts.Packet block body) = body.packet_offset
 packet_offset _ = 0
 

@@ -82,7 +82,7 @@ pub record IsPcapRecord (r : PcapRecord) : Type 0 where
 abbrev pub packet_of : PcapFile → ℕ → PcapRecord → PacketRecord
 packet_of f place r = record {
   place = place;
-  head = record {
+  info = record {
     link = f.link % 2 ^ 16;
     time = Some (r.seconds * 1000000000 + r.fraction * nanoseconds_in f.fractions);
   };

@@ -178,7 +178,7 @@ abbrev pub enhanced_packet : ℕ → ℕ → List ℕ → Option Interface → L
 enhanced_packet place units octets None = []
 enhanced_packet place units octets (Some interface) = record {
   place = place;
-  head = record { link = interface.link; time = time_of units interface.ticks };
+  info = record { link = interface.link; time = time_of units interface.ticks };
   octets = octets;
 } ∷ []
 
@@ -187,10 +187,11 @@ abbrev pub simple_packet : ℕ → List ℕ → Option Interface → List Packet
 simple_packet place octets None = []
 simple_packet place octets (Some interface) = record {
   place = place;
-  head = record { link = interface.link; time = None };
+  info = record { link = interface.link; time = None };
   octets = octets;
 } ∷ []
 
+-- the packet of a block that ends at this place, if it has one, by the interfaces before it
 abbrev pub packet_of_block : List Interface → ℕ → PcapngBlock → List PacketRecord
 packet_of_block interfaces place (InterfaceBlock link snapshot options) = []
 packet_of_block interfaces place (EnhancedBlock interface high low original octets behind) =

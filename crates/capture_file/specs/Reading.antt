@@ -4,7 +4,7 @@ use Rattle.std.specs.Prelude.{ℕ, zero, suc, ◌+◌, nat_lt, List, [], ◌∷�
 use Rattle.capture_file.specs.declared.fault.FaultKind.TheVariants.{Truncated}
 use Rattle.capture_file.specs.declared.fault.CaptureFault.{CaptureFault}
 use Rattle.capture_file.specs.declared.part.Interface.{Interface}
-use Rattle.capture_file.specs.declared.part.Head.{Head}
+use Rattle.capture_file.specs.declared.part.PacketInfo.{PacketInfo}
 use Rattle.capture_file.specs.declared.part.Part.{Part}
 use Rattle.capture_file.specs.declared.part.Part.TheVariants as parts
 use Rattle.capture_file.specs.declared.part.Outcome.{Outcome}
@@ -16,7 +16,7 @@ use Rattle.capture_file.specs.Format.{next, interfaces_behind}
 -- capture has up to the end of the packet's record or block
 pub record PacketRecord : Type 0 where
   pub place : ℕ
-  pub head : Head
+  pub info : PacketInfo
   pub octets : List ℕ
 
 -- the part that comes next, and the interfaces of its section
@@ -48,10 +48,10 @@ packet_in part octets = drop (packet_offset part) (take (front part) octets)
 abbrev pub behind : ParserState → List ℕ → ℕ → Outcome → (ParserState → Reading) → Reading
 behind state packet place (Continues part) rest =
     rest (record { part = part; interfaces = interfaces_behind state.part state.interfaces })
-behind state packet place (EndsPacket head part) rest =
+behind state packet place (EndsPacket info part) rest =
     let r =
     rest (record { part = part; interfaces = interfaces_behind state.part state.interfaces }) in
-    record r { packets = record { place = place; head = head; octets = packet } ∷ r.packets }
+    record r { packets = record { place = place; info = info; octets = packet } ∷ r.packets }
 behind state packet place (Fails kind) rest =
     record { packets = []; ending = Faulted (record { kind = kind; place = place }) }
 

@@ -4,7 +4,7 @@ use Rattle.capture_file.specs.declared.fault.FaultKind.TheVariants as faults
 use Rattle.capture_file.specs.declared.part.ByteOrder.TheVariants.{Big, Little}
 use Rattle.capture_file.specs.declared.part.Magic.{Magic}
 use Rattle.capture_file.specs.declared.part.FileHeader.{FileHeader}
-use Rattle.capture_file.specs.declared.part.Head.{Head}
+use Rattle.capture_file.specs.declared.part.PacketInfo.{PacketInfo}
 use Rattle.capture_file.specs.declared.part.Part.TheVariants as parts
 use Rattle.capture_file.specs.declared.part.Outcome.{Outcome}
 use Rattle.capture_file.specs.declared.part.Outcome.TheVariants.{Continues, EndsPacket, Fails}
@@ -52,8 +52,8 @@ record_time magic octets =
     four_at magic.order 0 octets * 1000000000 + four_at magic.order 4 octets * magic.unit
 
 -- what is known of a record's packet before its octets come
-abbrev pub record_head : FileHeader → List ℕ → Head
-record_head file octets =
+abbrev pub record_info : FileHeader → List ℕ → PacketInfo
+record_info file octets =
     record { link = file.link; time = Some (record_time file.magic octets) }
 
 -- the seconds, the fraction, and the length that was captured
@@ -61,15 +61,15 @@ unfoldable pub record_header : FileHeader → List ℕ → Outcome
 record_header file octets =
     let captured = four_at file.magic.order 8 octets in
     if nat_lt most_captured captured then Fails faults.Length else
-    Continues (parts.Record file (record_head file octets) captured)
+    Continues (parts.Record file (record_info file octets) captured)
 
 -- the packet, and then the next record
-abbrev pub record_end : FileHeader → Head → Outcome
-record_end file head = EndsPacket head (parts.RecordHeader file)
+abbrev pub record_end : FileHeader → PacketInfo → Outcome
+record_end file info = EndsPacket info (parts.RecordHeader file)
 
 -- the octets begin with a whole record: its header, the original length, and a packet of this
 -- number of octets
-pub record IsWholeRecord (file : FileHeader) (octets : List ℕ) (head : Head) (captured : ℕ) :
+pub record IsWholeRecord (file : FileHeader) (octets : List ℕ) (info : PacketInfo) (captured : ℕ) :
     Type 0 where
-  pub header : record_header file (take 12 octets) ≡ Continues (parts.Record file head captured)
+  pub header : record_header file (take 12 octets) ≡ Continues (parts.Record file info captured)
   pub within : 16 + captured ≤ length octets

@@ -5,7 +5,7 @@ ghost use Rattle.capture_file.specs.Blocks.{section_length, section, byte_order_
 ghost use Rattle.capture_file.specs.Fits.{Fits};
 
 use crate::fault::FaultKind;
-use crate::part::{Block, Body, ByteOrder, Head, Interface, LengthByOrder, Outcome, Part};
+use crate::part::{Block, Body, ByteOrder, Interface, LengthByOrder, Outcome, PacketInfo, Part};
 use crate::records::{MOST_CAPTURED, SECTION};
 
 /// The greatest number of interfaces in a section.
@@ -302,7 +302,7 @@ pub fn enhanced_header(block: Block, interface: Interface, octets: &[u8]) -> Out
     packet_of(
         block,
         Body {
-            head: Head { link, time },
+            info: PacketInfo { link, time },
             packet_offset: 4,
             captured,
         },
@@ -335,7 +335,7 @@ pub fn simple_header(block: Block, interfaces: &[Interface], octets: &[u8]) -> O
     packet_of(
         block,
         Body {
-            head: Head { link, time: None },
+            info: PacketInfo { link, time: None },
             packet_offset: 0,
             captured: cut(original, interface.snapshot),
         },

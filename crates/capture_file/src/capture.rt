@@ -9,7 +9,7 @@ ghost use Rattle.capture_file.specs.Format.{next, interfaces_behind};
 use crate::blocks::MOST_INTERFACES;
 use crate::fault::{CaptureFault, FaultKind};
 use crate::format::next;
-use crate::part::{Head, Interface, Outcome, Part};
+use crate::part::{Interface, Outcome, PacketInfo, Part};
 use crate::progress::{Packet, Progress};
 use crate::records::whole_record;
 use crate::window::{copy_to_window, push_front};
@@ -18,10 +18,10 @@ use std::alloc::{AllocError, Global};
 /// Enough for a packet of the greatest length, and the original length that stands before it.
 const ROOM: usize = 262_148;
 
-/// The place of the last packet: in the octets that were taken last, or in those that are held.
+/// Where the last packet stands: in the octets that were taken last, or in those that are held.
 #[derive(Clone, Copy)]
 struct PacketRange {
-    head: Head,
+    info: PacketInfo,
     start: usize,
     end: usize,
     held: bool,
@@ -57,7 +57,7 @@ pub struct Capture {
 }
 
 impl Capture {
-    ghost use Rattle.capture_file.specs.CaptureState.{Reads, HasSameRoom, octets_of, Answers, IsRunning, IsIn, head_in, octets_in};
+    ghost use Rattle.capture_file.specs.CaptureState.{Reads, HasSameRoom, octets_of, Answers, IsRunning, IsIn, info_in, octets_in};
     ghost use Rattle.capture_file.specs.Reading.{packets, final_fault};
     ghost use Rattle.capture_file.specs.CaptureSteps.{Completes, PartBegins, EndsPacketAt, HoldsPiece, Advances};
     ghost use Rattle.capture_file.specs.CaptureSteps.{IsRecordDue, TakesRecord};
@@ -67,7 +67,7 @@ impl Capture {
         ensures { IfOk result (λ c. Reads c []) }
     {
         let packet_range = PacketRange {
-            head: Head {
+            info: PacketInfo {
                 link: 0,
                 time: None,
             },
@@ -150,8 +150,8 @@ impl Capture {
         ensures within { start + result.0 ≤ length octets.now }
         ensures memory { HasSameRoom self.old self.new }
     {
-        if let Some((head, captured)) = self.due_record(&octets[start..]) {
-            return (self.take_record(head, start, captured), Progress::Packet);
+        if let Some((info, captured)) = self.due_record(&octets[start..]) {
+            return (self.take_record(info, start, captured), Progress::Packet);
         }
         let missing = self.part.size() - self.taken;
         let rest = &octets[start..];
@@ -170,10 +170,10 @@ impl Capture {
         (count, self.complete(end, start, false))
     }
 
-    /// The head of a packet and the number of its octets, if a record may begin here and these octets begin with the whole
-    /// record.
+    /// What is known of a packet and the number of its octets, if a record may begin here and these octets begin with the
+    /// whole record.
     #[inline]
-    fn due_record(&self, octets: &[u8]) -> Option<(Head, usize)>
+    fn due_record(&self, octets: &[u8]) -> Option<(PacketInfo, usize)>
         ensures { IfSome result (λ r. IsRecordDue self.now octets.now r.0 r.1) }
     {
         let Part::RecordHeader(file) = self.part else {
@@ -187,17 +187,17 @@ impl Capture {
 
     /// Takes a whole record at once, from this index on. Returns how many octets it has.
     #[inline]
-    fn take_record(&mut self, head: Head, start: usize, captured: usize) -> usize
+    fn take_record(&mut self, info: PacketInfo, start: usize, captured: usize) -> usize
         requires running { self.old.fault ≡ None }
         requires room { self.old.octets + (16 + captured) < 2 ^ 64 }
         requires within { start + (16 + captured) < 2 ^ 64 }
-        ensures takes { TakesRecord self.old self.new head start captured }
+        ensures takes { TakesRecord self.old self.new info start captured }
         ensures count { result ≡ 16 + captured }
         ensures memory { HasSameRoom self.old self.new }
     {
         let count = 16 + captured;
         self.advance(count);
-        self.end_packet(head, start + 16, start + count, false);
+        self.end_packet(info, start + 16, start + count, false);
         count
     }
 
@@ -282,10 +282,10 @@ impl Capture {
                 self.begin(part);
                 Progress::More
             }
-            Outcome::EndsPacket(head, part) => {
+            Outcome::EndsPacket(info, part) => {
                 let from = start + self.part.packet_offset() as usize;
                 let to = start + self.part.front() as usize;
-                self.end_packet(head, from, to, held);
+                self.end_packet(info, from, to, held);
                 self.begin(part);
                 Progress::Packet
             }
@@ -301,15 +301,15 @@ impl Capture {
     /// Ends a packet. Its octets stand between these two indices of the octets that the caller gave, or of those that are
     /// held.
     #[inline]
-    fn end_packet(&mut self, head: Head, start: usize, end: usize, held: bool)
+    fn end_packet(&mut self, info: PacketInfo, start: usize, end: usize, held: bool)
         requires some { self.old.packets < self.old.octets }
         requires order { start ≤ end }
         ensures ends { EndsPacketAt self.old self.new
-            (record { head = head; start = start; end = end; held = held }) }
+            (record { info = info; start = start; end = end; held = held }) }
         ensures memory { HasSameRoom self.old self.new }
     {
         self.packet_range = PacketRange {
-            head,
+            info,
             start,
             end,
             held,
@@ -339,12 +339,12 @@ impl Capture {
     /// The packet that the last call of `take` completed. The caller gives the same octets again.
     pub fn packet<'a>(&'a self, octets: &'a [u8]) -> Packet<'a>
         requires { IsIn self.now octets.now }
-        ensures link { result.link ≡ (head_in self.now).link }
-        ensures time { result.time ≡ (head_in self.now).time }
+        ensures link { result.link ≡ (info_in self.now).link }
+        ensures time { result.time ≡ (info_in self.now).time }
         ensures octets { result.octets.now ≡ octets_in self.now octets.now }
     {
         let PacketRange {
-            head,
+            info,
             start,
             end,
             held,
@@ -355,8 +355,8 @@ impl Capture {
             &octets[start..end]
         };
         Packet {
-            link: head.link,
-            time: head.time,
+            link: info.link,
+            time: info.time,
             octets,
         }
     }

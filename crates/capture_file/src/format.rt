@@ -21,7 +21,7 @@ pub fn next(part: &Part, interfaces: &[Interface], octets: &[u8]) -> Outcome
         Part::FileVersion(magic) => records::file_version(magic, octets),
         Part::FileRest(magic) => records::file_rest(magic, octets),
         Part::RecordHeader(file) => records::record_header(file, octets),
-        Part::Record(file, head, _) => Outcome::EndsPacket(head, Part::RecordHeader(file)),
+        Part::Record(file, info, _) => Outcome::EndsPacket(info, Part::RecordHeader(file)),
         Part::SectionLength => blocks::section_length(octets),
         Part::ByteOrderMagic(length) => blocks::byte_order_magic(length, octets),
         Part::SectionVersion(block) => blocks::section_version(block, octets),
@@ -34,7 +34,7 @@ pub fn next(part: &Part, interfaces: &[Interface], octets: &[u8]) -> Outcome
         Part::SimpleHeader(block) => blocks::simple_header(block, interfaces, octets),
         Part::Packet(block, body) => {
             let header = Part::BlockHeader(block.order);
-            blocks::block_end(block, octets, Outcome::EndsPacket(body.head, header))
+            blocks::block_end(block, octets, Outcome::EndsPacket(body.info, header))
         }
         Part::InterfaceEnd(block, _) | Part::BlockEnd(block) => {
             let header = Part::BlockHeader(block.order);

@@ -58,7 +58,7 @@ pub struct Interface {
 
 /// What is known of a packet before its octets come.
 #[derive(Clone, Copy)]
-pub struct Head {
+pub struct PacketInfo {
     pub link: u16,
     /// Nanoseconds since 1970.
     pub time: Option<u128>,
@@ -67,7 +67,7 @@ pub struct Head {
 /// The octets of a packet block that belong to the packet, with the original length if that stands directly before them.
 #[derive(Clone, Copy)]
 pub struct Body {
-    pub head: Head,
+    pub info: PacketInfo,
     /// How many octets stand before the packet's own: 4 for the original length, or 0.
     pub packet_offset: u32,
     /// How many octets the packet has.
@@ -86,7 +86,7 @@ pub enum Part {
     /// The header of a record up to the captured length.
     RecordHeader(FileHeader),
     /// The rest of a record: the original length, and then the packet, of this number of octets.
-    Record(FileHeader, Head, u32),
+    Record(FileHeader, PacketInfo, u32),
     /// The length of the first block of a pcapng file.
     SectionLength,
     /// The byte-order magic of a section header block.
@@ -121,7 +121,7 @@ pub enum Outcome {
     /// This part comes.
     Continues(Part),
     /// A packet is complete, and then this part comes.
-    EndsPacket(Head, Part),
+    EndsPacket(PacketInfo, Part),
     /// The reading ends.
     Fails(FaultKind),
 }

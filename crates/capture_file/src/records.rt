@@ -1,12 +1,12 @@
 //! What comes after each part of a pcap file.
 
 ghost use Rattle.std.specs.Prelude.{◌≡◌, ◌+◌, ◌≤◌, length, take, IfSome};
-ghost use Rattle.capture_file.specs.Records.{beginning, file_version, file_rest, record_time, record_header, record_head, IsWholeRecord};
+ghost use Rattle.capture_file.specs.Records.{beginning, file_version, file_rest, record_time, record_header, record_info, IsWholeRecord};
 ghost use Rattle.capture_file.specs.Fits.{Fits};
 
 use crate::fault::FaultKind;
 use crate::others::other_file;
-use crate::part::{ByteOrder, FileHeader, Head, Magic, Outcome, Part};
+use crate::part::{ByteOrder, FileHeader, Magic, Outcome, PacketInfo, Part};
 
 /// The greatest number of octets of a packet.
 pub const MOST_CAPTURED: u32 = 262_144;
@@ -84,13 +84,13 @@ fn record_time(magic: Magic, octets: &[u8]) -> u128
 
 /// What is known of a record's packet before its octets come.
 #[inline]
-fn record_head(file: FileHeader, octets: &[u8]) -> Head
+fn record_info(file: FileHeader, octets: &[u8]) -> PacketInfo
     requires { 8 ≤ length octets.now }
-    ensures { result ≡ record_head file octets.now }
+    ensures { result ≡ record_info file octets.now }
 {
     let time = Some(record_time(file.magic, octets));
     let link = file.link;
-    Head { link, time }
+    PacketInfo { link, time }
 }
 
 /// After the header of a record, up to the captured length.
@@ -104,13 +104,13 @@ pub fn record_header(file: FileHeader, octets: &[u8]) -> Outcome
     if captured > MOST_CAPTURED {
         return Outcome::Fails(FaultKind::Length);
     }
-    Outcome::Continues(Part::Record(file, record_head(file, octets), captured))
+    Outcome::Continues(Part::Record(file, record_info(file, octets), captured))
 }
 
-/// If octets begin with a whole record: the head of its packet, and how many octets the packet has.
+/// If octets begin with a whole record: what is known of its packet, and how many octets that has.
 #[inline]
 #[tactic(auto, unfolding(crate::specs::Records::record_header))]
-pub fn whole_record(file: FileHeader, octets: &[u8]) -> Option<(Head, usize)>
+pub fn whole_record(file: FileHeader, octets: &[u8]) -> Option<(PacketInfo, usize)>
     ensures { IfSome result (λ r. IsWholeRecord file octets.now r.0 r.1) }
 {
     if octets.len() < 16 {
@@ -121,5 +121,5 @@ pub fn whole_record(file: FileHeader, octets: &[u8]) -> Option<(Head, usize)>
     if MOST_CAPTURED < captured || octets.len() < 16 + captured as usize {
         return None;
     }
-    Some((record_head(file, header), captured as usize))
+    Some((record_info(file, header), captured as usize))
 }

@@ -24,7 +24,7 @@ abbrev pub OfRecords : Type 0
 OfRecords = packets records
     ≡ record {
       place = 42;
-      head = record { link = 101; time = Some 3000000007 };
+      info = record { link = 101; time = Some 3000000007 };
       octets = 0xab ∷ (0xcd ∷ []);
     } ∷ []
 
@@ -42,7 +42,7 @@ abbrev pub OfBlocks : Type 0
 OfBlocks = packets (section ++ (packet ++ octets (codes "00000024")))
     ≡ record {
       place = 96;
-      head = record { link = 101; time = Some 1500000000 };
+      info = record { link = 101; time = Some 1500000000 };
       octets = 0x47 ∷ [];
     } ∷ []
 

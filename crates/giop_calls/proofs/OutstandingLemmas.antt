@@ -9,32 +9,32 @@ module _ {V : Type 0} where
   -- the entry that is found is at the index that the search gives
   found : (t : Entry V → Bool) (es : List (Entry V)) (from : ℕ) →
       IfSome (position_from t from es)
-      (λ place. (from ≤ place) × (slice_get es (place - from) ≡ find t es))
+      (λ index. (from ≤ index) × (slice_get es (index - from) ≡ find t es))
   found t [] from = tt
   found t (e ∷ es) from = by (t e) refl (found t es (from + 1))
     where
       later : (o : Option ℕ) →
-          IfSome o (λ place. (from + 1 ≤ place) × (slice_get es (place - (from + 1)) ≡ find t es)) →
-          IfSome o (λ place. (from ≤ place) × (slice_get (e ∷ es) (place - from) ≡ find t es))
+          IfSome o (λ index. (from + 1 ≤ index) × (slice_get es (index - (from + 1)) ≡ find t es)) →
+          IfSome o (λ index. (from ≤ index) × (slice_get (e ∷ es) (index - from) ≡ find t es))
       later None rest = tt
-      later (Some place) rest =
-          let up : place - from ≡ suc (place - (from + 1)) = omega (arith, rest.0) in
+      later (Some index) rest =
+          let up : index - from ≡ suc (index - (from + 1)) = omega (arith, rest.0) in
           (omega (arith, rest.0), rw up rest.1)
 
       by : (b : Bool) → t e ≡ b →
           IfSome (position_from t (from + 1) es)
-          (λ place. (from + 1 ≤ place) × (slice_get es (place - (from + 1)) ≡ find t es)) →
+          (λ index. (from + 1 ≤ index) × (slice_get es (index - (from + 1)) ≡ find t es)) →
           IfSome (position_from t from (e ∷ es))
-          (λ place. (from ≤ place) × (slice_get (e ∷ es) (place - from) ≡ find t (e ∷ es)))
+          (λ index. (from ≤ index) × (slice_get (e ∷ es) (index - from) ≡ find t (e ∷ es)))
       by true is rest =
           let here : from - from ≡ 0 = omega arith in
           rw (is, here) (omega arith, refl)
       by false is rest = rw is (later _ rest)
 
-  pub found_at : (t : Entry V → Bool) (es : List (Entry V)) (place : ℕ) →
-      position_from t 0 es ≡ Some place → slice_get es place ≡ find t es
-  found_at t es place is =
-      let from_zero : place - 0 ≡ place = omega arith in
+  pub found_at : (t : Entry V → Bool) (es : List (Entry V)) (index : ℕ) →
+      position_from t 0 es ≡ Some index → slice_get es index ≡ find t es
+  found_at t es index is =
+      let from_zero : index - 0 ≡ index = omega arith in
       rw from_zero at (rw is at (found t es 0)).1
 
   pub not_found : (t : Entry V → Bool) (es : List (Entry V)) (from : ℕ) →
@@ -69,34 +69,34 @@ module _ {V : Type 0} where
   -- own
   removed : (id : ℕ) (es : List (Entry V)) (from : ℕ) → AreApart es →
       IfSome (position_from (λ e. e.key == id) from es)
-      (λ place. (from ≤ place) × (remove es (place - from) ≡ without id es))
+      (λ index. (from ≤ index) × (remove es (index - from) ≡ without id es))
   removed id [] from apart = tt
   removed id (e ∷ es) from apart = by (e.key == id) refl (removed id es (from + 1) apart.1)
     where
       later : (o : Option ℕ) →
-          IfSome o (λ place. (from + 1 ≤ place)
-          × (remove es (place - (from + 1)) ≡ without id es)) →
-          IfSome o (λ place. (from ≤ place) × (remove (e ∷ es) (place - from) ≡ e ∷ without id es))
+          IfSome o (λ index. (from + 1 ≤ index)
+          × (remove es (index - (from + 1)) ≡ without id es)) →
+          IfSome o (λ index. (from ≤ index) × (remove (e ∷ es) (index - from) ≡ e ∷ without id es))
       later None rest = tt
-      later (Some place) rest =
-          let up : place - from ≡ suc (place - (from + 1)) = omega (arith, rest.0) in
+      later (Some index) rest =
+          let up : index - from ≡ suc (index - (from + 1)) = omega (arith, rest.0) in
           (omega (arith, rest.0), rw up (ap (λ others. e ∷ others) rest.1))
 
       by : (b : Bool) → (e.key == id) ≡ b →
           IfSome (position_from (λ e. e.key == id) (from + 1) es)
-          (λ place. (from + 1 ≤ place) × (remove es (place - (from + 1)) ≡ without id es)) →
+          (λ index. (from + 1 ≤ index) × (remove es (index - (from + 1)) ≡ without id es)) →
           IfSome (position_from (λ e. e.key == id) from (e ∷ es))
-          (λ place. (from ≤ place) × (remove (e ∷ es) (place - from) ≡ without id (e ∷ es)))
+          (λ index. (from ≤ index) × (remove (e ∷ es) (index - from) ≡ without id (e ∷ es)))
       by true is rest =
           let here : from - from ≡ 0 = omega arith in
           let same : e.key ≡ id = eqb-true _ _ is in
           rw (is, here) (omega arith, sym (all_others id es (rw same at apart.0)))
       by false is rest = rw is (later _ rest)
 
-  pub removed_at : (id : ℕ) (es : List (Entry V)) (place : ℕ) → AreApart es →
-      position_from (λ e. e.key == id) 0 es ≡ Some place → remove es place ≡ without id es
-  removed_at id es place apart is =
-      let from_zero : place - 0 ≡ place = omega arith in
+  pub removed_at : (id : ℕ) (es : List (Entry V)) (index : ℕ) → AreApart es →
+      position_from (λ e. e.key == id) 0 es ≡ Some index → remove es index ≡ without id es
+  removed_at id es index apart is =
+      let from_zero : index - 0 ≡ index = omega arith in
       rw from_zero at (rw is at (removed id es 0 apart)).1
 
   each_filter : (P : Entry V → Type 0) (t : Entry V → Bool) (es : List (Entry V)) →

@@ -66,7 +66,7 @@ impl Calls {
             ≡ option_map (λ e. e.value) (find (λ e. e.key == id) self.now.entries) }
     {
         match self.table.find(id) {
-            Some(place) => self.table.get(place),
+            Some(index) => self.table.get(index),
             None => None,
         }
     }
@@ -106,7 +106,7 @@ impl Calls {
         ensures most { self.new.most ≡ self.old.most }
     {
         match self.table.find(id) {
-            Some(place) => Some(self.table.remove(place)),
+            Some(index) => Some(self.table.remove(index)),
             None => None,
         }
     }
@@ -117,8 +117,8 @@ impl Calls {
         ensures most { self.new.most ≡ self.old.most }
     {
         match self.table.find(id) {
-            Some(place) => {
-                self.table.remove(place);
+            Some(index) => {
+                self.table.remove(index);
             }
             None => {}
         }

@@ -5,8 +5,8 @@ use Rattle.std.specs.Io.KnownBytes.{Consumes, IsAtEnd, append_known}
 use Rattle.capture_file.specs.Reading.{packets}
 use Rattle.tcp_connections.specs.Connections.{none_known}
 use Rattle.giop_conversation.specs.Followed.{stream_reader}
-use Rattle.giop_capture_run.specs.Arrivals.{capture_ended}
-use Rattle.giop_capture_program.specs.Text.{HasText}
+use Rattle.giop_capture.specs.Arrivals.{capture_ended}
+use Rattle.giop_capture.specs.Text.{HasText}
 use Rattle.giop_capture_text.specs.Dumps.{plain_setup}
 
 -- of known octets, these were read; either nothing is left of them, or there is another reason to

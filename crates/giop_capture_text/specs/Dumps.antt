@@ -6,10 +6,10 @@ use Rattle.giop_sig.specs.Builtin.{builtin_table}
 use Rattle.tcp_connections.specs.Connections.{none_known}
 use Rattle.giop_conversation.specs.Captured.{Setup, setup}
 use Rattle.giop_conversation.specs.Followed.{stream_reader}
-use Rattle.giop_capture_run.specs.declared.ending.Ending.{Ending}
-use Rattle.giop_capture_run.specs.Arrivals.{capture_ended}
-use Rattle.giop_capture_run.specs.CaptureRun.{ending_of}
-use Rattle.giop_capture_program.specs.Text.{HasText}
+use Rattle.giop_capture.specs.declared.ending.Ending.{Ending}
+use Rattle.giop_capture.specs.Arrivals.{capture_ended}
+use Rattle.giop_capture.specs.CaptureRun.{ending_of}
+use Rattle.giop_capture.specs.Text.{HasText}
 
 -- 16 open messages for each stream, 128 outstanding calls for each flow, 1,024 connections; the
 -- first stream is s1

@@ -5,8 +5,7 @@ ghost use Rattle.giop_capture_text.specs.Dumps.{IsDumpOf};
 
 use crate::memory::{Memory, Nobody};
 use arrayvec::ArrayVec;
-use giop_capture_program::{Beginning, perform_capture};
-use giop_capture_run::{Arguments, Ending};
+use giop_capture::{Arguments, Beginning, Ending, perform_capture};
 use giop_run::Lines;
 use std::alloc::Global;
 

@@ -10,7 +10,7 @@ mod dumping;
 mod memory;
 
 use dumping::text_of;
-use giop_capture_run::Ending;
+use giop_capture::Ending;
 use giop_run::{Inputs, front};
 use std::process::ExitCode;
 

@@ -3,7 +3,7 @@
 ghost use Rattle.std.specs.Prelude.{◌≡◌, None, Some};
 ghost use Rattle.std.specs.declared.io.ErrorKind.TheVariants.{NotFound};
 
-use giop_capture_run::{Notice, Notices};
+use giop_capture::{Notice, Notices};
 use giop_run::{Inputs, Reading};
 use std::alloc::Global;
 use std::io;

@@ -3,11 +3,11 @@ use Rattle.std.proofs.Common.{◌≡◌, ℕ, ◌-◌, ◌^◌, ◌<◌, List, �
 use Rattle.std.proofs.lemmas.List.{length-append, length-replicate}
 use Rattle.giop_octets.specs.Fields.{eight}
 use Rattle.giop_octets.proofs.FieldLaws.{behind, eight_long}
-use Rattle.giop_checkpoint.specs.declared.fixed.Place.{Place}
-use Rattle.giop_checkpoint.specs.declared.fixed.Place.TheVariants.{Header, Payload, Stopped}
+use Rattle.giop_checkpoint.specs.declared.fixed.NextOctet.{NextOctet}
+use Rattle.giop_checkpoint.specs.declared.fixed.NextOctet.TheVariants.{Header, Payload, Stopped}
 use Rattle.giop_checkpoint.specs.Fixed.{PlaceHasRange, place_octets, place_octet, fault_in, held_in, header_in, left_in}
 
-pub record Parts (place : Place) (owner : ℕ) (octets rest : List ℕ) : Type 0 where
+pub record Parts (place : NextOctet) (owner : ℕ) (octets rest : List ℕ) : Type 0 where
   pub kind : octets ≡ place_octet place ∷ drop 1 octets
   pub fault : drop 1 octets ≡ fault_in place ∷ drop 2 octets
   pub held : drop 2 octets ≡ held_in place ∷ drop 3 octets
@@ -16,7 +16,7 @@ pub record Parts (place : Place) (owner : ℕ) (octets rest : List ℕ) : Type 0
   pub header_long : length (header_in place) ≡ 12
   pub left : drop 16 octets ≡ eight (left_in place) ++ rest
 
-long : (place : Place) → PlaceHasRange place → length (header_in place) ≡ 12
+long : (place : NextOctet) → PlaceHasRange place → length (header_in place) ≡ 12
 long (Header held) r = omega (
   arith,
   length-append held.items
@@ -26,7 +26,7 @@ long (Header held) r = omega (
 long (Payload header left) r = r.0
 long (Stopped fault) r = refl
 
-parts_by : (place : Place) (owner : ℕ) (octets rest : List ℕ) → PlaceHasRange place
+parts_by : (place : NextOctet) (owner : ℕ) (octets rest : List ℕ) → PlaceHasRange place
     → octets ≡ place_octet place ∷ fault_in place ∷ held_in place ∷ owner ∷
     (header_in place ++ (eight (left_in place) ++ rest)) → Parts place owner octets rest
 parts_by place owner octets rest r e =
@@ -43,7 +43,7 @@ parts_by place owner octets rest r e =
           (long place r);
     }
 
-pub parts_of : (place : Place) (owner : ℕ) (octets rest : List ℕ) → PlaceHasRange place
+pub parts_of : (place : NextOctet) (owner : ℕ) (octets rest : List ℕ) → PlaceHasRange place
     → octets ≡ place_octets place owner ++ rest → Parts place owner octets rest
 parts_of (Header held) owner octets rest r e = parts_by (Header held) owner octets rest r
     (e ∙ ap (λ (xs : List ℕ). 0 ∷ 0 ∷ length held.items ∷ owner ∷ xs)
@@ -55,12 +55,12 @@ parts_of (Stopped fault) owner octets rest r e = parts_by (Stopped fault) owner 
     (e ∙ ap (λ (xs : List ℕ). 2 ∷ fault_in (Stopped fault) ∷ 0 ∷ owner ∷ xs)
     (append_assoc (replicate 12 0) (eight 0) rest))
 
-pub left_small : (place : Place) → PlaceHasRange place → left_in place < 2 ^ 64
+pub left_small : (place : NextOctet) → PlaceHasRange place → left_in place < 2 ^ 64
 left_small (Header held) r = omega arith
 left_small (Payload header left) r = omega (arith, r.1)
 left_small (Stopped fault) r = omega arith
 
-pub place_long : (place : Place) (owner : ℕ) → PlaceHasRange place →
+pub place_long : (place : NextOctet) (owner : ℕ) → PlaceHasRange place →
     length (place_octets place owner) ≡ 24
 place_long (Header held) owner r =
     omega (

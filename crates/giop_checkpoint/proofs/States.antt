@@ -6,7 +6,7 @@ use Rattle.giop_octets.specs.Fields.{four, eight}
 use Rattle.giop_octets.proofs.FieldLaws.{four_long, eight_long, behind}
 use Rattle.giop_checkpoint.specs.declared.fixed.Counts.{Counts}
 use Rattle.giop_checkpoint.specs.declared.fixed.Fixed.{Fixed}
-use Rattle.giop_checkpoint.specs.declared.fixed.Place.{Place}
+use Rattle.giop_checkpoint.specs.declared.fixed.NextOctet.{NextOctet}
 use Rattle.giop_checkpoint.specs.Fixed.{HasRange, place_octets, state_octets}
 use Rattle.giop_checkpoint.specs.Layouts.{OpenHasRange, IsAmong, number_or, owner_octet, limit_octets}
 use Rattle.giop_checkpoint.specs.declared.layout.Layout.{Layout}
@@ -83,7 +83,7 @@ number_small most (Some k) few h = omega (arith, few, h)
 -- ---- all fields after the counts
 
 pub fixed_is : (f : Fixed) (counts : Counts) (most_open records octets messages faults : ℕ)
-    (place : Place) (owner : Option ℕ)
+    (place : NextOctet) (owner : Option ℕ)
     → counts ≡ f.counts → most_open ≡ f.most_open → records ≡ f.records → octets ≡ f.octets →
     messages ≡ f.messages → faults ≡ f.faults → place ≡ f.place
     → owner ≡ f.owner

@@ -7,12 +7,12 @@ use Rattle.giop_checkpoint.specs.declared.fault.StreamFault.{StreamFault}
 use Rattle.giop_checkpoint.specs.declared.fault.StreamFault.TheVariants as faults
 use Rattle.giop_checkpoint.specs.declared.fixed.Counts.{Counts}
 use Rattle.giop_checkpoint.specs.declared.fixed.Fixed.{Fixed}
-use Rattle.giop_checkpoint.specs.declared.fixed.Place.{Place}
-use Rattle.giop_checkpoint.specs.declared.fixed.Place.TheVariants.{Header, Payload, Stopped}
+use Rattle.giop_checkpoint.specs.declared.fixed.NextOctet.{NextOctet}
+use Rattle.giop_checkpoint.specs.declared.fixed.NextOctet.TheVariants.{Header, Payload, Stopped}
 
 -- ---- ranges
 
-abbrev pub PlaceHasRange : Place → Type 0
+abbrev pub PlaceHasRange : NextOctet → Type 0
 PlaceHasRange (Header held) = length held.items ≤ 11
 PlaceHasRange (Payload header left) = (length header ≡ 12) × (left < 2 ^ 32)
 PlaceHasRange (Stopped fault) = Unit {0}
@@ -44,7 +44,7 @@ fault_octet faults.StreamLimit = 5
 -- Four octets: the place, the stream fault's number, how many header octets are held, and, in
 -- layout 2, the payload's record. After them come the header octets, and how many payload octets
 -- are still to come.
-abbrev pub place_octets : Place → ℕ → List ℕ
+abbrev pub place_octets : NextOctet → ℕ → List ℕ
 place_octets (Header held) owner =
     (0 ∷ 0 ∷ length held.items ∷ owner ∷ []) ++ held.items ++ replicate (12 - length held.items) 0
     ++ eight 0
@@ -53,27 +53,27 @@ place_octets (Stopped fault) owner = (2 ∷ fault_octet fault ∷ 0 ∷ owner �
     ++ eight 0
 
 -- The fields of these octets, one by one.
-abbrev pub place_octet : Place → ℕ
+abbrev pub place_octet : NextOctet → ℕ
 place_octet (Header held) = 0
 place_octet (Payload header left) = 1
 place_octet (Stopped fault) = 2
 
-abbrev pub fault_in : Place → ℕ
+abbrev pub fault_in : NextOctet → ℕ
 fault_in (Header held) = 0
 fault_in (Payload header left) = 0
 fault_in (Stopped fault) = fault_octet fault
 
-abbrev pub held_in : Place → ℕ
+abbrev pub held_in : NextOctet → ℕ
 held_in (Header held) = length held.items
 held_in (Payload header left) = 0
 held_in (Stopped fault) = 0
 
-abbrev pub header_in : Place → List ℕ
+abbrev pub header_in : NextOctet → List ℕ
 header_in (Header held) = held.items ++ replicate (12 - length held.items) 0
 header_in (Payload header left) = header
 header_in (Stopped fault) = replicate 12 0
 
-abbrev pub left_in : Place → ℕ
+abbrev pub left_in : NextOctet → ℕ
 left_in (Header held) = 0
 left_in (Payload header left) = left
 left_in (Stopped fault) = 0

@@ -24,7 +24,7 @@ pub struct Counts {
 
 /// Where in the stream the next octet is.
 #[derive(Drop)]
-pub enum Place {
+pub enum NextOctet {
     /// In a header, after these octets of it, or before a header if there are none.
     Header(ArrayVec<u8, 11>),
     /// In the payload of the message with this header. `left` octets of the payload are still to
@@ -48,7 +48,7 @@ pub struct Fixed {
     pub messages: u64,
     /// How many faults there were, of messages and of the stream: at most 2^45 + 1.
     pub faults: u64,
-    pub place: Place,
+    pub place: NextOctet,
     /// The record of the message to which the payload belongs, counted from 0.
     pub owner: Option<u32>,
 }
@@ -98,7 +98,7 @@ impl Counts {
     }
 }
 
-impl Place {
+impl NextOctet {
     /// Writes the place, with the octet that names the payload's record.
     fn write<const N: usize>(&self, owner: u8, out: &mut ArrayVec<u8, N>)
         requires room { array_vec_len out.old + 24 ≤ N }
@@ -106,18 +106,18 @@ impl Place {
         ensures len { array_vec_len out.new ≡ array_vec_len out.old + 24 }
     {
         match self {
-            Place::Header(held) => {
+            NextOctet::Header(held) => {
                 put_octets(out, &[0, 0, held.len() as u8, owner]);
                 put_octets(out, held.as_slice());
                 put_zeros(out, 12 - held.len());
                 put_eight(out, 0);
             }
-            Place::Payload { header, left } => {
+            NextOctet::Payload { header, left } => {
                 put_octets(out, &[1, 0, 0, owner]);
                 put_octets(out, header);
                 put_eight(out, u64::from(*left));
             }
-            Place::Stopped(fault) => {
+            NextOctet::Stopped(fault) => {
                 put_octets(out, &[2, number_of(*fault), 0, owner]);
                 put_zeros(out, 12);
                 put_eight(out, 0);

@@ -11,7 +11,7 @@ mod state;
 
 pub use checks::fixed_part;
 pub use fault::{LoadFault, StreamFault};
-pub use fixed::{Counts, Fixed, Place};
+pub use fixed::{Counts, Fixed, NextOctet};
 pub use layout::Layout;
 pub use record::{FirstRecord, Record, RecordKind, first_record};
 pub use sizes::{

@@ -4,11 +4,11 @@ ghost use Rattle.std.specs.Prelude.{◌≡◌, ◌↔◌, ℕ, List, ◌+◌, �
 ghost use Rattle.giop_checkpoint.specs.Layouts.{OpenHasRange, IsAmong, number_or, owner_octet, limit_octets};
 ghost use Rattle.giop_checkpoint.specs.Fixed.{HasRange, PlaceHasRange, fault_octet, place_octets, place_octet, fault_in, held_in, header_in, left_in, state_octets};
 ghost use Rattle.giop_checkpoint.specs.declared.fixed.Fixed.{Fixed as FixedPart};
-ghost use Rattle.giop_checkpoint.specs.declared.fixed.Place.{Place as PlaceOf};
+ghost use Rattle.giop_checkpoint.specs.declared.fixed.NextOctet.{NextOctet as PlaceOf};
 ghost use Rattle.giop_checkpoint.specs.declared.fault.StreamFault.{StreamFault as Fault};
 
 use crate::fault::StreamFault;
-use crate::fixed::{Counts, Fixed, Place};
+use crate::fixed::{Counts, Fixed, NextOctet};
 use crate::layout::Layout;
 use crate::sizes::LAYOUT_2_MOST_OPEN;
 use arrayvec::ArrayVec;
@@ -64,7 +64,7 @@ fn parsed(layout: Layout, counts: Counts, octets: &[u8]) -> Option<Fixed>
 }
 
 /// The place that the first octets give.
-fn place_at(octets: &[u8]) -> Option<Place>
+fn place_at(octets: &[u8]) -> Option<NextOctet>
     requires long { 24 ≤ length octets.now }
     ensures range { IfSome result (λ place. PlaceHasRange place) }
     ensures again { (place : PlaceOf) (owner : ℕ) (rest : List ℕ) → PlaceHasRange place →
@@ -80,7 +80,7 @@ fn place_at(octets: &[u8]) -> Option<Place>
 }
 
 /// The place that these fields give.
-fn place_of(kind: u8, fault: u8, held: u8, header: [u8; 12], left: u64) -> Option<Place>
+fn place_of(kind: u8, fault: u8, held: u8, header: [u8; 12], left: u64) -> Option<NextOctet>
     ensures range { IfSome result (λ place. PlaceHasRange place) }
     ensures again { (place : PlaceOf) → PlaceHasRange place → kind ≡ place_octet place →
         fault ≡ fault_in place →
@@ -88,13 +88,13 @@ fn place_of(kind: u8, fault: u8, held: u8, header: [u8; 12], left: u64) -> Optio
         result ≡ Some place }
 {
     match kind {
-        0 => Some(Place::Header(front_of(&header, held))),
+        0 => Some(NextOctet::Header(front_of(&header, held))),
         1 => match u32::try_from(left) {
-            Ok(left) => Some(Place::Payload { header, left }),
+            Ok(left) => Some(NextOctet::Payload { header, left }),
             Err(_) => None,
         },
         2 => match fault_of(fault) {
-            Some(fault) => Some(Place::Stopped(fault)),
+            Some(fault) => Some(NextOctet::Stopped(fault)),
             None => None,
         },
         _ => None,

@@ -74,16 +74,16 @@ abbrev pub IsOfFlow : ℕ → Event → Type 0
 IsOfFlow flow e = (g : ℕ) (p : List ℕ) → (g ≡ flow → ⊥) → octets_behind g p e ≡ p
 
 -- if the direction of the event's flow follows it, all directions do
-pub followed_on : (rooms : List Conversation) (events : List Event) (e : Event) (flow : ℕ)
-    (old new : Conversation) → HaveFollowed rooms events → slice_get rooms (flow / 2) ≡ Some old →
+pub followed_on : (slots : List Conversation) (events : List Event) (e : Event) (flow : ℕ)
+    (old new : Conversation) → HaveFollowed slots events → slice_get slots (flow / 2) ≡ Some old →
     IsOfFlow flow e →
     (HasRead (direction (side_of flow) old).engine (octets_of flow events) →
     HasRead (direction (side_of flow) new).engine
     (octets_behind flow (octets_of flow events) e)) →
     (direction (other (side_of flow)) new).engine
     ≡ (direction (other (side_of flow)) old).engine →
-    HaveFollowed (set rooms (flow / 2) new) (events ++ e ∷ [])
-followed_on rooms events e flow old new follows here only reads stays g = search (
+    HaveFollowed (set slots (flow / 2) new) (events ++ e ∷ [])
+followed_on slots events e flow old new follows here only reads stays g = search (
   arith,
   cases_eq,
   in_place,
@@ -95,16 +95,16 @@ followed_on rooms events e flow old new follows here only reads stays g = search
 )
 
 -- the same for an event that is of no flow's stream
-pub followed_still : (rooms : List Conversation) (events : List Event) (e : Event) →
-    HaveFollowed rooms events → ((g : ℕ) (p : List ℕ) → octets_behind g p e ≡ p) →
-    HaveFollowed rooms (events ++ e ∷ [])
-followed_still rooms events e follows none g = search (arith, octets_more)
+pub followed_still : (slots : List Conversation) (events : List Event) (e : Event) →
+    HaveFollowed slots events → ((g : ℕ) (p : List ℕ) → octets_behind g p e ≡ p) →
+    HaveFollowed slots (events ++ e ∷ [])
+followed_still slots events e follows none g = search (arith, octets_more)
 
--- the same for an event in a flow whose connection has no room
-pub followed_beyond : (rooms : List Conversation) (events : List Event) (e : Event) (flow : ℕ) →
-    HaveFollowed rooms events → slice_get rooms (flow / 2) ≡ None → IsOfFlow flow e →
-    HaveFollowed rooms (events ++ e ∷ [])
-followed_beyond rooms events e flow follows beyond only g = search (arith, cases_eq, octets_more)
+-- the same for an event in a flow whose connection has no slot
+pub followed_beyond : (slots : List Conversation) (events : List Event) (e : Event) (flow : ℕ) →
+    HaveFollowed slots events → slice_get slots (flow / 2) ≡ None → IsOfFlow flow e →
+    HaveFollowed slots (events ++ e ∷ [])
+followed_beyond slots events e flow follows beyond only g = search (arith, cases_eq, octets_more)
 
 -- ---- the events
 
@@ -164,9 +164,9 @@ new_direction : (p : Side) (c : Conversation) → IsNew c → HasRead (direction
 new_direction Even c new = new.even
 new_direction Odd c new = new.odd
 
-pub followed_none : (rooms : List Conversation) → All IsNew rooms → HaveFollowed rooms []
+pub followed_none : (slots : List Conversation) → All IsNew slots → HaveFollowed slots []
 unfolding octets_from
-followed_none rooms new flow = search (arith, slice_get_cases, slice_get, get_or, new_direction)
+followed_none slots new flow = search (arith, slice_get_cases, slice_get, get_or, new_direction)
 
 -- ---- each event, by what the connection does
 
@@ -185,71 +185,71 @@ same_engine Even old new even odd = even
 same_engine Odd old new even odd = odd
 
 -- the connection changes, but not what it has read
-pub engines_stay : (rooms : List Conversation) (events : List Event) (e : Event) (flow : ℕ)
-    (old new : Conversation) → HaveFollowed rooms events → slice_get rooms (flow / 2) ≡ Some old →
+pub engines_stay : (slots : List Conversation) (events : List Event) (e : Event) (flow : ℕ)
+    (old new : Conversation) → HaveFollowed slots events → slice_get slots (flow / 2) ≡ Some old →
     new.even.engine ≡ old.even.engine → new.odd.engine ≡ old.odd.engine →
     ((g : ℕ) (p : List ℕ) → octets_behind g p e ≡ p) →
-    HaveFollowed (set rooms (flow / 2) new) (events ++ e ∷ [])
-engines_stay rooms events e flow old new follows here even odd none = search (
+    HaveFollowed (set slots (flow / 2) new) (events ++ e ∷ [])
+engines_stay slots events e flow old new follows here even odd none = search (
   arith,
   followed_on,
   same_engine,
 )
 
-pub stream_begun : (rooms : List Conversation) (events : List Event) (flow : ℕ) (start : Start)
-    (old new : Conversation) → HaveFollowed rooms events → slice_get rooms (flow / 2) ≡ Some old →
+pub stream_begun : (slots : List Conversation) (events : List Event) (flow : ℕ) (start : Start)
+    (old new : Conversation) → HaveFollowed slots events → slice_get slots (flow / 2) ≡ Some old →
     HasRead (direction (side_of flow) new).engine [] →
     direction (other (side_of flow)) new ≡ direction (other (side_of flow)) old →
-    HaveFollowed (set rooms (flow / 2) new) (events ++ Begins flow start ∷ [])
-stream_begun rooms events flow start old new follows here read stays =
-    followed_on rooms events (Begins flow start) flow old new follows here (of_begins flow start)
+    HaveFollowed (set slots (flow / 2) new) (events ++ Begins flow start ∷ [])
+stream_begun slots events flow start old new follows here read stays =
+    followed_on slots events (Begins flow start) flow old new follows here (of_begins flow start)
     (λ h. rw (behind_begins flow start (octets_of flow events)) read)
     (ap (λ (d : DirectionView). d.engine) stays)
 
-octets_read : (rooms : List Conversation) (events : List Event) (flow : ℕ) (octets : List ℕ)
-    (old new : Conversation) → HaveFollowed rooms events → slice_get rooms (flow / 2) ≡ Some old →
+octets_read : (slots : List Conversation) (events : List Event) (flow : ℕ) (octets : List ℕ)
+    (old new : Conversation) → HaveFollowed slots events → slice_get slots (flow / 2) ≡ Some old →
     ((p : List ℕ) → HasRead (direction (side_of flow) old).engine p →
     HasRead (direction (side_of flow) new).engine (p ++ octets)) →
     direction (other (side_of flow)) new ≡ direction (other (side_of flow)) old →
-    HaveFollowed (set rooms (flow / 2) new) (events ++ Delivers flow octets ∷ [])
-octets_read rooms events flow octets old new follows here reads stays =
-    followed_on rooms events (Delivers flow octets) flow old new follows here
+    HaveFollowed (set slots (flow / 2) new) (events ++ Delivers flow octets ∷ [])
+octets_read slots events flow octets old new follows here reads stays =
+    followed_on slots events (Delivers flow octets) flow old new follows here
     (of_delivers flow octets)
     (λ h. rw (behind_delivers flow octets (octets_of flow events))
     (reads (octets_of flow events) h))
     (ap (λ (d : DirectionView). d.engine) stays)
 
-at_fault : (rooms : List Conversation) (events : List Event) (flow : ℕ) (octets : List ℕ)
-    (old : Conversation) (at : Option ℕ) → HaveFollowed rooms events →
-    slice_get rooms (flow / 2) ≡ Some old →
+at_fault : (slots : List Conversation) (events : List Event) (flow : ℕ) (octets : List ℕ)
+    (old : Conversation) (at : Option ℕ) → HaveFollowed slots events →
+    slice_get slots (flow / 2) ≡ Some old →
     ((p : List ℕ) → HasRead (direction (side_of flow) old).engine p →
     at ≡ fault_place (cut (p ++ octets)).stop) →
     at ≡ reader_faulted (events ++ Delivers flow octets ∷ [])
-at_fault rooms events flow octets old at follows here tells = search (arith, fault_of_delivers)
+at_fault slots events flow octets old at follows here tells = search (arith, fault_of_delivers)
 
-pub lacking_told : (rooms : List Conversation) (events : List Event) (flow : ℕ)
-    (old : Conversation) (count : Option ℕ) → HaveFollowed rooms events →
-    slice_get rooms (flow / 2) ≡ Some old →
+pub lacking_told : (slots : List Conversation) (events : List Event) (flow : ℕ)
+    (old : Conversation) (count : Option ℕ) → HaveFollowed slots events →
+    slice_get slots (flow / 2) ≡ Some old →
     ((p : List ℕ) → HasRead (direction (side_of flow) old).engine p → count ≡ lacking (cut p)) →
     count ≡ reader_lacking events flow
-lacking_told rooms events flow old count follows here tells =
+lacking_told slots events flow old count follows here tells =
     tells (octets_of flow events) (rw here at (follows flow))
 
-pub octets_told : {E : Type 0} (r : Result (Option ℕ) E) (rooms : List Conversation)
+pub octets_told : {E : Type 0} (r : Result (Option ℕ) E) (slots : List Conversation)
     (events : List Event) (flow : ℕ) (octets : List ℕ) (old new : Conversation) →
-    HaveFollowed rooms events → slice_get rooms (flow / 2) ≡ Some old →
+    HaveFollowed slots events → slice_get slots (flow / 2) ≡ Some old →
     ((p : List ℕ) → HasRead (direction (side_of flow) old).engine p →
     OnOk r (HasRead (direction (side_of flow) new).engine (p ++ octets))) →
     ((p : List ℕ) → HasRead (direction (side_of flow) old).engine p →
     IfOk r (λ at. at ≡ fault_place (cut (p ++ octets)).stop)) →
     direction (other (side_of flow)) new ≡ direction (other (side_of flow)) old →
-    IfOk r (λ at. HaveFollowed (set rooms (flow / 2) new) (events ++ Delivers flow octets ∷ [])
+    IfOk r (λ at. HaveFollowed (set slots (flow / 2) new) (events ++ Delivers flow octets ∷ [])
     × (at ≡ reader_faulted (events ++ Delivers flow octets ∷ [])))
-octets_told (Ok at) rooms events flow octets old new follows here reads tells stays = (
-  octets_read rooms events flow octets old new follows here reads stays,
-  at_fault rooms events flow octets old at follows here tells,
+octets_told (Ok at) slots events flow octets old new follows here reads tells stays = (
+  octets_read slots events flow octets old new follows here reads stays,
+  at_fault slots events flow octets old at follows here tells,
 )
-octets_told (Err e) rooms events flow octets old new follows here reads tells stays = tt
+octets_told (Err e) slots events flow octets old new follows here reads tells stays = tt
 
 pub on_ok : {A E : Type 0} (r : Result A E) (P : Type 0) → P → OnOk r P
 on_ok (Ok x) P h = h

@@ -12,12 +12,12 @@ mod LineEnds
 mod StampedLemmas
 mod StreamReadLemmas
 mod DumpLemmas
-mod ToldLemmas
+mod WrittenLemmas
 mod EmptyStream
 mod PartLemmas
 mod StreamNumbers
 mod StreamTextLemmas
 mod StreamEnds
 mod StreamCloses
-mod StreamRooms
+mod StreamSlots
 mod OneText

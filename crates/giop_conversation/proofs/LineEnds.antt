@@ -10,7 +10,7 @@ use Rattle.giop_sig.specs.Table.{Table}
 use Rattle.giop_stream.specs.Rules.{Rules, rules_by}
 use Rattle.giop_stream.specs.HeaderOctets.{fronts, wrong, first_wrong, first_wrong_octet}
 use Rattle.giop_stream.specs.Framing.{limit, limited, cut_from, cut}
-use Rattle.giop_stream.specs.Lines.{Content, Started, Said, ContinuesMessage, CancelledBy, Faulted, Stopped, Line, in_order, up_to_last_line, lines_of_messages, stop_line, lines}
+use Rattle.giop_stream.specs.Lines.{Content, Started, Said, ContinuesMessage, CancelledBy, Faulted, Stopped, StreamLine, in_order, up_to_last_line, lines_of_messages, stop_line, lines}
 use Rattle.giop_stream.specs.Text as stream
 use Rattle.giop_stream.specs.Stream.{text, closing}
 use Rattle.giop_stream.specs.EngineHolds.{added}
@@ -97,7 +97,7 @@ content_ends place number (CancelledBy j) = cancelled_ends number j
 content_ends place number (Faulted fault) = search (arith, fault_ends)
 content_ends place number (Stopped fault) = search (arith, stream_fault_ends)
 
-all_end : (ls : List Line) → is_due (flat_map stream.line_text ls) ≡ true
+all_end : (ls : List StreamLine) → is_due (flat_map stream.line_text ls) ≡ true
 all_end [] = none_ends
 all_end (l ∷ ls) = search (arith, ends_both, content_ends, all_end ls)
 

@@ -1,4 +1,4 @@
--- If each stream that lives closes in the end, each stream that has a room has closed.
+-- If each stream that lives closes in the end, each stream that has a slot has closed.
 use Rattle.std.proofs.Common.{arith, ◌≡◌, ℕ, ◌==◌, ◌⊎◌, inl, inr, Bool, true, false, List, [], ◌∷◌, Option, Some, None, is_some, refl, sym, ap, ◌∙◌, if◌then◌else◌}
 use Rattle.std.proofs.lemmas.Bool.{eqb-true, eq-eqb, cases_eq, false≢true}
 use Rattle.giop_message.specs.Signatures.{Answers}
@@ -57,7 +57,7 @@ lives_on payloads f e before behind past (inr same) lives = search (arith, is_so
 other_flow : (f id : ℕ) → (f ≡ id → ⊥) → Some id ≡ Some f → ⊥
 other_flow f id apart is = search (arith)
 
--- ---- a stream with a room that hasn't closed is the last one of a flow that lives
+-- ---- a stream with a slot that hasn't closed is the last one of a flow that lives
 
 record IsLast (h : History) (due : ℕ → Option ℕ) (m : ℕ) : Type 0 where
   flow : ℕ
@@ -66,7 +66,7 @@ record IsLast (h : History) (due : ℕ → Option ℕ) (m : ℕ) : Type 0 where
 
 abbrev AreLast : History → (ℕ → Option ℕ) → Type 0
 AreLast h due =
-    (m : ℕ) → h.has_room m ≡ true → (h.stream m).is_closed ≡ false → IsLast h due m
+    (m : ℕ) → h.has_slot m ≡ true → (h.stream m).is_closed ≡ false → IsLast h due m
 
 module _ (S : Setup) (h : History) (due behind : ℕ → Option ℕ) (t : AreLast h due) where
   abbrev FollowsBy : Event → Type 0
@@ -200,13 +200,13 @@ module _ (S : Setup) (h : History) (due behind : ℕ → Option ℕ) (t : AreLas
 -- ---- all events
 
 last_closed : (h : History) (due : ℕ → Option ℕ) → AreLast h due → ((f : ℕ) → due f ≡ None) →
-    (m : ℕ) → h.has_room m ≡ true → (h.stream m).is_closed ≡ true
+    (m : ℕ) → h.has_slot m ≡ true → (h.stream m).is_closed ≡ true
 last_closed h due t none m room = search (arith, false≢true, is_some)
 
 closes_on : (S : Setup) (events : List Event) (h : History) (due : ℕ → Option ℕ) (d behind : Dump)
     (leads : Leads S d events behind) → AreLast h due →
     ((f : ℕ) → (payloads : _) × AllFollow payloads f (due f) events None) →
-    (m : ℕ) → (history S h d events behind leads).has_room m ≡ true →
+    (m : ℕ) → (history S h d events behind leads).has_slot m ≡ true →
     ((history S h d events behind leads).stream m).is_closed ≡ true
 unfolding AllFollow
 closes_on S [] h due d behind leads t whole m room =
@@ -220,7 +220,7 @@ closes_on S (e ∷ es) h due d behind leads t whole m room =
 
 pub all_close : (S : Setup) (written : List ℕ) (events : List Event) (d : Dump)
     (leads : Leads S (start S written) events d) → AreWhole events →
-    (m : ℕ) → (history S no_history (start S written) events d leads).has_room m ≡ true →
+    (m : ℕ) → (history S no_history (start S written) events d leads).has_slot m ≡ true →
     ((history S no_history (start S written) events d leads).stream m).is_closed ≡ true
 all_close S written events d leads whole m room =
     closes_on S events no_history (λ f. None) (start S written) d leads

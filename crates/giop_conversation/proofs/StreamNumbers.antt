@@ -62,7 +62,7 @@ abbrev pub HasHalves : Setup → History → ℕ → Connection → Type 0
 HasHalves S h i c = (p : Side) → HasHalf S h (flow_id i p) (half p c)
 
 pub record AreHalves (S : Setup) (h : History) (cs : List Connection) : Type 0 where
-  pub rooms : length cs ≡ S.connections
+  pub slots : length cs ≡ S.connections
   pub halves : (i : ℕ) → IfSome (slice_get cs i) (HasHalves S h i)
 
 -- ---- the numbers of streams
@@ -140,8 +140,8 @@ module _ (S : Setup) (h behind : History) (cs : List Connection) (id : ℕ) (c :
       AreHalves S behind (set cs (id / 2) (with_half (other (side_of id))
       (with_half (side_of id) c s) opposite))
   halves_on s opposite is k others own alike = record {
-    rooms = length-set cs (id / 2) (with_half (other (side_of id)) (with_half (side_of id) c s)
-        opposite) ∙ k.rooms;
+    slots = length-set cs (id / 2) (with_half (other (side_of id)) (with_half (side_of id) c s)
+        opposite) ∙ k.slots;
     halves = set_each (HasHalves S behind) cs (id / 2)
         (with_half (other (side_of id)) (with_half (side_of id) c s) opposite)
         (λ j apart. by j apart (slice_get cs j) (k.halves j))
@@ -174,7 +174,7 @@ module _ (S : Setup) (h behind : History) (cs : List Connection) (id : ℕ) (c :
       subst (λ (x : Connection). AreHalves S behind (set cs (id / 2) x)) (alone (side_of id) c s)
       (halves_on s (half (other (side_of id)) c) is k others own (λ g has. has))
 
--- ---- a flow whose connection has no room
+-- ---- a flow whose connection has no slot
 
-pub no_room : {X : Type 0} (xs : List X) (i : ℕ) → slice_get xs i ≡ None → length xs ≤ i
-no_room xs i beyond = search (arith, cases_lt, slice_get_cases)
+pub no_slot : {X : Type 0} (xs : List X) (i : ℕ) → slice_get xs i ≡ None → length xs ≤ i
+no_slot xs i beyond = search (arith, cases_lt, slice_get_cases)

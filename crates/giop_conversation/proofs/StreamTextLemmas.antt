@@ -27,7 +27,7 @@ use Rattle.giop_conversation.specs.Exchanges.{Exchanged}
 use Rattle.giop_conversation.specs.Stamped.{begin_lines}
 use Rattle.giop_conversation.proofs.EmptyStream.{no_text, one_closing}
 use Rattle.giop_conversation.proofs.PartLemmas.{AreParts, whole_both, are_whole, text_is, of_it, of_another, begin_parts, closed_parts, stamped_parts}
-use Rattle.giop_conversation.proofs.StreamNumbers.{flow_id, IsHalf, HasHalf, HasHalves, AreHalves, AreNumbered, numbers_begun, numbers_with, stream_at, stream_else, unequal, own_half, halves_on, half_on, no_room}
+use Rattle.giop_conversation.proofs.StreamNumbers.{flow_id, IsHalf, HasHalf, HasHalves, AreHalves, AreNumbered, numbers_begun, numbers_with, stream_at, stream_else, unequal, own_half, halves_on, half_on, no_slot}
 
 -- ---- the whole
 
@@ -142,14 +142,14 @@ module _ (S : Setup) (written : List ℕ)
       (with_begun h id (number_in S h.begun) (nat_lt (id / 2) S.connections))
       (begun_in S d id start o)
   on_begun h d id start None is b =
-      let past = no_room d.connections (id / 2) is in
+      let past = no_slot d.connections (id / 2) is in
       let none : nat_lt (id / 2) S.connections ≡ false =
-      false_from_ne_true _ (λ some. let low = ltb-true _ _ some in let rooms = b.halves.rooms in
-      omega (arith, past, low, rooms)) in
+      false_from_ne_true _ (λ some. let low = ltb-true _ _ some in let slots = b.halves.slots in
+      omega (arith, past, low, slots)) in
       rw none (record {
         count = ap counted b.count;
         halves = record {
-          rooms = b.halves.rooms;
+          slots = b.halves.slots;
           halves =
               λ i. by i (slice_get d.connections i) (b.halves.halves i);
         };
@@ -168,8 +168,8 @@ module _ (S : Setup) (written : List ℕ)
       by i (Some c) has = search (arith, text_is)
   on_begun h d id start (Some c) is b =
       let low = slice_get_within d.connections (id / 2) c is in
-      let rooms = b.halves.rooms in
-      let room : id / 2 < S.connections = omega (arith, low, rooms) in
+      let slots = b.halves.slots in
+      let room : id / 2 < S.connections = omega (arith, low, slots) in
       let some : nat_lt (id / 2) S.connections ≡ true = lt-ltb _ _ room in
       let n = number_in S d.streams in
       let s = half (side_of id) c in
@@ -213,7 +213,7 @@ module _ (S : Setup) (written : List ℕ)
       IsHalf S h g n p a → IsHalf S (with_stream h (h.stream_of id) s) g n p a
   half_with h s id g n p a k apart it = search (arith, half_stays, stream_else, unequal)
 
-  -- the stream of a flow without a room has no number, so no stream with a number changes
+  -- the stream of a flow without a slot has no number, so no stream with a number changes
   beyond_is : (h : History) (s : StreamHistory) (id m : ℕ) → h.stream_of id ≡ 0 → IsUnique m →
       (with_stream h (h.stream_of id) s).stream m ≡ h.stream m
   beyond_is h s id m none number = search (arith, stream_else, unequal)
@@ -223,7 +223,7 @@ module _ (S : Setup) (written : List ℕ)
       AreShown S written h d → AreShown S written (with_stream h (h.stream_of id) s) d
   on_nothing h s d id is b = search (
     arith,
-    no_room,
+    no_slot,
     slice_get,
     numbers_with,
     beyond_is,
@@ -402,7 +402,7 @@ module _ (S : Setup) (written : List ℕ)
   at_start = record {
     count = refl;
     halves = record {
-      rooms = length-replicate S.connections (new_connection S);
+      slots = length-replicate S.connections (new_connection S);
       halves = each_alike (HasHalves S no_history) (new_connection S) S.connections halves;
     };
     numbers = record {

@@ -61,9 +61,9 @@ AreHeld S (r ∷ rs) (c ∷ cs) = HoldsConnection S r c × AreHeld S rs cs
 
 -- A dump is held: by the connections, by the text that they wrote through an out with tags, by the
 -- packet that is read, the number of the first stream, and the sums over the streams.
-pub record HoldsDump (S : Setup) (rooms : List Conversation) (out : Tagging) (arrival : Arrival)
+pub record HoldsDump (S : Setup) (slots : List Conversation) (out : Tagging) (arrival : Arrival)
     (first : ℕ) (totals : CaptureTotals) (cut : Bool) (d : Dump) : Type 0 where
-  pub connections : AreHeld S rooms d.connections
+  pub connections : AreHeld S slots d.connections
   pub ready : IsReady out d.text
   pub arrival_is : arrival ≡ d.arrival
   pub first_is : first ≡ S.first
@@ -75,16 +75,18 @@ pub record HoldsDump (S : Setup) (rooms : List Conversation) (out : Tagging) (ar
 
 -- The events lead from the start, when this was written below, to a dump that is held. So all of
 -- its text was written, and nothing else.
-pub record HasTold (S : Setup) (written : List ℕ) (events : List Event) (rooms : List Conversation)
+pub record HasWritten (S : Setup) (written : List ℕ) (events : List Event) (slots : List
+    Conversation)
     (out : Tagging)
     (arrival : Arrival) (first : ℕ) (totals : CaptureTotals) (cut : Bool) : Type 0 where
   pub dump : Dump
   pub leads : Leads S (start S written) events dump
-  pub holds : HoldsDump S rooms out arrival first totals cut dump
+  pub holds : HoldsDump S slots out arrival first totals cut dump
 
 -- A put failed: a front of the text that the events lead to was written, and maybe the beginning of
 -- a tag.
-pub record HasToldFront (S : Setup) (written : List ℕ) (events : List Event) (out : Tagging) : Type
+pub record HasWrittenFront (S : Setup) (written : List ℕ) (events : List Event) (out : Tagging) :
+    Type
     0 where
   pub dump : Dump
   pub leads : Leads S (start S written) events dump

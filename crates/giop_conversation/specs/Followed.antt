@@ -67,11 +67,11 @@ abbrev pub direction : Side → Conversation → DirectionView
 direction Even c = c.even
 direction Odd c = c.odd
 
--- the direction of a flow, if its connection has a room
+-- the direction of a flow, if its connection has a slot
 abbrev pub direction_of : List Conversation → ℕ → Option DirectionView
-direction_of rooms flow = option_map (direction (side_of flow)) (slice_get rooms (flow / 2))
+direction_of slots flow = option_map (direction (side_of flow)) (slice_get slots (flow / 2))
 
--- The direction of each flow that has a room has read the flow's last stream.
+-- The direction of each flow that has a slot has read the flow's last stream.
 abbrev pub HaveFollowed : List Conversation → List Event → Type 0
-HaveFollowed rooms events =
-    (flow : ℕ) → IfSome (direction_of rooms flow) (λ d. HasRead d.engine (octets_of flow events))
+HaveFollowed slots events =
+    (flow : ℕ) → IfSome (direction_of slots flow) (λ d. HasRead d.engine (octets_of flow events))

@@ -4,6 +4,6 @@ use Rattle.tcp_flow.specs.Flow.{Event}
 use Rattle.giop_conversation.specs.declared.conversations.Conversations.{Conversations}
 use Rattle.giop_conversation.specs.Followed.{HaveFollowed}
 
--- The direction of each flow that has a room has read the flow's last stream.
+-- The direction of each flow that has a slot has read the flow's last stream.
 abbrev pub Follows : {O : Type 0} → Conversations O → List Event → Type 0
-Follows c events = HaveFollowed c.rooms.items events
+Follows c events = HaveFollowed c.slots.items events

@@ -16,4 +16,4 @@ pub mod Captured
 pub mod CaptureParts
 pub mod StreamTexts
 pub mod DumpHeld
-pub mod DumpTold
+pub mod DumpWritten

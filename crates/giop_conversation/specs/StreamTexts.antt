@@ -38,25 +38,25 @@ dumped R s = text R s.octets ++ (if s.is_closed then closing R s.octets else [])
 pub record History : Type 0 where
   pub begun : ℕ  -- how many streams have begun
   pub stream_of : ℕ → ℕ  -- the number of each flow's last stream, by the flow's id; 0 without one
-  pub has_room : ℕ → Bool  -- whether the stream of each number began in a flow with a room
+  pub has_slot : ℕ → Bool  -- whether the stream of each number began in a flow with a slot
   pub stream : ℕ → StreamHistory  -- the history of the stream of each number
 
 abbrev pub no_history : History
 no_history = record {
   begun = 0;
   stream_of = λ flow. 0;
-  has_room = λ number. false;
+  has_slot = λ number. false;
   stream = λ number. new_stream;
 }
 
 -- after a stream of this number has begun in the flow of this id; the Bool tells whether the flow's
--- connection has a room
+-- connection has a slot
 abbrev pub with_begun : History → ℕ → ℕ → Bool → History
 with_begun h id number true =
     record h {
       begun = counted h.begun;
       stream_of = λ flow. if flow == id then number else h.stream_of flow;
-      has_room = λ n. if n == number then true else h.has_room n;
+      has_slot = λ n. if n == number then true else h.has_slot n;
     }
 with_begun h id number false = record h { begun = counted h.begun }
 

@@ -17,7 +17,7 @@ ghost use Rattle.giop_conversation.specs.DumpHeld.{HasCalls, HoldsConnection, Re
 
 use crate::direction::Direction;
 use crate::exchange::Exchange;
-use crate::limits::{Limits, NoMemory};
+use crate::limits::{Limits, MemoryError};
 use crate::lines::Opening;
 use crate::tagged::Tagged;
 use giop_print::{Out, OutFault};
@@ -69,7 +69,7 @@ impl<'a> Conversation<'a> {
         catalogue: &'a Catalogue,
         requests: &'a Requests,
         limits: Limits,
-    ) -> Result<Conversation<'a>, NoMemory>
+    ) -> Result<Conversation<'a>, MemoryError>
         requires of { AreOf catalogue.now requests.now }
         requires range { (1 ≤ limits.messages) × (limits.messages ≤ most_open) }
         ensures even { IfOk result (λ c. HasRead c.even.engine []) }
@@ -87,7 +87,7 @@ impl<'a> Conversation<'a> {
     }
 
     /// Makes a flow the one that is read. If the other flow was read before, the calls of the exchange change sides.
-    fn face(&mut self, side: Side)
+    fn turn_to(&mut self, side: Side)
         ensures even { self.new.even ≡ self.old.even }
         ensures odd { self.new.odd ≡ self.old.odd }
         ensures value { self.new.side ≡ side }
@@ -108,7 +108,7 @@ impl<'a> Conversation<'a> {
         ensures held { (S : Setup) (c : Connection) → HoldsConnection S self.old c →
             HoldsConnection S self.new (opened side flow c) }
     {
-        self.face(side);
+        self.turn_to(side);
         self.exchange.forget();
         match side {
             Side::Even => self.even.open(flow),
@@ -181,7 +181,7 @@ impl<'a> Conversation<'a> {
     {
         answers_agree();
         answers_go_on::<Exchange<'a>>();
-        self.face(side);
+        self.turn_to(side);
         match side {
             Side::Even => self.even.read(&mut self.exchange, octets, arrival, out),
             Side::Odd => self.odd.read(&mut self.exchange, octets, arrival, out),

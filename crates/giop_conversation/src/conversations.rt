@@ -10,12 +10,12 @@ ghost use Rattle.giop_conversation.specs.Failing.{FailsOnce};
 ghost use Rattle.giop_conversation.specs.Seen.{IsSeen};
 ghost use Rattle.giop_conversation.specs.Follows.{Follows};
 ghost use Rattle.giop_conversation.specs.Captured.{Setup, setup, cuts, sum_within as spec_sum_within};
-ghost use Rattle.giop_conversation.specs.DumpHeld.{HasToldFront, HasFinished, HasFinishedFront};
-ghost use Rattle.giop_conversation.specs.DumpTold.{Told};
+ghost use Rattle.giop_conversation.specs.DumpHeld.{HasWrittenFront, HasFinished, HasFinishedFront};
+ghost use Rattle.giop_conversation.specs.DumpWritten.{IsWritten};
 ghost use Rattle.giop_conversation.specs.Followed.{reader_faulted, reader_lacking};
 
 use crate::conversation::{Conversation, side_of};
-use crate::limits::{Limits, NoMemory};
+use crate::limits::{Limits, MemoryError};
 use crate::lines::{CaptureTotals, capture_fault_line, capture_total_line};
 use crate::tag::no_tag;
 use crate::tagged::Tagged;
@@ -57,11 +57,11 @@ fn is_faulted(cut: bool, faults: u64) -> bool
 }
 
 /// All connections of a capture, with an `Out` for their lines. A flow is named by its id: half of the id is the index of
-/// the connection's room, and its last bit tells which of the two flows it is. A flow whose connection has no room is
+/// the connection's slot, and its last bit tells which of the two flows it is. A flow whose connection has no slot is
 /// ignored. After a failed put nothing more is written, and each call that writes fails.
 #[derive(Drop)]
 pub struct Conversations<'a, O: Out + Drop> {
-    rooms: Vec<Conversation<'a>>,
+    slots: Vec<Conversation<'a>>,
     out: Tagged<O>,
     arrival: Arrival,
     // The number of the first stream.
@@ -78,21 +78,21 @@ impl<'a, O: Out + Drop> Conversations<'a, O> {
         requests: &'a Requests,
         limits: Limits,
         out: O,
-    ) -> Result<Conversations<'a, O>, NoMemory>
+    ) -> Result<Conversations<'a, O>, MemoryError>
         requires of { AreOf catalogue.now requests.now }
         requires range { (1 ≤ limits.messages) × (limits.messages ≤ most_open) }
         ensures follows { IfOk result (λ c. Follows c []) }
-        ensures rooms { IfOk result (λ c. vec_len c.rooms ≡ limits.connections) }
+        ensures slots { IfOk result (λ c. vec_len c.slots ≡ limits.connections) }
         ensures fails { IfOk result (λ c. c.out.failures ≡ 0) }
         ensures told { (written : List ℕ) → (O.log out).written ≡ Some written → IfOk result (λ c.
-            Told (setup catalogue.now limits.messages limits.calls limits.connections
+            IsWritten (setup catalogue.now limits.messages limits.calls limits.connections
             limits.first_stream) written [] c) }
     {
-        let mut rooms = Vec::with_capacity(alloc, limits.connections as usize)?;
-        for _room in 0..limits.connections {
+        let mut slots = Vec::with_capacity(alloc, limits.connections as usize)?;
+        for _slot in 0..limits.connections {
             let conversation = Conversation::new(alloc, catalogue, requests, limits)?;
-            let Ok(()) = rooms.push(conversation) else {
-                return Err(NoMemory);
+            let Ok(()) = slots.push(conversation) else {
+                return Err(MemoryError);
             };
         }
         let totals = CaptureTotals {
@@ -104,7 +104,7 @@ impl<'a, O: Out + Drop> Conversations<'a, O> {
             others: 0,
         };
         Ok(Conversations {
-            rooms,
+            slots,
             out: Tagged::new(out),
             arrival: Arrival {
                 time: None,
@@ -117,27 +117,27 @@ impl<'a, O: Out + Drop> Conversations<'a, O> {
     }
 
     /// Notes the packet: what begins or is delivered next came in it.
-    pub fn comes_from(&mut self, arrival: Arrival)
+    pub fn on_arrival(&mut self, arrival: Arrival)
         ensures value { self.new ≡ record self.old { arrival = arrival } }
         ensures told { (S : Setup) (written : List ℕ) (events : List Event) →
-            Told S written events self.old →
-            Told S written (events ++ OfCapture (ComesFrom arrival) ∷ []) self.new }
+            IsWritten S written events self.old →
+            IsWritten S written (events ++ OfCapture (ComesFrom arrival) ∷ []) self.new }
     {
         self.arrival = arrival;
     }
 
     /// Gives an id to a flow. Nothing of the flow has come yet. Calls that were kept of the flow that had the id before are
     /// forgotten.
-    pub fn opens(&mut self, flow: u32, endpoints: Flow)
+    pub fn on_open(&mut self, flow: u32, endpoints: Flow)
         ensures follows { (events : List Event) → Follows self.old events →
             Follows self.new (events ++ Opens flow endpoints ∷ []) }
         ensures kept { self.new.out ≡ self.old.out }
         ensures told { (S : Setup) (written : List ℕ) (events : List Event) →
-            Told S written events self.old →
-            Told S written (events ++ Opens flow endpoints ∷ []) self.new }
+            IsWritten S written events self.old →
+            IsWritten S written (events ++ Opens flow endpoints ∷ []) self.new }
     {
-        match self.rooms.get_mut(flow as usize / 2) {
-            Some(room) => room.open(side_of(flow), endpoints),
+        match self.slots.get_mut(flow as usize / 2) {
+            Some(slot) => slot.open(side_of(flow), endpoints),
             None => {}
         }
     }
@@ -150,14 +150,15 @@ impl<'a, O: Out + Drop> Conversations<'a, O> {
     }
 
     /// Begins a stream of a flow. Its number is one more than the number of the stream that began before it.
-    pub fn begins(&mut self, flow: u32, start: Start) -> Result<(), OutFault>
+    pub fn on_begin(&mut self, flow: u32, start: Start) -> Result<(), OutFault>
         ensures follows { (events : List Event) → Follows self.old events →
             OnOk result (Follows self.new (events ++ Begins flow start ∷ [])) }
         // After this the text below is the text of all events; after a failure, a front of it.
         ensures told { (S : Setup) (written : List ℕ) (events : List Event) →
-            Told S written events self.old →
-            MatchResult result (λ _. Told S written (events ++ Begins flow start ∷ []) self.new)
-            (λ _. HasToldFront S written (events ++ Begins flow start ∷ []) self.new.out) }
+            IsWritten S written events self.old →
+            MatchResult result (λ _. IsWritten S written (events ++ Begins flow start ∷ [])
+            self.new)
+            (λ _. HasWrittenFront S written (events ++ Begins flow start ∷ []) self.new.out) }
         ensures fails { FailsOnce result self.new.out }
         // If a put has failed before, nothing is written.
         ensures still { 0 < self.old.out.failures → self.new.out ≡ self.old.out }
@@ -167,10 +168,10 @@ impl<'a, O: Out + Drop> Conversations<'a, O> {
         }
         let number = self.next_number();
         self.totals.streams = sum_within(self.totals.streams, 1);
-        match self.rooms.get_mut(flow as usize / 2) {
-            Some(room) => {
+        match self.slots.get_mut(flow as usize / 2) {
+            Some(slot) => {
                 let time = self.arrival.time;
-                room.begin(side_of(flow), number, time, start, &mut self.out)
+                slot.begin(side_of(flow), number, time, start, &mut self.out)
             }
             None => Ok(()),
         }
@@ -178,16 +179,17 @@ impl<'a, O: Out + Drop> Conversations<'a, O> {
 
     /// Reads the next octets of a flow's stream. If the stream has a stream fault, returns the number of the octet at which
     /// it has it, from 1.
-    pub fn delivers(&mut self, flow: u32, octets: &[u8]) -> Result<Option<u64>, OutFault>
+    pub fn on_octets(&mut self, flow: u32, octets: &[u8]) -> Result<Option<u64>, OutFault>
         ensures follows { (events : List Event) → Follows self.old events → IfOk result (λ at.
             Follows self.new (events ++ Delivers flow octets.now ∷ [])
             × (at ≡ reader_faulted (events ++ Delivers flow octets.now ∷ []))) }
         // After this the text below is the text of all events; after a failure, a front of it.
         ensures told { (S : Setup) (written : List ℕ) (events : List Event) →
-            Told S written events self.old →
-            MatchResult result (λ _. Told S written (events ++ Delivers flow octets.now ∷ [])
+            IsWritten S written events self.old →
+            MatchResult result (λ _. IsWritten S written (events ++ Delivers flow octets.now ∷ [])
             self.new)
-            (λ _. HasToldFront S written (events ++ Delivers flow octets.now ∷ []) self.new.out) }
+            (λ _. HasWrittenFront S written (events ++ Delivers flow octets.now ∷ [])
+            self.new.out) }
         ensures fails { FailsOnce result self.new.out }
         // If a put has failed before, nothing is written.
         ensures still { 0 < self.old.out.failures → self.new.out ≡ self.old.out }
@@ -195,9 +197,9 @@ impl<'a, O: Out + Drop> Conversations<'a, O> {
         if self.out.has_failed() {
             return Err(OutFault);
         }
-        match self.rooms.get_mut(flow as usize / 2) {
-            Some(room) => room.read(side_of(flow), octets, self.arrival, &mut self.out),
-            // The flow has no room, so nothing is known of its stream.
+        match self.slots.get_mut(flow as usize / 2) {
+            Some(slot) => slot.read(side_of(flow), octets, self.arrival, &mut self.out),
+            // The flow has no slot, so nothing is known of its stream.
             None => Err(self.out.refuse()),
         }
     }
@@ -215,22 +217,23 @@ impl<'a, O: Out + Drop> Conversations<'a, O> {
         if self.out.has_failed() {
             return Err(OutFault);
         }
-        match self.rooms.get(flow as usize / 2) {
-            Some(room) => Ok(room.lacking(side_of(flow))),
-            // The flow has no room, so nothing is known of its stream.
+        match self.slots.get(flow as usize / 2) {
+            Some(slot) => Ok(slot.lacking(side_of(flow))),
+            // The flow has no slot, so nothing is known of its stream.
             None => Err(self.out.refuse()),
         }
     }
 
     /// Closes the stream of a flow.
-    pub fn closes(&mut self, flow: u32, cause: CloseCause) -> Result<(), OutFault>
+    pub fn on_close(&mut self, flow: u32, cause: CloseCause) -> Result<(), OutFault>
         ensures follows { (events : List Event) → Follows self.old events →
             OnOk result (Follows self.new (events ++ Closes flow cause ∷ [])) }
         // After this the text below is the text of all events; after a failure, a front of it.
         ensures told { (S : Setup) (written : List ℕ) (events : List Event) →
-            Told S written events self.old →
-            MatchResult result (λ _. Told S written (events ++ Closes flow cause ∷ []) self.new)
-            (λ _. HasToldFront S written (events ++ Closes flow cause ∷ []) self.new.out) }
+            IsWritten S written events self.old →
+            MatchResult result (λ _. IsWritten S written (events ++ Closes flow cause ∷ [])
+            self.new)
+            (λ _. HasWrittenFront S written (events ++ Closes flow cause ∷ []) self.new.out) }
         ensures fails { FailsOnce result self.new.out }
         // If a put has failed before, nothing is written.
         ensures still { 0 < self.old.out.failures → self.new.out ≡ self.old.out }
@@ -238,8 +241,8 @@ impl<'a, O: Out + Drop> Conversations<'a, O> {
         if self.out.has_failed() {
             return Err(OutFault);
         }
-        match self.rooms.get_mut(flow as usize / 2) {
-            Some(room) => match room.close(side_of(flow), cause, &mut self.out) {
+        match self.slots.get_mut(flow as usize / 2) {
+            Some(slot) => match slot.close(side_of(flow), cause, &mut self.out) {
                 Ok(totals) => {
                     self.totals.messages = sum_within(self.totals.messages, totals.messages);
                     self.totals.faults = sum_within(self.totals.faults, totals.faults);
@@ -253,13 +256,13 @@ impl<'a, O: Out + Drop> Conversations<'a, O> {
     }
 
     /// Counts a payload that was looked through, and in which no stream begins.
-    pub fn passes(&mut self)
+    pub fn on_pass(&mut self)
         ensures follows { (events : List Event) (octets : List ℕ) → Follows self.old events →
             Follows self.new (events ++ OfCapture (Passes octets) ∷ []) }
         ensures kept { self.new.out ≡ self.old.out }
         ensures told { (S : Setup) (written : List ℕ) (events : List Event) (octets : List ℕ) →
-            Told S written events self.old →
-            Told S written (events ++ OfCapture (Passes octets) ∷ []) self.new }
+            IsWritten S written events self.old →
+            IsWritten S written (events ++ OfCapture (Passes octets) ∷ []) self.new }
     {
         self.totals.others = sum_within(self.totals.others, 1);
     }
@@ -270,10 +273,10 @@ impl<'a, O: Out + Drop> Conversations<'a, O> {
             OnOk result (Follows self.new events) }
         // After this the text below is the text of all events; after a failure, a front of it.
         ensures told { (S : Setup) (written : List ℕ) (events : List Event) →
-            Told S written events self.old →
-            MatchResult result (λ _. Told S written
+            IsWritten S written events self.old →
+            MatchResult result (λ _. IsWritten S written
             (events ++ OfCapture (HasFault word.now at) ∷ []) self.new)
-            (λ _. HasToldFront S written (events ++ OfCapture (HasFault word.now at) ∷ [])
+            (λ _. HasWrittenFront S written (events ++ OfCapture (HasFault word.now at) ∷ [])
             self.new.out) }
         ensures fails { FailsOnce result self.new.out }
         // If a put has failed before, nothing is written.
@@ -297,7 +300,7 @@ impl<'a, O: Out + Drop> Conversations<'a, O> {
             is_faulted ≡ (self.old.cut || nat_lt 0 self.old.totals.faults)) }
         // After this the text below is the text of all events, and then the last line; after a failure, a front of them.
         ensures told { (S : Setup) (written : List ℕ) (events : List Event) →
-            Told S written events self.old →
+            IsWritten S written events self.old →
             MatchResult result
             (λ is_faulted. HasFinished S written events packets octets self.new.out is_faulted)
             (λ _. HasFinishedFront S written events packets octets self.new.out) }
@@ -312,7 +315,7 @@ impl<'a, O: Out + Drop> Conversations<'a, O> {
         Ok(is_faulted(self.cut, self.totals.faults))
     }
 
-    /// Whether a call has failed without a put: octets came in a flow without a room, or more octets would have been
+    /// Whether a call has failed without a put: octets came in a flow without a slot, or more octets would have been
     /// written than can be counted.
     pub fn is_full(&self) -> bool
         ensures { result ≡ self.now.out.full }

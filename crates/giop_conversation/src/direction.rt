@@ -29,7 +29,7 @@ use crate::tag::{Tag, stream_tag};
 use crate::tagged::Tagged;
 use giop_print::{Out, OutFault};
 use giop_sig::{Catalogue, Requests};
-use giop_stream::{Engine, Fed, NewFault, Status, Totals, answers_agree, answers_go_on};
+use giop_stream::{Engine, Fed, NewError, Status, Totals, answers_agree, answers_go_on};
 use std::alloc::Global;
 use std::marker::Model;
 use tcp_flow::CloseCause;
@@ -76,7 +76,7 @@ impl<'a> Direction<'a> {
         catalogue: &'a Catalogue,
         requests: &'a Requests,
         messages: u32,
-    ) -> Result<Direction<'a>, NewFault>
+    ) -> Result<Direction<'a>, NewError>
         requires of { AreOf catalogue.now requests.now }
         requires range { (1 ≤ messages) × (messages ≤ most_open) }
         ensures read { IfOk result (λ d. HasRead d.engine []) }
@@ -269,7 +269,7 @@ impl<'a> Direction<'a> {
         answers_are_known();
         // The exchange gets the catalogue of the engine, so each operation that is answered is in the engine's catalogue.
         exchange.set_catalogue(self.catalogue);
-        exchange.read_in(self.stream, arrival);
+        exchange.note_packet(self.stream, arrival);
         out.set_tag(self.tag.copied());
         let mut at = 0;
         loop {

@@ -120,7 +120,7 @@ impl<'a> Exchange<'a> {
     }
 
     /// Notes the number of the stream that is read, and the packet in which its next octets came.
-    pub fn read_in(&mut self, stream: u64, arrival: Arrival)
+    pub fn note_packet(&mut self, stream: u64, arrival: Arrival)
         ensures { self.new ≡ record self.old {
           stream = stream;
           arrival = arrival;
@@ -135,8 +135,8 @@ impl<'a> Exchange<'a> {
         self.forget_reply();
     }
 
-    /// The number of the last Reply whose header has ended in the octets that were read since `read_in`; 0 if there is
-    /// none.
+    /// The number of the last Reply whose header has ended in the octets that were read since `note_packet`; 0 if
+    /// there is none.
     pub fn replied(&self) -> u64
         ensures { result ≡ self.now.replied }
     {
@@ -261,7 +261,7 @@ impl<'a> Correspondent for Exchange<'a> {
         }
     }
 
-    fn called(
+    fn on_call(
         &mut self,
         number: u64,
         id: u32,
@@ -286,7 +286,7 @@ impl<'a> Correspondent for Exchange<'a> {
         }
     }
 
-    fn answered(&mut self, number: u64, id: u32) {
+    fn on_answer(&mut self, number: u64, id: u32) {
         self.replied = number;
         self.answered = match self.calls.take(id) {
             Some(call) => Some(Answering {
@@ -297,7 +297,7 @@ impl<'a> Correspondent for Exchange<'a> {
         };
     }
 
-    fn raised(&mut self, number: u64, name: &[u8]) {
+    fn on_exception(&mut self, number: u64, name: &[u8]) {
         self.raised = kept_exception(number, name);
     }
 

@@ -61,17 +61,17 @@ pub fn each_stream_is_dumped()
         (leads : Leads S (start S written) events d) → AreGapless events →
         (number : ℕ) → IsUnique number →
         ((history S no_history (start S written) events d leads).stream number).goes_on ≡ false }
-    // If each stream has closed in the end, each stream whose connection has a room is closed in its history.
+    // If each stream has closed in the end, each stream whose connection has a slot is closed in its history.
     ensures closes { (S : Setup) (written : List ℕ) (events : List Event) (d : Dump)
         (leads : Leads S (start S written) events d) → AreWhole events → (number : ℕ) →
-        (history S no_history (start S written) events d leads).has_room number ≡ true →
+        (history S no_history (start S written) events d leads).has_slot number ≡ true →
         ((history S no_history (start S written) events d leads).stream number).is_closed ≡ true }
-    // If each event of a flow is of a connection with a room, each stream that began has a room.
-    ensures rooms { (S : Setup) (written : List ℕ) (events : List Event) (d : Dump)
+    // If each event of a flow is of a connection with a slot, each stream that began has a slot.
+    ensures slots { (S : Setup) (written : List ℕ) (events : List Event) (d : Dump)
         (leads : Leads S (start S written) events d) →
         Each (λ e. (id : ℕ) → flow_of e ≡ Some id → id / 2 < S.connections) events → (k : ℕ) →
         k < (history S no_history (start S written) events d leads).begun →
-        (history S no_history (start S written) events d leads).has_room (number_in S k) ≡ true }
+        (history S no_history (start S written) events d leads).has_slot (number_in S k) ≡ true }
 {
     answers_agree();
 }

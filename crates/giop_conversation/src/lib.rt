@@ -22,7 +22,7 @@ pub use kept_second::put_time;
 pub use laws::{
     each_stream_is_dumped, events_lead_to_one_text, lines_stand_below, lines_with_tags,
 };
-pub use limits::{Limits, NoMemory};
+pub use limits::{Limits, MemoryError};
 pub use lines::{
     CaptureTotals, Opening, answers_line, capture_fault_line, capture_total_line, closed_line,
     raises_line, stream_line, time_line,

@@ -1,6 +1,6 @@
 //! The limits of what is kept of the connections of a capture, and the number of its first stream.
 
-use giop_stream::NewFault;
+use giop_stream::NewError;
 use std::alloc::AllocError;
 
 /// How many connections are kept, how much is kept of each, and the number at which streams begin.
@@ -18,16 +18,16 @@ pub struct Limits {
 
 /// There isn't enough memory for the limits.
 #[derive(Clone, Copy, Debug, PartialEq, Eq)]
-pub struct NoMemory;
+pub struct MemoryError;
 
-impl From<AllocError> for NoMemory {
-    fn from(_fault: AllocError) -> NoMemory {
-        NoMemory
+impl From<AllocError> for MemoryError {
+    fn from(_fault: AllocError) -> MemoryError {
+        MemoryError
     }
 }
 
-impl From<NewFault> for NoMemory {
-    fn from(_fault: NewFault) -> NoMemory {
-        NoMemory
+impl From<NewError> for MemoryError {
+    fn from(_fault: NewError) -> MemoryError {
+        MemoryError
     }
 }

@@ -17,8 +17,8 @@ use std::marker::Model;
 use std::simd::prelude::*;
 
 /// An `Out` that puts a tag in front of each line, in whatever pieces the lines come. It fails only if the out below fails,
-/// or if it is full: more than 2^64 - 1 octets would have been written since the tag was set, or its owner has no room for
-/// what it should read.
+/// or if it is full: more than 2^64 - 1 octets would have been written since the tag was set, or its owner refused what
+/// it should read.
 #[derive(Drop)]
 pub struct Tagged<O: Out> {
     out: O,
@@ -109,7 +109,7 @@ impl<O: Out> Tagged<O> {
         self.is_full
     }
 
-    /// Fails without a put, because there is no room.
+    /// Fails without a put: it is full from now on.
     pub fn refuse(&mut self) -> OutFault
         ensures { self.new ≡ record self.old { full = true; failures = counted self.old.failures } }
     {

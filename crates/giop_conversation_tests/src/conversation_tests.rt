@@ -85,25 +85,25 @@ const FOUND: Start = Start {
 
 /// Tells conversations of a call and its reply. The reply comes in pieces of this size.
 fn tell(conversations: &mut Conversations<Sheet>, size: usize) -> Result<bool, OutFault> {
-    conversations.opens(0, ASKING);
-    conversations.opens(1, ASKING.opposite());
-    conversations.comes_from(Arrival {
+    conversations.on_open(0, ASKING);
+    conversations.on_open(1, ASKING.opposite());
+    conversations.on_arrival(Arrival {
         time: Some(SECOND),
         packet: 1,
     });
-    conversations.begins(0, FIRST)?;
-    conversations.delivers(0, &REQUEST)?;
-    conversations.comes_from(Arrival {
+    conversations.on_begin(0, FIRST)?;
+    conversations.on_octets(0, &REQUEST)?;
+    conversations.on_arrival(Arrival {
         time: Some(2 * SECOND),
         packet: 2,
     });
-    conversations.passes();
-    conversations.begins(1, FOUND)?;
+    conversations.on_pass();
+    conversations.on_begin(1, FOUND)?;
     for piece in REPLY.chunks(size.max(1)) {
-        conversations.delivers(1, piece)?;
+        conversations.on_octets(1, piece)?;
     }
-    conversations.closes(0, CloseCause::End)?;
-    conversations.closes(1, CloseCause::End)?;
+    conversations.on_close(0, CloseCause::End)?;
+    conversations.on_close(1, CloseCause::End)?;
     conversations.finish(2, 204)
 }
 

@@ -20,15 +20,15 @@ fn at(time: u128) -> Arrival {
 fn a_reply_answers_the_call_of_the_other_direction(rt: HostRuntime) -> Result<(), Fail> {
     let catalogue = Catalogue::parse(rt.alloc(), b"signatures 1; operation void ping();")?;
     let mut exchange = Exchange::new(rt.alloc(), &catalogue, 2)?;
-    exchange.read_in(7, at(5));
-    exchange.called(3, 9, Some(PING), Some(OpId(0)), true);
-    exchange.called(4, 10, Some(PING), Some(OpId(0)), false);
+    exchange.note_packet(7, at(5));
+    exchange.on_call(3, 9, Some(PING), Some(OpId(0)), true);
+    exchange.on_call(4, 10, Some(PING), Some(OpId(0)), false);
     assert!(rt; exchange.operation(9).is_none());
     exchange.turn();
-    exchange.read_in(8, at(6));
+    exchange.note_packet(8, at(6));
     assert!(rt; exchange.operation(9) == catalogue.operation(PING));
     assert!(rt; exchange.operation(10).is_none());
-    exchange.answered(2, 9);
+    exchange.on_answer(2, 9);
     assert!(rt; exchange.replied() == 2);
     assert!(rt; exchange.operation(9).is_none());
     assert!(rt; exchange.answering().is_some() && exchange.is_due());
@@ -48,11 +48,11 @@ fn calls_that_are_forgotten_have_no_answer(rt: HostRuntime) -> Result<(), Fail> 
     let catalogue = Catalogue::parse(rt.alloc(), b"signatures 1; operation void ping();")?;
     answers_are_known();
     let mut exchange = Exchange::new(rt.alloc(), &catalogue, 2)?;
-    exchange.called(3, 9, Some(PING), Some(OpId(0)), true);
+    exchange.on_call(3, 9, Some(PING), Some(OpId(0)), true);
     exchange.forget();
     exchange.turn();
     assert!(rt; exchange.operation(9).is_none());
-    exchange.answered(2, 9);
+    exchange.on_answer(2, 9);
     assert!(rt; exchange.replied() == 2);
     assert!(rt; exchange.answering().is_none());
     Ok(())

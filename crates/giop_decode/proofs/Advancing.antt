@@ -4,14 +4,14 @@ use Rattle.giop_decode.specs.declared.leaf.Transition.{Transition}
 use Rattle.giop_decode.specs.declared.leaf.Transition.TheVariants as transitions
 use Rattle.giop_decode.specs.declared.progress.Progress.{Progress}
 use Rattle.giop_decode.specs.declared.progress.Progress.TheVariants as progress
-use Rattle.giop_decode.specs.ReadResult.{Coding, IsEvenFrom, PathSegment, Line, OpenPart, Read, Done, Short, Fault, lines_of, Leaf, coded, with_front}
+use Rattle.giop_decode.specs.ReadResult.{Coding, IsEvenFrom, PathSegment, ValueAt, OpenPart, Read, Done, Short, Fault, lines_of, Leaf, coded, with_front}
 use Rattle.giop_decode.specs.Reading.{cut_off}
 use Rattle.giop_decode.specs.ReadingSteps.{around, heard_parts, IsRule}
 use Rattle.giop_decode.proofs.OctetResults.{Mute, around_mute, mute_enclosed, mute_lines}
 use Rattle.giop_decode.proofs.Surrounding.{front_shut, surrounds}
 use Rattle.std.specs.Prelude.{cond}
-use Rattle.giop_decode.specs.declared.progress.Kind.{Kind}
-use Rattle.giop_decode.specs.declared.progress.Kind.TheVariants as kinds
+use Rattle.giop_decode.specs.declared.progress.ValueFault.{ValueFault}
+use Rattle.giop_decode.specs.declared.progress.ValueFault.TheVariants as kinds
 use Rattle.giop_decode.proofs.Resuming.{lines_front}
 use Rattle.giop_decode.proofs.Enclosing.{with_front-enclosed}
 use Rattle.giop_decode.specs.Begins.{start_leaf, start_outer}
@@ -59,7 +59,7 @@ pub stands_at : (C : Table) (d : Decoder) (f : Fits C d) (leaf : Innermost) → 
 stands_at C d f leaf e = search (arith, same_some, stands)
 
 going_by : (C : Table) (d : Decoder) (named ended : Bool) (leaf : Option Innermost)
-    (lines : List Line) (at : ℕ) (p : Progress) (r : Read) →
+    (lines : List ValueAt) (at : ℕ) (p : Progress) (r : Read) →
     named ≡ names_operation (is_header_root d.head.root) lines → ended ≡ has_ended d.outer.items →
     d.leaf ≡ leaf → r ≡ stopped C d leaf lines at → IsGoing named ended leaf p →
     Comes C d p at r
@@ -72,7 +72,7 @@ going_by C d false false (Some leaf) lines at p r n k is e h =
     rw h (lines, (rw is (rw (← k) at e), (leaf, is), sym n))
 
 pub comes_by : (C : Table) (T : Ty) (d : Decoder) (named ended : Bool) (transition : Transition)
-    (lines : List Line) (at : ℕ) (p : Progress) (r : Read) →
+    (lines : List ValueAt) (at : ℕ) (p : Progress) (r : Read) →
     named ≡ names_operation (is_header_root d.head.root) lines → ended ≡ has_ended d.outer.items →
     r ≡ transition_result C T d transition lines at →
     IsProgress named ended transition d.leaf p → Comes C d p at r
@@ -83,7 +83,7 @@ comes_by C T d named ended _ lines at p r n k e h = search (arith, going_by)
 -- the decoder's value goes on: the reading has some lines, and then what the fields of the decoder
 -- stand for
 pub record Goes (C : Table) (d : Decoder) (at : ℕ) (r : Read) : Type 0 where
-  pub lines : List Line
+  pub lines : List ValueAt
   pub is : r ≡ read_by_fields C d lines at
   pub leaf : Innermost
   pub goes_on : d.leaf ≡ Some leaf
@@ -111,7 +111,7 @@ pub unended : (named ended : Bool) (transition : Transition) (leaf : Option Inne
 unended named ended (transitions.Refused kind) leaf p h g = absurd (rw h at g)
 unended named ended _ leaf p h g = search (arith, going_unended)
 
-fits_in : (T : Ty) (end at : ℕ) (C : Table) (d : Decoder) (lines : List Line) (leaf : Innermost)
+fits_in : (T : Ty) (end at : ℕ) (C : Table) (d : Decoder) (lines : List ValueAt) (leaf : Innermost)
     (r : Read) → Sound T end r → r ≡ read_by_fields C d lines at → d.leaf ≡ Some leaf →
     FitsIn T (open_parts C at d.outer.items)
     (leaf_of C d.outer.items leaf d.carry d.piece.items)
@@ -178,13 +178,14 @@ pub fits_allowed : (T : Ty) (of : ℕ) (transition : Transition) (carry piece : 
 fits_allowed T of (transitions.Refused kind) carry piece fits = fits
 fits_allowed T of transition carry piece fits = tt
 
-recursed_front : (T : Ty) (fits : Bool) (count : ℕ) (lines : List Line) (at : ℕ) →
+recursed_front : (T : Ty) (fits : Bool) (count : ℕ) (lines : List ValueAt) (at : ℕ) →
     recursed T fits count lines at ≡ with_front lines (recursed T fits count [] at)
 recursed_front T true count lines at = rw append-nil refl
 recursed_front T false count lines at = rw append-nil refl
 
 -- the lines of a transition come before everything that it makes
-pub transition_front : (T : Ty) (transition : Transition) (carry piece : List ℕ) (lines : List Line)
+pub transition_front : (T : Ty) (transition : Transition) (carry piece : List ℕ) (lines : List
+    ValueAt)
     (at : ℕ) → after_transition T transition carry piece lines at
     ≡ with_front lines (after_transition T transition carry piece [] at)
 transition_front T (transitions.More leaf) carry piece lines at = rw append-nil refl
@@ -202,7 +203,7 @@ transition_front T (transitions.Entered order count) carry piece lines at =
     (sym (append-nil lines))
     ∙ with_front-enclosed lines [] T (coded order (at - 1)) (at + (count - 1)) none_left inner []
 
-lines_mute : (coding : Coding) (path : List PathSegment) (ps : List OpenPart) (lines : List Line)
+lines_mute : (coding : Coding) (path : List PathSegment) (ps : List OpenPart) (lines : List ValueAt)
     (at : ℕ) (r : Read) → Mute at r → lines_of (around coding path ps (with_front lines r)) ≡ lines
 lines_mute coding path ps lines at r mute =
     let inner = around coding path (heard_parts lines ps) r in
@@ -216,7 +217,7 @@ recursed_mute T true count at = (refl, refl)
 recursed_mute T false count at = (refl, refl, tt)
 
 lines_turned : (coding : Coding) (path : List PathSegment) (ps : List OpenPart)
-    (T : Ty) (transition : Transition) (carry piece : List ℕ) (lines : List Line) (at : ℕ) →
+    (T : Ty) (transition : Transition) (carry piece : List ℕ) (lines : List ValueAt) (at : ℕ) →
     IsAllowed transition →
     lines_of (around coding path ps (after_transition T transition carry piece lines at)) ≡ lines
 lines_turned coding path ps T (transitions.Refused kind) carry piece lines at rule =
@@ -263,7 +264,8 @@ lines_turned coding path ps T transitions.Ended carry piece lines at rule =
     ∙ lines_mute coding path ps lines at (Done [] at []) (refl, refl, refl)
 
 -- reading a whole changes a result only if it stops at octets of no type, which this one doesn't
-pub rooted_to : (ended : Bool) (lines : List Line) (at : ℕ) (outer : List OpenPart) (leaf : Leaf) →
+pub rooted_to : (ended : Bool) (lines : List ValueAt) (at : ℕ) (outer : List OpenPart) (leaf :
+    Leaf) →
     rooted none_left (cond ended (Fault lines at kinds.EncapShort (cut_off leaf))
     (Short lines at outer leaf)) ≡ cond ended (Fault lines at kinds.EncapShort (cut_off leaf))
     (Short lines at outer leaf)
@@ -271,7 +273,7 @@ rooted_to true lines at outer leaf = refl
 rooted_to false lines at outer leaf = refl
 
 rooted_stopped : (C : Table) (frames : List Frame) (carry piece : List ℕ) (leaf : Option Innermost)
-    (lines : List Line) (at : ℕ) →
+    (lines : List ValueAt) (at : ℕ) →
     rooted none_left (stopped_with C frames carry piece leaf lines at)
     ≡ stopped_with C frames carry piece leaf lines at
 rooted_stopped C frames carry piece None lines at = refl
@@ -279,17 +281,18 @@ rooted_stopped C frames carry piece (Some leaf) lines at =
     rooted_to (has_ended frames) lines at (open_parts C at frames) (leaf_of C frames leaf carry
     piece)
 
-pub rooted_fault : (lines : List Line) (at : ℕ) (kind : Kind) (T : Ty) → IsRule kind →
+pub rooted_fault : (lines : List ValueAt) (at : ℕ) (kind : ValueFault) (T : Ty) → IsRule kind →
     rooted none_left (Fault lines at kind T) ≡ Fault lines at kind T
 rooted_fault lines at kinds.Untyped T rule = absurd rule
 rooted_fault lines at kind T rule = refl
 
-pub rooted_gone : (C : Table) (lines : List Line) (at : ℕ) (frames : List Frame) (leaf : Leaf)
+pub rooted_gone : (C : Table) (lines : List ValueAt) (at : ℕ) (frames : List Frame) (leaf : Leaf)
     (r : Read) → r ≡ gone_to C lines at frames leaf →
     rooted none_left r ≡ gone_to C lines at frames leaf
 rooted_gone C lines at frames leaf r e = search (arith, rooted_to)
 
-pub rooted_result : (C : Table) (T : Ty) (d : Decoder) (transition : Transition) (lines : List Line)
+pub rooted_result : (C : Table) (T : Ty) (d : Decoder) (transition : Transition) (lines : List
+    ValueAt)
     (at : ℕ) → IsAllowed transition → rooted none_left (transition_result C T d transition lines at)
     ≡ transition_result C T d transition lines at
 rooted_result C T d (transitions.Refused kind) lines at rule = search (arith, rooted_fault)
@@ -299,7 +302,7 @@ rooted_result C T d transition lines at rule = search (arith, rooted_stopped)
 -- the parts around the innermost part add no lines to those of its transition
 pub lines_after_transition : (C : Table) (here : ℕ) (coding : Coding) (path : List PathSegment)
     (frames : List Frame) (T : Ty) (transition : Transition) (carry piece : List ℕ)
-    (lines : List Line) → IsAllowed transition →
+    (lines : List ValueAt) → IsAllowed transition →
     lines_of (rooted none_left (around coding path (open_parts C here frames)
     (after_transition T transition carry piece lines (here + 1)))) ≡ lines
 lines_after_transition C here coding path frames T transition carry piece lines rule =
@@ -307,7 +310,7 @@ lines_after_transition C here coding path frames T transition carry piece lines 
 
 -- ---- lines in front of a whole
 
-pub rooted_front : (lines : List Line) (r : Read) →
+pub rooted_front : (lines : List ValueAt) (r : Read) →
     rooted none_left (with_front lines r) ≡ with_front lines (rooted none_left r)
 rooted_front lines (Fault ls at kinds.Untyped S) = refl
 rooted_front lines (Fault ls at kind S) = refl
@@ -315,14 +318,16 @@ rooted_front lines (Done ls at rest) = refl
 rooted_front lines (Short ls at outer leaf) = refl
 
 front_stopped : (C : Table) (frames : List Frame) (carry piece : List ℕ) (leaf : Option Innermost)
-    (lines : List Line) (at : ℕ) → with_front lines (stopped_with C frames carry piece leaf [] at)
+    (lines : List ValueAt) (at : ℕ) → with_front lines (stopped_with C frames carry piece leaf []
+    at)
     ≡ stopped_with C frames carry piece leaf lines at
 front_stopped C frames carry piece None lines at = rw append-nil refl
 front_stopped C frames carry piece (Some leaf) lines at =
     front_shut (has_ended frames) lines at (open_parts C at frames) (leaf_of C frames leaf carry
     piece)
 
-pub front_result : (C : Table) (T : Ty) (d : Decoder) (transition : Transition) (lines : List Line)
+pub front_result : (C : Table) (T : Ty) (d : Decoder) (transition : Transition) (lines : List
+    ValueAt)
     (at : ℕ) → with_front lines (transition_result C T d transition [] at)
     ≡ transition_result C T d transition lines at
 front_result C T d (transitions.Refused kind) lines at = rw append-nil refl

@@ -5,11 +5,11 @@ use Rattle.giop_decode.specs.Begins.{start_leaf, start_outer}
 use Rattle.giop_decode.specs.Fits.{HasParts, Surrounds}
 use Rattle.giop_decode.specs.Pieces.{Partial, block}
 use Rattle.giop_decode.specs.Reading.{enclosed, led_segment, none_left, parts_from, read}
-use Rattle.giop_decode.specs.ReadResult.{Coding, Done, Fault, Index, Leaf, Line, Member, Name, Part, OpenPart, Read, PathSegment, Short, with_front, within, Held, Inside, Telling}
+use Rattle.giop_decode.specs.ReadResult.{Coding, Done, Fault, Index, Leaf, ValueAt, Member, Name, Part, OpenPart, Read, PathSegment, Short, with_front, within, Held, Inside, Telling}
 use Rattle.giop_decode.specs.ReadingSteps.{inner_path, around, part_at, path_in, resumed, segment_in, segment_of, coding_at, coding_in, after_told, heard_parts, IsRule}
 use Rattle.giop_sig.specs.Hearings.{hearing_in}
-use Rattle.giop_decode.specs.declared.progress.Kind.{Kind}
-use Rattle.giop_decode.specs.declared.progress.Kind.TheVariants as kinds
+use Rattle.giop_decode.specs.declared.progress.ValueFault.{ValueFault}
+use Rattle.giop_decode.specs.declared.progress.ValueFault.TheVariants as kinds
 use Rattle.giop_sig.specs.Fits.{IsFit}
 use Rattle.giop_sig.specs.Types.{Array, Sequence, Single, Struct, Ty, Union, part_of, Led, Recursive}
 use Rattle.giop_decode.proofs.Law.{with_front-followed, with_front-led, with_front-within, block_waits, number_none}
@@ -30,7 +30,7 @@ path_in-append path [] place = refl
 path_in-append path (p ∷ outer) place = path_in-append (path ++ segment_in p ∷ []) outer place
 
 pub around-short : (coding : Coding) (path : List PathSegment) (outer : List OpenPart)
-    (lines : List Line)
+    (lines : List ValueAt)
     (at : ℕ) (inner : List OpenPart) (leaf : Leaf) → Surrounds at outer →
     around coding path outer (Short lines at inner leaf)
     ≡ Short lines at (heard_parts lines outer ++ inner) leaf
@@ -53,15 +53,16 @@ heard_none [] = refl
 heard_none (Telling T told ∷ outer) = ap (λ ps. Telling T told ∷ ps) (heard_none outer)
 heard_none (place ∷ outer) = ap (λ ps. place ∷ ps) (heard_none outer)
 
-enclosed_fault : (path : List PathSegment) (T : Ty) (inner : Coding) (end : ℕ) (lines : List Line)
-    (at : ℕ) (kind : Kind) (S : Ty) → IsRule kind →
+enclosed_fault : (path : List PathSegment) (T : Ty) (inner : Coding) (end : ℕ) (lines : List
+    ValueAt)
+    (at : ℕ) (kind : ValueFault) (S : Ty) → IsRule kind →
     enclosed path T inner end none_left (Fault lines at kind S) [] ≡ Fault lines at kind S
 enclosed_fault path T inner end lines at kinds.Untyped S rule = absurd rule
 enclosed_fault path T inner end lines at kind S rule = refl
 
 pub around-fault : (coding : Coding) (path : List PathSegment) (outer : List OpenPart)
-    (lines : List Line)
-    (at : ℕ) (kind : Kind) (S : Ty) → IsRule kind →
+    (lines : List ValueAt)
+    (at : ℕ) (kind : ValueFault) (S : Ty) → IsRule kind →
     around coding path outer (Fault lines at kind S) ≡ Fault lines at kind S
 around-fault coding path [] lines at kind S rule = refl
 around-fault coding path (Part T i count ∷ outer) lines at kind S rule =
@@ -75,7 +76,7 @@ around-fault coding path (Telling T told ∷ outer) lines at kind S rule =
     rw (around-fault coding (path ++ segment_of T 0 ∷ []) outer lines at kind S rule) refl
 
 pub around-front : (coding : Coding) (path : List PathSegment) (outer : List OpenPart)
-    (front : List Line)
+    (front : List ValueAt)
     (r : Read) → around coding path outer (with_front front r)
     ≡ with_front front (around coding path (heard_parts front outer) r)
 around-front coding path [] front r = refl

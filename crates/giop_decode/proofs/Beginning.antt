@@ -6,7 +6,7 @@ use Rattle.giop_decode.specs.Begins.{start_outer, start_leaf}
 use Rattle.giop_decode.specs.Transitions.{IsWhole, IsWithinAs, open_part, part_as, parts_in_room, tree_in}
 use Rattle.giop_decode.specs.declared.frame.Frame.{Frame}
 use Rattle.giop_decode.specs.declared.frame.Stage.{Stage}
-use Rattle.giop_sig.specs.Types.{Ty, Struct, Array, Led, part_of, shape_in, HasPlace}
+use Rattle.giop_sig.specs.Types.{Ty, Struct, Array, Led, part_of, shape_in, HasIndex}
 use Rattle.giop_sig.specs.Fits.{IsFit}
 use Rattle.giop_sig.specs.Table.{Table}
 use Rattle.giop_sig.specs.Trees.{tree_at}
@@ -17,7 +17,7 @@ pub record Begins (d : ℕ) (T : Ty) (count : ℕ) (told : Option Stage) : Type 
       0)
   pub leaf : start_leaf T ≡ start_leaf (part_of T 0)
   pub fit : IsFit (pred d) (part_of T 0)
-  pub placed : HasPlace (shape_in T) 0
+  pub placed : HasIndex (shape_in T) 0
   pub some : told ≡ None → 0 < count
 
 pub begins : (d : ℕ) (T : Ty) (count : ℕ) (told : Option Stage) → IsFit d T →
@@ -90,7 +90,7 @@ whole_within (Led h F parts) count None some is = let e = is.1 in absurd cc
 whole_within T count told some is = absurd is
 
 pub whole_placed : (T : Ty) (count : ℕ) (told : Option Stage) → (told ≡ None → 0 < count) →
-    IsWhole T count told → HasPlace (shape_in T) 0
+    IsWhole T count told → HasIndex (shape_in T) 0
 whole_placed (Struct n names parts) count told some is = rw is.0 at (some is.1)
 whole_placed (Array n E) count told some is = tt
 whole_placed (Led h F parts) count told some is = tt

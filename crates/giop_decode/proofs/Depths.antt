@@ -13,7 +13,7 @@ use Rattle.giop_sig.proofs.Unled.{HasNoLed, room_none}
 use Rattle.giop_sig.specs.HeaderTypes.{ArePlain, IsTable}
 use Rattle.giop_sig.specs.Table.{Table}
 use Rattle.giop_sig.specs.Trees.{catalogue_depth, depth_of, tree}
-use Rattle.giop_sig.specs.Types.{Encapsulation, places_of, Ty, Struct, Union, Sequence, Array, part_of, depth, most, Led, Recursive}
+use Rattle.giop_sig.specs.Types.{Encapsulation, case_count, Ty, Struct, Union, Sequence, Array, part_of, depth, most, Led, Recursive}
 
 most_at : (n i : ℕ) (f : ℕ → ℕ) → i < n → f i ≤ most n f
 most_at zero i f lt = absurd (omega arith)
@@ -51,7 +51,7 @@ case_none T i h = h
 case_shallower : (T : Ty) (i : ℕ) → HasNoLed T → HasCase T i → depth (part_of T i) < depth T
 unfolding depth
 case_shallower (Union choice scalar select names cases) i none kind =
-    omega (arith, most_at (places_of choice) i (λ j. depth (cases j)) kind)
+    omega (arith, most_at (case_count choice) i (λ j. depth (cases j)) kind)
 case_shallower (Led h F parts) i none kind = absurd none
 case_shallower T i none kind = absurd kind
 

@@ -12,7 +12,7 @@ use Rattle.giop_decode.specs.NextParts.{frames_above}
 use Rattle.giop_decode.proofs.TransitionLaws.{content_none}
 use Rattle.giop_decode.proofs.Beginning.{places_push}
 use Rattle.giop_decode.proofs.Around.{around-append, next_part, last_part}
-use Rattle.giop_sig.specs.Types.{Cases, Led, Ty, Struct, Union, Sequence, Array, part_of, shape_in, HasPlace, Tag, Encapsulation, Recursive}
+use Rattle.giop_sig.specs.Types.{Cases, Led, Ty, Struct, Union, Sequence, Array, part_of, shape_in, HasIndex, Tag, Encapsulation, Recursive}
 use Rattle.giop_sig.specs.Fits.{IsFit}
 use Rattle.giop_cdr.specs.declared.order.Order.{Order}
 use Rattle.giop_sig.specs.Trees.{tree_at}
@@ -42,7 +42,7 @@ pub record Next (d : ℕ) (T : Ty) (i count : ℕ) : Type 0 where
   pub then : part_in T (suc i) count ≡ Part T (suc i) count
   pub parts : HasParts T count
   pub fit : IsFit d T
-  pub placed : HasPlace (shape_in T) (suc i)
+  pub placed : HasIndex (shape_in T) (suc i)
 
 pub next_in : (d : ℕ) (T : Ty) (i count : ℕ) → IsOpen d (part_in T i count) →
     (IsUncounted (shape_in T) → count ≡ 0) → suc i < count → Next d T i count

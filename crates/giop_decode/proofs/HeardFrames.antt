@@ -8,7 +8,7 @@ use Rattle.giop_decode.specs.declared.frame.Within.TheVariants as withins
 use Rattle.giop_decode.specs.declared.leaf.Output.{Output}
 use Rattle.giop_decode.specs.Fits.{IsOpen, OpenFrom}
 use Rattle.giop_decode.specs.Heard.{AreHeard, IsSign}
-use Rattle.giop_decode.specs.ReadResult.{Line, OpenPart, PathSegment, Telling}
+use Rattle.giop_decode.specs.ReadResult.{ValueAt, OpenPart, PathSegment, Telling}
 use Rattle.giop_decode.specs.Reading.{sign_of}
 use Rattle.giop_decode.specs.ReadingSteps.{heard_in, heard_parts, path_in, segment_in}
 use Rattle.giop_decode.specs.Transitions.{AreKnown, IsOutput, IsWithinAs, LinkIn, StandAt, frames_after, is_inside, is_some_order, is_some_stage, holds_one, tells_one, number_after, number_of, open_part, open_parts, part_as, part_index, parts_in_room, signal_by, stage_after, stage_of, ticked, ticked_by, tree_in, within_by}
@@ -36,7 +36,7 @@ again signals.Unknown = refl
 -- ---- the frames after a sign
 
 module _ (C : Table) (sign : Sign) where
-  part_heard : (l : Line) (of room here : ℕ) (told : Option Stage) (inside : Option Order)
+  part_heard : (l : ValueAt) (of room here : ℕ) (told : Option Stage) (inside : Option Order)
       (i count : ℕ) → sign_of l.value ≡ Some (sign_is sign) →
       part_as (stage_after C sign of told i) here inside (tree_at C room of)
       (number_after C sign of told i) count
@@ -48,7 +48,7 @@ module _ (C : Table) (sign : Sign) where
       rw (e, again (signal_after C of (signal_by stage i) sign))
       (ap (Telling T) (told_after_sign C room of (signal_by stage i) sign))
 
-  pub parts_heard : (l : Line) (room here : ℕ) (frames : List Frame) →
+  pub parts_heard : (l : ValueAt) (room here : ℕ) (frames : List Frame) →
       sign_of l.value ≡ Some (sign_is sign) →
       parts_in_room C room here (frames_after C sign frames)
       ≡ heard_parts (l ∷ []) (parts_in_room C room here frames)
@@ -162,7 +162,7 @@ known_counted C tick i now old d h k below =
 module _ (C : Table) (frames : List Frame) (of : ℕ) (output : Output) (piece : List ℕ)
     (known : AreKnown C frames) where
   -- nothing changes if no line changes what an open part was told
-  pub heard_same : ((here at : ℕ) (path : List PathSegment) (lines : List Line) →
+  pub heard_same : ((here at : ℕ) (path : List PathSegment) (lines : List ValueAt) →
       IsOutput (tree_in C frames of) path at output piece lines →
       heard_parts lines (open_parts C here frames) ≡ open_parts C here frames) →
       AreHeard C frames frames of output piece
@@ -181,13 +181,13 @@ module _ (C : Table) (frames : List Frame) (of : ℕ) (output : Output) (piece :
   heard_untold quiet = heard_same (λ here at path lines says. unheard C 24 here lines frames quiet)
 
   -- or if the output is no sign
-  pub heard_nothing : ((at : ℕ) (path : List PathSegment) (lines : List Line) →
+  pub heard_nothing : ((at : ℕ) (path : List PathSegment) (lines : List ValueAt) →
       IsOutput (tree_in C frames of) path at output piece lines → IsSign None lines) →
       AreHeard C frames frames of output piece
   heard_nothing says = heard_same (λ here at path lines is.
       unsaid lines (open_parts C here frames) (says at path lines is))
     where
-      unsaid : (lines : List Line) (ps : List OpenPart) → IsSign None lines →
+      unsaid : (lines : List ValueAt) (ps : List OpenPart) → IsSign None lines →
           heard_parts lines ps ≡ ps
       unsaid lines [] is = refl
       unsaid lines (Telling T told ∷ ps) is =
@@ -195,7 +195,7 @@ module _ (C : Table) (frames : List Frame) (of : ℕ) (output : Output) (piece :
           ∙ ap (λ qs. Telling T told ∷ qs) (unsaid lines ps is)
       unsaid lines (p ∷ ps) is = ap (λ qs. p ∷ qs) (unsaid lines ps is)
 
-  pub heard_sign : (sign : Sign) → ((at : ℕ) (path : List PathSegment) (lines : List Line) →
+  pub heard_sign : (sign : Sign) → ((at : ℕ) (path : List PathSegment) (lines : List ValueAt) →
       IsOutput (tree_in C frames of) path at output piece lines → IsSign (Some sign) lines) →
       AreHeard C frames (frames_after C sign frames) of output piece
   heard_sign sign says = record {
@@ -214,9 +214,9 @@ module _ (C : Table) (frames : List Frame) (of : ℕ) (output : Output) (piece :
 -- what lines say in each room, they say inside these frames
 pub says_here : (C : Table) (frames : List Frame) (of : ℕ) (output : Output) (piece : List ℕ)
     (sign : Option Sign) → length frames < 24 →
-    ((room at : ℕ) (path : List PathSegment) (lines : List Line) →
+    ((room at : ℕ) (path : List PathSegment) (lines : List ValueAt) →
     IsOutput (tree_at C (suc room) of) path at output piece lines → IsSign sign lines) →
-    (at : ℕ) (path : List PathSegment) (lines : List Line) →
+    (at : ℕ) (path : List PathSegment) (lines : List ValueAt) →
     IsOutput (tree_in C frames of) path at output piece lines → IsSign sign lines
 says_here C frames of output piece sign few says at path lines =
     in_frames (λ n. IsOutput (tree_at C n of) path at output piece lines → IsSign sign lines) frames
@@ -256,11 +256,11 @@ heard_free C frames of output piece free known =
     (heard_untold C frames of output piece known (untelling frames free))
 
 -- hearing doesn't change the path
-segment_heard : (lines : List Line) (p : OpenPart) → segment_in (heard_in lines p) ≡ segment_in p
+segment_heard : (lines : List ValueAt) (p : OpenPart) → segment_in (heard_in lines p) ≡ segment_in p
 segment_heard lines (Telling T told) = refl
 segment_heard lines p = refl
 
-pub path_heard : (lines : List Line) (path : List PathSegment) (ps : List OpenPart) →
+pub path_heard : (lines : List ValueAt) (path : List PathSegment) (ps : List OpenPart) →
     path_in path (heard_parts lines ps) ≡ path_in path ps
 path_heard lines path [] = refl
 path_heard lines path (p ∷ ps) =

@@ -7,7 +7,7 @@ use Rattle.std.proofs.lemmas.List.Elements.{filter_map-append}
 use Rattle.giop_cdr.specs.declared.prim.Primitive.TheVariants as prims
 use Rattle.giop_decode.specs.Noted.{Noted, is_key_path, key_ended, may_have_key, note, noted, nothing_noted, with_key_piece}
 use Rattle.giop_decode.specs.NotedFromLines.{TextPiece, enum_of, enums, key_piece, key_pieces, last_content, piece, text_of, text_pieces}
-use Rattle.giop_decode.specs.ReadResult.{PathSegment, Value, Number, Piece, Line, line}
+use Rattle.giop_decode.specs.ReadResult.{PathSegment, Value, Number, Piece, ValueAt, line}
 use Rattle.giop_decode.proofs.Resuming.{noted-append}
 use Rattle.giop_sig.specs.Types.{Plain, Enum, Octets, Raw, Text}
 
@@ -38,7 +38,7 @@ value_kept is_header h at path (Piece (Octets (Raw bound)) offset octets more) q
     piece_kept (is_header && is_key_path path) h _ _ other
 value_kept is_header h at path value quiet other = refl
 
-key_kept : (is_header : Bool) (h : Noted) (lines : List Line) → enums lines ≡ [] →
+key_kept : (is_header : Bool) (h : Noted) (lines : List ValueAt) → enums lines ≡ [] →
     key_pieces is_header lines ≡ [] → (noted is_header h lines).key ≡ h.key
 key_kept is_header h [] quiet other = refl
 key_kept is_header h (l ∷ ls) quiet other =
@@ -100,7 +100,7 @@ value_goes is_header h at path (Piece (Octets (Raw bound)) offset octets more) c
     piece_goes (is_header && is_key_path path) _ more h offset octets clean (may_go h clean)
 value_goes is_header h at path value clean quiet silent = same_goes h _ _ clean
 
-left_front : (is_header : Bool) (h : Noted) (lines : List Line) → IsClean h → enums lines ≡ [] →
+left_front : (is_header : Bool) (h : Noted) (lines : List ValueAt) → IsClean h → enums lines ≡ [] →
     text_pieces lines ≡ [] → (noted is_header h lines).key
     ≡ last_content h.key h.key_so_far (key_pieces is_header lines)
 left_front is_header h [] clean quiet silent = refl
@@ -119,7 +119,7 @@ both_none : (xs ys : List ℕ) → xs ++ ys ≡ [] → (xs ≡ []) × (ys ≡ []
 both_none [] ys e = (refl, e)
 both_none (x ∷ xs) ys e = absurd cc
 
-pub left_key : (is_header : Bool) (lines front back : List Line) → lines ≡ front ++ back →
+pub left_key : (is_header : Bool) (lines front back : List ValueAt) → lines ≡ front ++ back →
     enums lines ≡ [] → text_pieces front ≡ [] → key_pieces is_header back ≡ [] →
     (noted is_header nothing_noted lines).key ≡ last_content None [] (key_pieces is_header front)
 left_key is_header lines front back are quiet silent other =

@@ -8,14 +8,14 @@ use Rattle.giop_cdr.specs.declared.prim.Primitive.TheVariants as prims
 use Rattle.giop_decode.specs.Noted.{Noted, expects_after, first_of, is_key_path, with_expects, note, note_value, noted, noted_of, without_name_if, ends_in_string, is_member, name_if, nothing_noted}
 use Rattle.giop_decode.specs.NotedFromLines.{TextPiece, last_content, first_in, enum_of, enums, ulong_of, id_of, request_ids, expected_by, expectations, text_of, text_pieces, cut_from, pieces_of, Strings, name_of, IsLeft}
 use Rattle.giop_decode.specs.Reading.{read}
-use Rattle.giop_decode.specs.ReadResult.{Coding, PathSegment, Value, Number, Piece, Line, Read, lines_of}
+use Rattle.giop_decode.specs.ReadResult.{Coding, PathSegment, Value, Number, Piece, ValueAt, Read, lines_of}
 use Rattle.giop_sig.specs.Types.{Plain, Enum, Ty, Text}
 use Rattle.giop_decode.proofs.LastKeys.{left_key}
 use Rattle.giop_decode.proofs.NotedKeys.{SameButKey, same_but_key}
 use Rattle.giop_decode.proofs.WholeStrings.{read_strings}
 
 -- what a line notes beside an object key
-same_note : (is_header : Bool) (h : Noted) (l : Line) → SameButKey (note is_header h l)
+same_note : (is_header : Bool) (h : Noted) (l : ValueAt) → SameButKey (note is_header h l)
     (with_expects (note_value (is_header && is_member (codes "request_id") l.path) h l.value)
     (expects_after is_header l.path l.value h.expects_reply))
 same_note is_header h l =
@@ -39,7 +39,7 @@ value_status is_id h (Piece (Text bound) offset octets true) = refl
 value_status is_id h (Piece (Text bound) offset octets false) = refl
 value_status is_id h value = refl
 
-left_status : (is_header : Bool) (h : Noted) (lines : List Line) →
+left_status : (is_header : Bool) (h : Noted) (lines : List ValueAt) →
     (noted is_header h lines).status ≡ last_or h.status (enums lines)
 left_status is_header h [] = refl
 left_status is_header h (l ∷ ls) =
@@ -63,7 +63,7 @@ last_expected : (o x : Option Bool) (xs : List Bool) →
 last_expected o None xs = refl
 last_expected o (Some n) xs = refl
 
-left_expects : (is_header : Bool) (h : Noted) (lines : List Line) →
+left_expects : (is_header : Bool) (h : Noted) (lines : List ValueAt) →
     (noted is_header h lines).expects_reply ≡ last_or h.expects_reply (expectations is_header lines)
 left_expects is_header h [] = refl
 left_expects is_header h (l ∷ ls) =
@@ -95,7 +95,7 @@ first_cons (Some n) x xs = refl
 first_cons None (Some n) xs = refl
 first_cons None None xs = refl
 
-left_id : (is_header : Bool) (h : Noted) (lines : List Line) →
+left_id : (is_header : Bool) (h : Noted) (lines : List ValueAt) →
     (noted is_header h lines).request_id
     ≡ first_of h.request_id (first_in (request_ids is_header lines))
 left_id is_header h [] = kept true h.request_id
@@ -116,7 +116,7 @@ value_name is_id h (Piece (Text bound) offset octets false) ps = refl
 value_name is_id h (Number (Plain prims.ULong) n) ps = refl
 value_name is_id h value ps = refl
 
-left_name : (is_header : Bool) (h : Noted) (lines : List Line) →
+left_name : (is_header : Bool) (h : Noted) (lines : List ValueAt) →
     (noted is_header h lines).name ≡ last_content h.name h.so_far (text_pieces lines)
 left_name is_header h [] = refl
 left_name is_header h (l ∷ ls) =

@@ -10,10 +10,10 @@ use Rattle.giop_cdr.specs.Primitives.{size_of}
 use Rattle.giop_cdr.specs.declared.prim.Primitive.{Primitive}
 use Rattle.giop_decode.specs.Pieces.{Complete, Block, over, Partial, block, content, full_piece, full_pieces, last_piece, number, octets, tail, text, unless}
 use Rattle.giop_decode.specs.Reading.{after_leading_number, member, parts_from, read, single, elements, following, heard, led, sign_of, told_after}
-use Rattle.giop_decode.specs.ReadResult.{Coding, Done, Fault, Line, Member, Name, Part, OpenPart, Read, PathSegment, Short, followed, with_front, within, Count, line}
+use Rattle.giop_decode.specs.ReadResult.{Coding, Done, Fault, ValueAt, Member, Name, Part, OpenPart, Read, PathSegment, Short, followed, with_front, within, Count, line}
 use Rattle.giop_decode.specs.ReadingSteps.{advance, after, block_step, leading_width, inner_path, number_step, part_at, after_told}
 use Rattle.giop_sig.specs.Hearings.{hearing_in}
-use Rattle.giop_decode.specs.declared.progress.Kind.{Kind}
+use Rattle.giop_decode.specs.declared.progress.ValueFault.{ValueFault}
 use Rattle.giop_sig.specs.Types.{Choice, Enum, OctetKind, Plain, Recursive, Scalar, Sequence, Ty, Union, part_of, width, Hearing, Told, Sequel, Then, Marked}
 use Rattle.giop_sig.specs.declared.types.Selected.{Selected}
 use Rattle.giop_sig.specs.declared.types.Selected.TheVariants.{Case}
@@ -26,7 +26,7 @@ Goes coding path reader = (at : ℕ) (s : List ℕ) (b : ℕ) →
 
 -- lines in front of a reading
 
-pub with_front_twice : (front mid : List Line) (r : Read) →
+pub with_front_twice : (front mid : List ValueAt) (r : Read) →
     with_front front (with_front mid r) ≡ with_front (front ++ mid) r
 with_front_twice front mid (Done lines at rest) = search (arith, append_assoc)
 with_front_twice front mid (Short lines at outer leaf) = search (arith, append_assoc)
@@ -36,7 +36,8 @@ pub with_front_none : (r : Read) → with_front [] r ≡ r
 with_front_none (Done lines at rest) = refl
 with_front_none r = refl
 
-pub with_front-advance : (coding : Coding) (path : List PathSegment) (front : List Line) (r : Read)
+pub with_front-advance : (coding : Coding) (path : List PathSegment) (front : List ValueAt) (r :
+    Read)
     (b : ℕ) → with_front front (advance coding path r b)
     ≡ advance coding path (with_front front r) b
 with_front-advance coding path front (Short lines at outer leaf) b = search (
@@ -45,12 +46,12 @@ with_front-advance coding path front (Short lines at outer leaf) b = search (
 )
 with_front-advance coding path front r b = refl
 
-pub with_front-followed : (front : List Line) (r : Read) (next : ℕ → List ℕ → Read) →
+pub with_front-followed : (front : List ValueAt) (r : Read) (next : ℕ → List ℕ → Read) →
     followed (with_front front r) next ≡ with_front front (followed r next)
 with_front-followed front (Done lines at rest) next = search (arith, with_front_twice)
 with_front-followed front r next = refl
 
-pub with_front-within : (front : List Line) (place : OpenPart) (r : Read) →
+pub with_front-within : (front : List ValueAt) (place : OpenPart) (r : Read) →
     within place (with_front front r) ≡ with_front front (within place r)
 with_front-within front place (Done lines at rest) = refl
 with_front-within front place r = refl
@@ -207,7 +208,7 @@ number_goes phase n at (x ∷ s) b pos =
 -- contents
 
 module _ (coding : Coding) (path : List PathSegment) where
-  pub unless_goes : (T : Ty) (why : Option Kind) (at : ℕ) (r : Read) (b : ℕ) →
+  pub unless_goes : (T : Ty) (why : Option ValueFault) (at : ℕ) (r : Read) (b : ℕ) →
       unless T why at (advance coding path r b) ≡ advance coding path (unless T why at r) b
   unless_goes T None at r b = refl
   unless_goes T (Some kind) at r b = refl
@@ -292,7 +293,7 @@ pub recursive_goes : (coding : Coding) (path : List PathSegment) (bound : Option
     Goes coding path (after coding path (Recursive bound fits T) n)
 recursive_goes coding path bound fits T n goes at s b =
     let S = Recursive bound fits T in
-    let front : List Line = line at path (Count n) ∷ [] in
+    let front : List ValueAt = line at path (Count n) ∷ [] in
     let parts = parts_from (part_at coding path S n) n 0 in
     ap (λ r. unless S (over bound n) at (with_front front r))
     (elements_go coding path S fits n parts goes at s b)
@@ -320,12 +321,12 @@ union_goes coding path choice scalar select names cases n each at s b = search (
 
 -- ---- a part that tells what follows it
 
-pub told_append : (h : Hearing) (told : Told) (xs ys : List Line) →
+pub told_append : (h : Hearing) (told : Told) (xs ys : List ValueAt) →
     told_after h told (xs ++ ys) ≡ told_after h (told_after h told xs) ys
 told_append h told [] ys = refl
 told_append h told (x ∷ xs) ys = told_append h (heard h told (sign_of x.value)) xs ys
 
-pub with_front-led : (front : List Line) (T : Ty) (h : Hearing) (told : Told)
+pub with_front-led : (front : List ValueAt) (T : Ty) (h : Hearing) (told : Told)
     (part : ℕ → ℕ → List ℕ → Read) (r : Read) → led T h told part (with_front front r)
     ≡ with_front front (led T h (told_after h told front) part r)
 with_front-led front T h told part (Done lines at rest) = search (

@@ -46,6 +46,8 @@ leaf_same : (T : Ty) (leaf : Leaf) → FitsIn T [] leaf → leaf_ty leaf ≡ T
 leaf_same T (LeadingNumber U carry) fits = fits.same
 leaf_same T leaf fits = fits.same
 
+-- If a leaf fits inside a type of at most d levels, its own type fits in the levels that the parts
+-- around it leave.
 pub leaf_at : (d : ℕ) (T : Ty) (outer : List OpenPart) (leaf : Leaf) → FitsIn T outer leaf →
     IsFit d T → LeafAt d outer leaf
 unfolding IsFit

@@ -14,7 +14,7 @@ use Rattle.giop_decode.specs.DecoderSteps.{IsNotRefused}
 use Rattle.giop_decode.specs.NameBuffer.{FitsName, IsNotedOf}
 use Rattle.giop_decode.specs.Noted.{Noted, expects_after, note_key, note_value, noted, nothing_noted, with_expects, without_name_if, is_key_path, is_member}
 use Rattle.giop_decode.specs.NotingSteps.{OffsetMoves, StringGoesOn, clears_name, transition_offset}
-use Rattle.giop_decode.specs.ReadResult.{PathSegment, Line, Value, Number, Piece}
+use Rattle.giop_decode.specs.ReadResult.{PathSegment, ValueAt, Value, Number, Piece}
 use Rattle.giop_decode.specs.Transitions.{IsOutput}
 use Rattle.giop_decode.proofs.NotedKeys.{same_but_key}
 use Rattle.giop_print.specs.declared.path.Root.{Root}
@@ -175,7 +175,7 @@ key_quiet root next is_key k expects value is =
 
 -- after the line of an octet, what is noted of a name agrees with the string that goes on then
 output_noted : (header : Bool) (root : Root) (T : Ty) (was next : Option ℕ) (output : Output)
-    (path : List PathSegment) (at : ℕ) (piece : List ℕ) (lines : List Line) (h : Noted) →
+    (path : List PathSegment) (at : ℕ) (piece : List ℕ) (lines : List ValueAt) (h : Noted) →
     OffsetMoves T was next output (length piece) → IsOutput T path at output piece lines →
     AreNoted root was h.name h.so_far →
     (let k = without_name_if (clears_name output) (noted header h lines) in
@@ -209,7 +209,7 @@ output_noted header root T was next output path at piece lines h moves says is =
 -- If the name buffer has what it can have, so it does after one more octet.
 pub name_kept : (C : Table) (header : Bool) (root : Root) (T : Ty) (was next : Option ℕ)
     (transition : Transition) (output : Output) (path : List PathSegment) (at : ℕ) (piece : List ℕ)
-    (lines : List Line) (old new : Notes) →
+    (lines : List ValueAt) (old new : Notes) →
     IsNotRefused transition → StringGoesOn T was transition output (length piece) →
     next ≡ transition_offset T transition →
     IsOutput T path at output piece lines → MayHold C old.buffer →

@@ -11,7 +11,7 @@ use Rattle.giop_decode.specs.Segments.{frame_text, frames_text}
 use Rattle.giop_decode.specs.Spelling.{lines_text, path_text, value_text}
 use Rattle.giop_print.specs.Line.{headed}
 use Rattle.giop_print.specs.Lines.{kind_line, kind_word, number_text, spaced}
-use Rattle.giop_sig.specs.Types.{HasPlace, IsUnion, Plain, Scalar, Single, Ty, interpreted_by, part_of, shape_in}
+use Rattle.giop_sig.specs.Types.{HasIndex, IsUnion, Plain, Scalar, Single, Ty, interpreted_by, part_of, shape_in}
 use Rattle.giop_cdr.specs.declared.prim.Primitive.{Primitive}
 use Rattle.giop_cdr.specs.declared.prim.Primitive.TheVariants as prims
 use Rattle.giop_decode.specs.declared.decoder.Decoder.{Decoder}
@@ -29,7 +29,7 @@ use Rattle.giop_decode.specs.SeenState.{AreOfRoot, Fits, HoldsNoted}
 use Rattle.giop_decode.specs.DecoderSteps.{emitted, transition_result}
 use Rattle.giop_decode.specs.Noted.{Noted, first_of, noted, is_header_root}
 use Rattle.giop_decode.specs.NextParts.{IsAtNext, IsNextNumber, IsPartAhead, frames_above, front_text, next_of}
-use Rattle.giop_decode.specs.ReadResult.{Coding, PathSegment, Line, Number, LeadingNumber, Short, line, with_front, Done}
+use Rattle.giop_decode.specs.ReadResult.{Coding, PathSegment, ValueAt, Number, LeadingNumber, Short, line, with_front, Done}
 use Rattle.giop_decode.specs.ReadingSteps.{around, path_in}
 use Rattle.giop_decode.specs.Passes.{IsBehind, Gives, Passes}
 use Rattle.giop_decode.specs.Runs.{TakenTogether, TakesSome}
@@ -166,7 +166,7 @@ module _ (C : Table) (d : Decoder) (of : TypeId) (frame : Frame) (f : Fits C d)
         popped_frame.«open» (popped_frame.within (24 - length above)).2 (rw add-one at below)
 
     pub place_next : (room : ℕ) → frame.index + 1 < frame.count →
-        HasPlace (shape_in (tree_at C room frame.of.0)) (frame.index + 1)
+        HasIndex (shape_in (tree_at C room frame.of.0)) (frame.index + 1)
     place_next room below =
         place_in_room C (24 - length (frames_above d.outer.items)) room frame.of.0 (frame.index + 1)
         (rw add-one (follows below).placed)
@@ -323,7 +323,7 @@ module _ (C : Table) (d : Decoder) (part : PartAhead) (f : Fits C d)
         (rw add-one at follower.below)
         ∙ (left ∙ sym right)))
 
-    come : (coding : Coding) (here : ℕ) (lines : List Line) →
+    come : (coding : Coding) (here : ℕ) (lines : List ValueAt) →
         emitted coding C d part.of.0 transitions.Ended (outputs.Number part.number) lines here
         ≡ transition_result C (tree_in C d.outer.items part.of.0) new transitions.Ended lines (here
         + 1)
@@ -344,7 +344,7 @@ module _ (C : Table) (d : Decoder) (part : PartAhead) (f : Fits C d)
         ∙ rooted_result C (tree_in C d.outer.items part.of.0) new transitions.Ended lines (here +
         1) tt
 
-    plain_says : (here at : ℕ) (lines : List Line) → Gives C d part.of.0 ended [] here at lines →
+    plain_says : (here at : ℕ) (lines : List ValueAt) → Gives C d part.of.0 ended [] here at lines →
         (scalar : Scalar) × (n : ℕ) × (scalar ≡ Plain part.prim)
         × (interpreted_by scalar n ≡ Some part.number)
         × (lines ≡ line at (path_in [] (open_parts C here d.outer.items)) (Number scalar n) ∷ [])

@@ -18,7 +18,7 @@ use Rattle.giop_decode.specs.NextPieces.{IsPieceAhead, IsQuiet, behind_piece}
 use Rattle.giop_decode.specs.Noted.{Noted, ends_in_string, is_header_root, names_operation, noted}
 use Rattle.giop_decode.specs.NotingSteps.{transition_in_string, transition_offset}
 use Rattle.giop_decode.specs.Passes.{Gives, Passes}
-use Rattle.giop_decode.specs.ReadResult.{Coding, Line, PathSegment, Piece, line}
+use Rattle.giop_decode.specs.ReadResult.{Coding, ValueAt, PathSegment, Piece, line}
 use Rattle.giop_decode.specs.ReadingSteps.{path_in}
 use Rattle.giop_decode.specs.Runs.{TakenTogether, TakesSome}
 use Rattle.giop_decode.specs.Segments.{frames_text}
@@ -103,7 +103,7 @@ module _ (C : Table) (d : Decoder) (ahead : PieceAhead) (f : Fits C d)
   is_here : tree_in C d.outer.items ahead.of.0 ≡ Octets (Raw h.bound)
   is_here = h.is (24 - length d.outer.items)
 
-  given : (here at : ℕ) (lines : List Line) → Gives C there ahead.of.0 step rest here at lines →
+  given : (here at : ℕ) (lines : List ValueAt) → Gives C there ahead.of.0 step rest here at lines →
       lines ≡ line at (path_in [] (open_parts C here d.outer.items))
       (Piece (Octets (Raw h.bound)) ahead.offset rest true) ∷ []
   given here at lines says = rw (is_here, h.none_held) at says
@@ -120,14 +120,15 @@ module _ (C : Table) (d : Decoder) (ahead : PieceAhead) (f : Fits C d)
   abbrev new : Decoder
   new = behind_piece d ahead
 
-  come : (coding : Coding) (here : ℕ) (lines : List Line) →
+  come : (coding : Coding) (here : ℕ) (lines : List ValueAt) →
       emitted coding C there ahead.of.0 step.transition step.output lines here
       ≡ transition_result C (tree_in C d.outer.items ahead.of.0) new step.transition lines (here +
       1)
   come coding here lines = search (arith, rooted_gone, places_free, free, around_free)
 
   -- a piece that isn't the last names no operation
-  unnamed : (here at : ℕ) (lines : List Line) → Gives C there ahead.of.0 step rest here at lines →
+  unnamed : (here at : ℕ) (lines : List ValueAt) → Gives C there ahead.of.0 step rest here at
+      lines →
       false ≡ names_operation (is_header_root d.head.root) lines
   unnamed here at lines says = search (arith, given, and-false, codes)
 
@@ -141,14 +142,14 @@ module _ (C : Table) (d : Decoder) (ahead : PieceAhead) (f : Fits C d)
       keyless_piece C asked (is_header_root d.head.root) (Octets (Raw h.bound)) path at
       ahead.offset rest true o d.notes h.bound refl keys.0 keys.1 held
 
-  kept : (asked : Bool) (o : Noted) (here at : ℕ) (lines : List Line) →
+  kept : (asked : Bool) (o : Noted) (here at : ℕ) (lines : List ValueAt) →
       HoldsNoted C asked d.notes o → Gives C there ahead.of.0 step rest here at lines →
       HoldsNoted C asked d.notes (noted (is_header_root d.head.root) o lines)
   kept asked o here at lines held says =
       rw (given here at lines says) (kept_by quiet asked o at
       (path_in [] (open_parts C here d.outer.items)) held)
 
-  silent : (coding : Coding) (here : ℕ) (lines : List Line) →
+  silent : (coding : Coding) (here : ℕ) (lines : List ValueAt) →
       ends_in_string (emitted coding C there ahead.of.0 step.transition step.output lines here)
       ≡ transition_in_string (tree_in C d.outer.items ahead.of.0) step.transition
   silent coding here lines = search (arith, come, stopped_silent, is_here)

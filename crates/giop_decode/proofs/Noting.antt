@@ -9,7 +9,7 @@ use Rattle.giop_decode.specs.declared.leaf.Output.{Output}
 use Rattle.giop_decode.specs.declared.leaf.Output.TheVariants as outputs
 use Rattle.giop_decode.specs.Noted.{Noted, note_value, expects_after, note, ended, with_piece, noted_piece, with_key_piece, key_ended, may_have_key, noted_key, is_name, is_member, is_key_path, noted, noted_of, without_name_if, with_expects, in_content, names_operation, ends_in_string, is_text, nothing_noted}
 use Rattle.giop_decode.specs.NotingSteps.{OutputFitsString, clears_name, leaf_in_string, transition_in_string}
-use Rattle.giop_decode.specs.ReadResult.{Number, Leaf, Held, PathSegment, Name, Index, Switch, Line, line, Value, Piece, OpenPart, Content, Read, Done, lines_of, with_front}
+use Rattle.giop_decode.specs.ReadResult.{Number, Leaf, Held, PathSegment, Name, Index, Switch, ValueAt, line, Value, Piece, OpenPart, Content, Read, Done, lines_of, with_front}
 use Rattle.giop_decode.specs.declared.frame.Frame.{Frame}
 use Rattle.giop_decode.specs.ReadingSteps.{path_in, segment_in}
 use Rattle.giop_decode.specs.Transitions.{leaf_of, leaf_type, open_part, open_parts, tree_in, IsOutput}
@@ -44,7 +44,7 @@ pub cut_inside : (leaf : Leaf) → is_text (cut_off leaf) ≡ in_content leaf
 cut_inside (Content T total offset piece) = search (arith, content_in)
 cut_inside _ = refl
 
-pub unless_ended_inside : (ended : Bool) (lines : List Line) (at : ℕ) (outer : List OpenPart)
+pub unless_ended_inside : (ended : Bool) (lines : List ValueAt) (at : ℕ) (outer : List OpenPart)
     (leaf : Leaf) → ends_in_string (unless_ended ended lines at outer leaf) ≡ in_content leaf
 unless_ended_inside true lines at outer leaf = cut_inside leaf
 unless_ended_inside false lines at outer leaf = refl
@@ -55,7 +55,7 @@ rest_silent (Encapsulation T) h = refl
 rest_silent _ h = absurd h
 
 pub stopped_silent : (C : Table) (frames : List Frame) (carry piece : List ℕ)
-    (leaf : Option Innermost) (lines : List Line) (at : ℕ) →
+    (leaf : Option Innermost) (lines : List ValueAt) (at : ℕ) →
     IfSome leaf (λ l. leaf_in_string (tree_in C frames (leaf_type l)) l ≡ false) →
     ends_in_string (stopped_with C frames carry piece leaf lines at) ≡ false
 stopped_silent C frames carry piece None lines at h = refl
@@ -69,7 +69,7 @@ text_inside : (T : Ty) (leaf : Innermost) → leaf_in_string T leaf ≡ true →
 text_inside T (innermost.Content of total offset) h = h
 text_inside T _ h = cc
 
-pub front_inside : (front : List Line) (r : Read) →
+pub front_inside : (front : List ValueAt) (r : Read) →
     ends_in_string (with_front front r) ≡ ends_in_string r
 front_inside front (Done lines at rest) = refl
 front_inside front _ = refl
@@ -112,7 +112,7 @@ piece_noted header (Led g F parts) false more h path at offset octets k = refl
 piece_noted header (Led g F parts) true more h path at offset octets k = let e = k refl in cc
 
 output_noted : (header : Bool) (T : Ty) (was : Bool) (transition : Transition) (output : Output)
-    (path : List PathSegment) (at : ℕ) (piece : List ℕ) (lines : List Line) (h : Noted) →
+    (path : List PathSegment) (at : ℕ) (piece : List ℕ) (lines : List ValueAt) (h : Noted) →
     OutputFitsString T was transition output → IsOutput T path at output piece lines →
     (was ≡ true → is_text T ≡ true) →
     without_name_if (clears_name output) (noted header (without_name_if was h) lines)
@@ -133,7 +133,8 @@ output_noted header T was transition _ path at piece lines h v says k = rw (v.0,
 
 -- What is noted of a reading is what its earlier lines note and then the lines of one octet.
 pub noted_on : (header : Bool) (T : Ty) (leaf : Innermost) (transition : Transition)
-    (output : Output) (path : List PathSegment) (at : ℕ) (piece : List ℕ) (front lines : List Line)
+    (output : Output) (path : List PathSegment) (at : ℕ) (piece : List ℕ) (front lines : List
+    ValueAt)
     (r : Read) → OutputFitsString T (leaf_in_string T leaf) transition output →
     IsOutput T path at output piece lines →
     ends_in_string r ≡ transition_in_string T transition → lines_of r ≡ lines →

@@ -6,11 +6,11 @@ use Rattle.std.proofs.Math.Seq.{take-nil, drop-nil}
 use Rattle.std.proofs.lemmas.Bool.{cases_lt, lt-ltb, le-ltb}
 use Rattle.giop_decode.specs.Pieces.{Complete, Block, Partial, block, content, full_piece, last_piece, unless, over}
 use Rattle.giop_decode.specs.Reading.{member, parts_from, read, refused, single, wrong, enclosed, opening, ordered, rest_of, sized, following, led, none_left, told_after, cut_off, elements}
-use Rattle.giop_decode.specs.ReadResult.{Coding, Content, Done, Fault, LeadingNumber, Index, Leaf, Line, Member, Name, Part, OpenPart, Read, PathSegment, Short, Switch, followed, line, with_front, within, lines_of, Held, Inside, Opening, Size, Telling, Count}
+use Rattle.giop_decode.specs.ReadResult.{Coding, Content, Done, Fault, LeadingNumber, Index, Leaf, ValueAt, Member, Name, Part, OpenPart, Read, PathSegment, Short, Switch, followed, line, with_front, within, lines_of, Held, Inside, Opening, Size, Telling, Count}
 use Rattle.giop_decode.specs.ReadingSteps.{OneAt, IsOctetResult, IsEmptyResult, inner_path, after, around, block_step, leaf_step, number_step, part_at, segment_of, step, Faulted, held, after_told}
 use Rattle.giop_sig.specs.Hearings.{hearing_in}
-use Rattle.giop_decode.specs.declared.progress.Kind.{Kind}
-use Rattle.giop_decode.specs.declared.progress.Kind.TheVariants as kinds
+use Rattle.giop_decode.specs.declared.progress.ValueFault.{ValueFault}
+use Rattle.giop_decode.specs.declared.progress.ValueFault.TheVariants as kinds
 use Rattle.giop_cdr.specs.declared.order.Order.{Order}
 use Rattle.giop_sig.specs.Types.{tag_of, Array, Encapsulation, Octets, Scalar, Sequence, Single, Struct, Text, Ty, Union, part_of, Led, Hearing, Told, Untold, Sequel, Then, Ends, Stops, sequel, Recursive}
 use Rattle.giop_sig.specs.declared.types.Selected.{Selected}
@@ -24,18 +24,18 @@ each_append P [] ys h k = k
 each_append P (x ∷ xs) ys h k = (h.0, each_append P xs ys h.1 k)
 
 -- a fault of any kind may have no line
-faulted_none : (n : ℕ) (why : Kind) → Faulted n why []
+faulted_none : (n : ℕ) (why : ValueFault) → Faulted n why []
 faulted_none n kinds.EncapShort = tt
 faulted_none n kinds.Untyped = tt
 faulted_none n kind = refl
 
 -- a fault that comes after a complete value, so there may be a line
-abbrev pub IsLate : Kind → Type 0
+abbrev pub IsLate : ValueFault → Type 0
 IsLate kinds.EncapShort = Unit {0}
 IsLate kinds.Untyped = Unit {0}
 IsLate kind = ⊥
 
-late_faulted : (n : ℕ) (why : Kind) (lines : List Line) → IsLate why → OneAt n lines →
+late_faulted : (n : ℕ) (why : ValueFault) (lines : List ValueAt) → IsLate why → OneAt n lines →
     Faulted n why lines
 late_faulted n kinds.EncapShort lines late h = h
 late_faulted n kinds.Untyped lines late h = h
@@ -47,7 +47,7 @@ Mute n (Done lines at rest) = (lines ≡ []) × (at ≡ n) × (rest ≡ [])
 Mute n (Short lines at outer leaf) = (lines ≡ []) × (at ≡ n)
 Mute n (Fault lines at why S) = (lines ≡ []) × (at ≡ n) × IsLate why
 
-mute_front : (n : ℕ) (front : List Line) (r : Read) → OneAt n front → Mute n r →
+mute_front : (n : ℕ) (front : List ValueAt) (r : Read) → OneAt n front → Mute n r →
     IsOctetResult n (with_front front r)
 mute_front n front (Done lines at rest) h k = search (arith, append-nil)
 mute_front n front (Short lines at outer leaf) h k = search (arith, append-nil)
@@ -57,7 +57,7 @@ pub quiet_mute : (n : ℕ) (r : Read) → IsEmptyResult n r → Mute n r
 quiet_mute n (Fault lines at why S) h = absurd h
 quiet_mute n r h = h
 
-now_front : (n : ℕ) (front : List Line) (r : Read) → OneAt n front → IsEmptyResult n r →
+now_front : (n : ℕ) (front : List ValueAt) (r : Read) → OneAt n front → IsEmptyResult n r →
     IsOctetResult n (with_front front r)
 now_front n front r h k = search (arith, mute_front, quiet_mute)
 
@@ -86,7 +86,7 @@ pub quiet_within : (n : ℕ) (place : OpenPart) (r : Read) → IsEmptyResult n r
 quiet_within n place (Done lines at rest) h = h
 quiet_within n place r h = h
 
-now_unless : (n : ℕ) (T : Ty) (why : Option Kind) (r : Read) → IsOctetResult n r →
+now_unless : (n : ℕ) (T : Ty) (why : Option ValueFault) (r : Read) → IsOctetResult n r →
     IsOctetResult n (unless T why n r)
 now_unless n T None r h = h
 now_unless n T (Some kind) r h = (faulted_none n kind, refl)
@@ -212,7 +212,7 @@ pub rest_quiet : (n : ℕ) (path : List PathSegment) (T : Ty) (k : ℕ) →
 rest_quiet n path T zero = (refl, refl, refl)
 rest_quiet n path T (suc k) = search (arith, content_quiet)
 
-enclosed_by : (n : ℕ) (test : Bool) (lines : List Line) (at : ℕ) (outer : List OpenPart)
+enclosed_by : (n : ℕ) (test : Bool) (lines : List ValueAt) (at : ℕ) (outer : List OpenPart)
     (leaf : Leaf)
     (S : Ty) → OneAt n lines → at ≡ n →
     IsOctetResult n (cond test (Short lines at outer leaf) (Fault lines at kinds.EncapShort S))
@@ -228,7 +228,8 @@ enclosed_now n path T inner end (Fault lines at kinds.Untyped S) h = search
     (arith, now_front, rest_quiet)
 enclosed_now n path T inner end (Fault lines at why S) h = h
 
-mute_by : (n : ℕ) (test : Bool) (lines : List Line) (at : ℕ) (outer : List OpenPart) (leaf : Leaf)
+mute_by : (n : ℕ) (test : Bool) (lines : List ValueAt) (at : ℕ) (outer : List OpenPart) (leaf :
+    Leaf)
     (S : Ty) → lines ≡ [] → at ≡ n → Mute n (cond test (Short lines at outer leaf)
     (Fault lines at kinds.EncapShort S))
 mute_by n true lines at outer leaf S none is = (none, is)
@@ -356,7 +357,7 @@ sized_now : (n : ℕ) (path : List PathSegment) (T : Ty) (k m : ℕ) →
 sized_now n path T zero m = (refl, refl)
 sized_now n path T (suc k) m = search (arith, block_waits, lit<, add-zero)
 
-elements_now : (n : ℕ) (T : Ty) (fits : Bool) (k : ℕ) (l : Line) (parts : ℕ → List ℕ → Read) →
+elements_now : (n : ℕ) (T : Ty) (fits : Bool) (k : ℕ) (l : ValueAt) (parts : ℕ → List ℕ → Read) →
     l.at ≡ n → IsEmptyResult n (parts n []) →
     IsOctetResult n (with_front (l ∷ []) (elements T fits k parts n []))
 elements_now n T true k l parts one h = now_front n (l ∷ []) (parts n []) one h
@@ -381,7 +382,7 @@ after_now n coding path (Union choice scalar select names cases) k =
     let T = Union choice scalar select names cases in
     let next : ℕ → List ℕ → Read = member (select k)
     (λ i at s. within (Member T i) (read coding (inner_path path T i) (part_of T i) at s)) in
-    let front : List Line = line n (path ++ Switch (tag_of choice scalar names) ∷ [])
+    let front : List ValueAt = line n (path ++ Switch (tag_of choice scalar names) ∷ [])
     (ReadResult.Number scalar k) ∷ [] in
     now_unless n T (wrong scalar k) _
     (now_unless n T (refused (select k)) _

@@ -7,7 +7,7 @@ use Rattle.giop_decode.specs.declared.leaf.Leaf.{Leaf as Innermost}
 use Rattle.giop_decode.specs.declared.progress.Progress.TheVariants as progress
 use Rattle.giop_decode.specs.SeenState.{Fits, CanStandAt, KeepsNoted, read_by_fields}
 use Rattle.giop_decode.specs.DecoderSteps.{decoder_step, Comes, leaf_in}
-use Rattle.giop_decode.specs.ReadResult.{Coding, Line, PathSegment, Short, with_front}
+use Rattle.giop_decode.specs.ReadResult.{Coding, ValueAt, PathSegment, Short, with_front}
 use Rattle.giop_decode.specs.ReadingSteps.{coding_in, leaf_step, root_step, around, heard_parts, path_in}
 use Rattle.giop_decode.specs.Transitions.{open_parts, leaf_of, leaf_type, ticked, HaveOctetsLeft, AreKnown, IsClean}
 use Rattle.giop_decode.proofs.Advancing.{one_further, own_coding, own_stands, same_some, step_fits}
@@ -101,7 +101,7 @@ module _ (C : Table) (d new : Decoder) (leaf : Innermost) (octet : ℕ)
       (rw counts known_on) (rw (← it) f.known) clean (rw (root, notes) f.of_root)
       (rw (root, notes, counts, tree_ticked C d.outer.items (leaf_type leaf), ← it) f.name)
 
-  pub held_keeps_noted : (coding : Coding) (here : ℕ) (front : List Line) → new.notes ≡ d.notes →
+  pub held_keeps_noted : (coding : Coding) (here : ℕ) (front : List ValueAt) → new.notes ≡ d.notes →
       CanStandAt coding d here → Holds coding C d new leaf here octet →
       KeepsNoted C d.head.root d (read_by_fields C d front here) →
       KeepsNoted C d.head.root new (with_front front (decoder_step coding C d here octet))

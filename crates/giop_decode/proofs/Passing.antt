@@ -8,7 +8,7 @@ use Rattle.giop_decode.specs.SeenState.{AreOfRoot, CanStandAt, Fits, GoesOn, IsD
 use Rattle.giop_decode.specs.DecoderSteps.{decoder_step}
 use Rattle.giop_decode.specs.NameBuffer.{FitsName, string_offset}
 use Rattle.giop_decode.specs.Passes.{Gives, Passes}
-use Rattle.giop_decode.specs.ReadResult.{Coding, Line}
+use Rattle.giop_decode.specs.ReadResult.{Coding, ValueAt}
 use Rattle.giop_decode.specs.Runs.{TakenTogether, TakesSome}
 use Rattle.giop_decode.specs.Spelling.{lines_text}
 use Rattle.giop_decode.specs.Transitions.{Link, leaf_type, tree_in}
@@ -33,7 +33,7 @@ module _ (C : Table) (d : Decoder) (octets : List ℕ) (of : TypeId) (count : �
   abbrev before : Decoder
   before = before_last C d octets of count step rest f m h on
 
-  abbrev lines : Coding → ℕ → List Line
+  abbrev lines : Coding → ℕ → List ValueAt
   lines coding here = lines_at C d octets of count step rest f m h on coding here
 
   abbrev says : (coding : Coding) (here : ℕ) →
@@ -66,7 +66,7 @@ module _ (C : Table) (d : Decoder) (octets : List ℕ) (of : TypeId) (count : �
       (gathered_whole C d octets of count step rest f m h on).1
 
   pub last_says : (Says : List ℕ → Type 0) →
-      ((here at : ℕ) (lines : List Line) → Gives C m of.0 step rest here at lines →
+      ((here at : ℕ) (lines : List ValueAt) → Gives C m of.0 step rest here at lines →
       Says (lines_text m.head.message m.head.root lines)) → AllSay C d octets (count - 1) Says
   last_says Says w =
       step_says C d before octets (count - 1) fits_before reads_before Says (λ coding here stands.

@@ -13,7 +13,7 @@ use Rattle.giop_sig.specs.Trees.{catalogue_depth, tree_at}
 use Rattle.giop_sig.specs.Types.{Scalar, Ty, part_of, width}
 use Rattle.giop_decode.specs.declared.decoder.Decoder.{Decoder}
 use Rattle.giop_decode.specs.DecoderState.{Fits}
-use Rattle.giop_decode.specs.ReadResult.{Coding, PathSegment, Switch, Line, OpenPart, Part, Leaf, Read, Done, Short, with_front, within, lines_of}
+use Rattle.giop_decode.specs.ReadResult.{Coding, PathSegment, Switch, ValueAt, OpenPart, Part, Leaf, Read, Done, Short, with_front, within, lines_of}
 use Rattle.giop_decode.specs.Pieces.{Partial, block, number}
 use Rattle.giop_decode.proofs.Rooms as rooms
 use Rattle.giop_decode.proofs.Rooted as rooted
@@ -54,15 +54,15 @@ read_keeps d coding path T fit at s = sound.read_keeps d coding path T fit at s
 
 -- Lines before a reading, and what is noted of them.
 
-pub lines_front : (front : List Line) (r : Read) →
+pub lines_front : (front : List ValueAt) (r : Read) →
     lines_of (with_front front r) ≡ front ++ lines_of r
 lines_front front r = resuming.lines_front front r
 
-pub noted-append : (header : Bool) (h : Noted) (xs ys : List Line) →
+pub noted-append : (header : Bool) (h : Noted) (xs ys : List ValueAt) →
     noted header h (xs ++ ys) ≡ noted header (noted header h xs) ys
 noted-append header h xs ys = resuming.noted-append header h xs ys
 
-pub front_inside : (front : List Line) (r : Read) →
+pub front_inside : (front : List ValueAt) (r : Read) →
     ends_in_string (with_front front r) ≡ ends_in_string r
 front_inside front r = hearing.front_inside front r
 

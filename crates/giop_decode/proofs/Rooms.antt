@@ -11,7 +11,7 @@ use Rattle.giop_sig.specs.Fits.{IsFit}
 use Rattle.giop_sig.specs.HeaderTypes.{IsTable}
 use Rattle.giop_sig.specs.Table.{Table}
 use Rattle.giop_sig.specs.Trees.{tree, tree_at}
-use Rattle.giop_sig.specs.Types.{Array, Cases, Encapsulation, Enum, HasMember, HasPlace, HasShape, IsUnion, Led, Marked, OctetKind, Octets, Plain, Raw, Recursive, Sequence, Single, Struct, Tag, Ty, Union, WideChar, WideText, octets_shape, shape_in, switch_of}
+use Rattle.giop_sig.specs.Types.{Array, Cases, Encapsulation, Enum, HasMember, HasIndex, HasShape, IsUnion, Led, Marked, OctetKind, Octets, Plain, Raw, Recursive, Sequence, Single, Struct, Tag, Ty, Union, WideChar, WideText, octets_shape, shape_in, switch_of}
 use Rattle.giop_decode.proofs.OctetKinds.{octets_has, octets_is}
 use Rattle.giop_sig.specs.declared.types.Shape.{Shape}
 use Rattle.giop_sig.specs.declared.types.Shape.TheVariants as shapes
@@ -43,9 +43,9 @@ in_frames P frames few all =
     subst P one (all (23 - length frames))
 
 -- a place of a type in one room is a place of it in each room
-pub place_in_room : (C : Table) (a b of i : ℕ) → HasPlace (shape_in (tree_at C a of)) i →
-    HasPlace (shape_in (tree_at C b of)) i
-place_in_room C a b of i has = subst (λ s. HasPlace s i) (shape_room C a b of) has
+pub place_in_room : (C : Table) (a b of i : ℕ) → HasIndex (shape_in (tree_at C a of)) i →
+    HasIndex (shape_in (tree_at C b of)) i
+place_in_room C a b of i has = subst (λ s. HasIndex s i) (shape_room C a b of) has
 
 -- a type that is a union in one room is a union in each room
 pub union_in_room : (C : Table) (a b of : ℕ) → IsUnion (shape_in (tree_at C a of)) →
@@ -101,39 +101,40 @@ held_in_room C a b of kind = has_held (tree_at C b of)
 
 -- a type that begins with a number in one room begins with a number in each room
 
-abbrev IsHead : Shape → Type 0
-IsHead (shapes.Members count) = ⊥
-IsHead (shapes.Array count) = ⊥
-IsHead shapes.Led = ⊥
-IsHead s = Unit {0}
+abbrev BeginsByNumber : Shape → Type 0
+BeginsByNumber (shapes.Members count) = ⊥
+BeginsByNumber (shapes.Array count) = ⊥
+BeginsByNumber shapes.Led = ⊥
+BeginsByNumber s = Unit {0}
 
-octets_head : (kind : OctetKind) → IsHead (octets_shape kind)
-octets_head (Raw bound) = tt
-octets_head WideText = tt
-octets_head WideChar = tt
+octets_begin : (kind : OctetKind) → BeginsByNumber (octets_shape kind)
+octets_begin (Raw bound) = tt
+octets_begin WideText = tt
+octets_begin WideChar = tt
 
-shape_head : (T : Ty) → HasLeadingNumber T → IsHead (shape_in T)
-shape_head (Single (Plain p)) h = tt
-shape_head (Single (Enum count names)) h = tt
-shape_head (Single (Marked mark)) h = tt
-shape_head (Union (Cases n) scalar select names cases) h = tt
-shape_head (Union Tag scalar select names cases) h = tt
-shape_head (Octets kind) h = octets_head kind
-shape_head T h = h
+shape_begins : (T : Ty) → HasLeadingNumber T → BeginsByNumber (shape_in T)
+shape_begins (Single (Plain p)) h = tt
+shape_begins (Single (Enum count names)) h = tt
+shape_begins (Single (Marked mark)) h = tt
+shape_begins (Union (Cases n) scalar select names cases) h = tt
+shape_begins (Union Tag scalar select names cases) h = tt
+shape_begins (Octets kind) h = octets_begin kind
+shape_begins T h = h
 
-head_shape : (T : Ty) → IsHead (shape_in T) → HasLeadingNumber T
-head_shape (Single (Plain p)) h = tt
-head_shape (Single (Enum count names)) h = tt
-head_shape (Single (Marked mark)) h = tt
-head_shape (Union (Cases n) scalar select names cases) h = tt
-head_shape (Union Tag scalar select names cases) h = tt
-head_shape (Octets kind) h = tt
-head_shape T h = h
+begins_shape : (T : Ty) → BeginsByNumber (shape_in T) → HasLeadingNumber T
+begins_shape (Single (Plain p)) h = tt
+begins_shape (Single (Enum count names)) h = tt
+begins_shape (Single (Marked mark)) h = tt
+begins_shape (Union (Cases n) scalar select names cases) h = tt
+begins_shape (Union Tag scalar select names cases) h = tt
+begins_shape (Octets kind) h = tt
+begins_shape T h = h
 
-pub head_in_room : (C : Table) (a b of : ℕ) → HasLeadingNumber (tree_at C a of) →
+pub begins_in_room : (C : Table) (a b of : ℕ) → HasLeadingNumber (tree_at C a of) →
     HasLeadingNumber (tree_at C b of)
-head_in_room C a b of h =
-    head_shape (tree_at C b of) (subst IsHead (shape_room C a b of) (shape_head (tree_at C a of) h))
+begins_in_room C a b of h =
+    begins_shape (tree_at C b of) (subst BeginsByNumber (shape_room C a b of) (shape_begins
+    (tree_at C a of) h))
 
 -- so a frame that is at a part of a type in one room is at a part of it in each room
 pub within_in_room : (C : Table) (a b of : ℕ) (inside : Option Order) (i count : ℕ) →

@@ -1,7 +1,7 @@
 -- The laws of reading a whole. A whole ends at the offset from which octets of no type follow.
 use Rattle.std.proofs.Common.{◌≡◌, ℕ, ◌+◌, List, [], ◌∷◌, ◌++◌, length, refl, sym, ◌∙◌, ap, append_assoc, append-nil, arith}
-use Rattle.giop_decode.specs.declared.progress.Kind.TheVariants as kinds
-use Rattle.giop_decode.specs.ReadResult.{Coding, PathSegment, Line, OpenPart, Leaf, Read, Done, Short, Fault, lines_of}
+use Rattle.giop_decode.specs.declared.progress.ValueFault.TheVariants as kinds
+use Rattle.giop_decode.specs.ReadResult.{Coding, PathSegment, ValueAt, OpenPart, Leaf, Read, Done, Short, Fault, lines_of}
 use Rattle.giop_decode.specs.Reading.{left_after, none_left, read, reading, rooted}
 use Rattle.giop_decode.specs.ReadingSteps.{IsEmptyResult, IsOctetResult, root_resumes, root_step}
 use Rattle.giop_decode.specs.Begins.{start_outer, start_leaf}
@@ -30,7 +30,7 @@ whole_resumes coding path T at s (b ∷ t) =
     ∙ ap (λ r. root_resumes coding path r t) (reading_goes coding path T at s b))
 
 pub whole_lines : (coding : Coding) (path : List PathSegment) (T : Ty) (at : ℕ) (s t : List ℕ) →
-    (more : List Line) × (lines_of (reading coding path T at (s ++ t))
+    (more : List ValueAt) × (lines_of (reading coding path T at (s ++ t))
     ≡ lines_of (reading coding path T at s) ++ more)
 whole_lines coding path T at s t =
     let l = lines_begin coding path T at s t in (

@@ -5,7 +5,7 @@ use Rattle.std.proofs.Math.Seq.{drop-append_seam, take-suc}
 use Rattle.std.proofs.lemmas.List.{take-append-drop, take-take}
 use Rattle.giop_decode.specs.declared.progress.Progress.{Progress}
 use Rattle.giop_decode.specs.declared.progress.Progress.TheVariants as progress
-use Rattle.giop_decode.specs.ReadResult.{Coding, Line, lines_of}
+use Rattle.giop_decode.specs.ReadResult.{Coding, ValueAt, lines_of}
 use Rattle.giop_decode.specs.Reading.{reading}
 use Rattle.giop_decode.specs.declared.decoder.Decoder.{Decoder}
 use Rattle.giop_decode.specs.SeenState.{Reads, Takes, added_lines}
@@ -20,7 +20,7 @@ use Rattle.giop_sig.specs.Table.{Table}
 
 -- ---- the lines of a run
 
-lines_text_both : (message : ℕ) (root : Root) (xs ys : List Line) →
+lines_text_both : (message : ℕ) (root : Root) (xs ys : List ValueAt) →
     lines_text message root (xs ++ ys) ≡ lines_text message root xs ++ lines_text message root ys
 unfolding lines_text
 lines_text_both message root [] ys = refl

@@ -2,7 +2,7 @@
 use Rattle.std.proofs.Common.{◌≡◌, ℕ, Bool, true, false, List, refl}
 use Rattle.giop_decode.specs.DecoderSteps.{IsNotRefused, transition_result}
 use Rattle.giop_decode.specs.NotingSteps.{transition_in_string, transition_offset}
-use Rattle.giop_decode.specs.ReadResult.{Line}
+use Rattle.giop_decode.specs.ReadResult.{ValueAt}
 use Rattle.giop_decode.specs.Transitions.{IsSettled, LetsGo, TransitionFits, after_transition, recursed, settled_by}
 use Rattle.giop_decode.specs.declared.decoder.Decoder.{Decoder}
 use Rattle.giop_decode.specs.declared.leaf.Transition.{Transition}
@@ -10,14 +10,15 @@ use Rattle.giop_decode.specs.declared.leaf.Transition.TheVariants as transitions
 use Rattle.giop_sig.specs.Table.{Table}
 use Rattle.giop_sig.specs.Types.{Recursive, Ty, elements_fit}
 
-recursed_as : (T : Ty) (fits : Bool) (count : ℕ) (carry piece : List ℕ) (lines : List Line)
+recursed_as : (T : Ty) (fits : Bool) (count : ℕ) (carry piece : List ℕ) (lines : List ValueAt)
     (at : ℕ) →
     after_transition T (settled_by (transitions.Recursed count) fits) carry piece lines at
     ≡ recursed T fits count lines at
 recursed_as T true count carry piece lines at = refl
 recursed_as T false count carry piece lines at = refl
 
-pub settled_reading : (T : Ty) (transition : Transition) (carry piece : List ℕ) (lines : List Line)
+pub settled_reading : (T : Ty) (transition : Transition) (carry piece : List ℕ) (lines : List
+    ValueAt)
     (at : ℕ) →
     after_transition T (settled_by transition (elements_fit T)) carry piece lines at
     ≡ after_transition T transition carry piece lines at
@@ -60,7 +61,7 @@ module _ (T : Ty) (fits : Bool) where
       by_room false = refl
   settled_offset transition = refl
 
-  pub settled_result : (C : Table) (d : Decoder) (transition : Transition) (lines : List Line)
+  pub settled_result : (C : Table) (d : Decoder) (transition : Transition) (lines : List ValueAt)
       (at : ℕ) → transition_result C T d (settled_by transition fits) lines at
       ≡ transition_result C T d transition lines at
   settled_result C d (transitions.Recursed count) lines at = by_room fits

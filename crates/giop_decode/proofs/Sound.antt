@@ -6,13 +6,13 @@ use Rattle.giop_cdr.specs.declared.order.Order.{Order}
 use Rattle.giop_decode.specs.Fits.{Sound, HasBegun, HasCase, HasContent, HasLeadingNumber, HasParts, IsEncapsulation, IsLed}
 use Rattle.giop_decode.specs.Pieces.{Complete, Block, Partial, block, content, full_piece, full_pieces, last_piece, number, octets, tail, text, unless}
 use Rattle.giop_decode.specs.Reading.{enclosed, inside, member, order_of, ordered, parts_from, read, rest_of, single, sized, following, left_after, led, led_segment, none_left, told_after}
-use Rattle.giop_decode.specs.ReadResult.{Coding, coded, Done, Fault, Index, Line, Member, Name, Part, Read, PathSegment, Short, followed, with_front, within, Held}
+use Rattle.giop_decode.specs.ReadResult.{Coding, coded, Done, Fault, Index, ValueAt, Member, Name, Part, Read, PathSegment, Short, followed, with_front, within, Held}
 use Rattle.giop_decode.specs.ReadingSteps.{inner_path, after, leading_width, part_at, held, IsOctetResult, after_told}
 use Rattle.giop_sig.specs.Hearings.{hearing_in}
-use Rattle.giop_decode.specs.declared.progress.Kind.{Kind}
-use Rattle.giop_decode.specs.declared.progress.Kind.TheVariants as kinds
+use Rattle.giop_decode.specs.declared.progress.ValueFault.{ValueFault}
+use Rattle.giop_decode.specs.declared.progress.ValueFault.TheVariants as kinds
 use Rattle.giop_sig.specs.Fits.{IsFit, SelectsBelow}
-use Rattle.giop_sig.specs.Types.{places_of, Choice, Array, OctetKind, Octets, Scalar, Sequence, Single, Struct, Text, Ty, Union, part_of, Encapsulation, Led, Told, Untold, Sequel, Then, Ends, Stops, sequel, Recursive}
+use Rattle.giop_sig.specs.Types.{case_count, Choice, Array, OctetKind, Octets, Scalar, Sequence, Single, Struct, Text, Ty, Union, part_of, Encapsulation, Led, Told, Untold, Sequel, Then, Ends, Stops, sequel, Recursive}
 use Rattle.giop_sig.specs.declared.types.Selected.{Selected}
 use Rattle.giop_sig.specs.declared.types.Selected.TheVariants.{Case}
 use Rattle.giop_decode.proofs.Enclosing as enclosing
@@ -23,12 +23,13 @@ use Rattle.giop_decode.proofs.Law.{headed_by, block_waits, block_got, number_non
 abbrev pub Keeps : Ty → (ℕ → List ℕ → Read) → Type 0
 Keeps T reader = (at : ℕ) (s : List ℕ) → Sound T (at + length s) (reader at s)
 
-sound_front : (T : Ty) (end : ℕ) (front : List Line) (r : Read) → Sound T end r →
+sound_front : (T : Ty) (end : ℕ) (front : List ValueAt) (r : Read) → Sound T end r →
     Sound T end (with_front front r)
 sound_front T end front (Done lines at rest) h = h
 sound_front T end front r h = h
 
-sound_unless : (T : Ty) (end : ℕ) (U : Ty) (why : Option Kind) (at : ℕ) (r : Read) → Sound T end r →
+sound_unless : (T : Ty) (end : ℕ) (U : Ty) (why : Option ValueFault) (at : ℕ) (r : Read) →
+    Sound T end r →
     Sound T end (unless U why at r)
 sound_unless T end U None at r h = h
 sound_unless T end U (Some kind) at r h = tt
@@ -166,8 +167,8 @@ recursion_keeps coding path bound false T (suc n) each at s = search (arith, sou
 
 pub cases_keep : (coding : Coding) (path : List PathSegment) (choice : Choice) (scalar : Scalar)
     (select : ℕ → Selected) (names : ℕ → List ℕ) (cases : ℕ → Ty) (n : ℕ) →
-    SelectsBelow (places_of choice) select →
-    ((i : ℕ) → i < places_of choice → Keeps (cases i) (read coding (path ++ Name (names i) ∷ [])
+    SelectsBelow (case_count choice) select →
+    ((i : ℕ) → i < case_count choice → Keeps (cases i) (read coding (path ++ Name (names i) ∷ [])
     (cases i))) → Keeps (Union choice scalar select names cases)
     (after coding path (Union choice scalar select names cases) n)
 cases_keep coding path choice scalar select names cases n below each at s = search (

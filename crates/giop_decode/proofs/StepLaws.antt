@@ -7,8 +7,8 @@ use Rattle.giop_cdr.specs.declared.prim.Primitive.TheVariants as prims
 use Rattle.giop_decode.specs.declared.leaf.Output.TheVariants as outputs
 use Rattle.giop_decode.specs.declared.leaf.Step.{Step}
 use Rattle.giop_decode.specs.declared.leaf.Transition.TheVariants as transitions
-use Rattle.giop_decode.specs.declared.progress.Kind.{Kind}
-use Rattle.giop_decode.specs.declared.progress.Kind.TheVariants as kinds
+use Rattle.giop_decode.specs.declared.progress.ValueFault.{ValueFault}
+use Rattle.giop_decode.specs.declared.progress.ValueFault.TheVariants as kinds
 use Rattle.giop_decode.specs.Fits.{HasContent, IsEncapsulation}
 use Rattle.giop_decode.specs.Noted.{is_text}
 use Rattle.giop_decode.specs.Pieces.{over}
@@ -30,7 +30,7 @@ held_silent _ kind = absurd kind
 
 -- ---- a broken rule
 
-pub refused_fits : (T : Ty) (of : ℕ) (s : Step) (kind : Kind) →
+pub refused_fits : (T : Ty) (of : ℕ) (s : Step) (kind : ValueFault) →
     s.transition ≡ transitions.Refused kind → s.output ≡ outputs.Nothing → IsRule kind →
     is_text T ≡ false → IsStepBy T of s
 refused_fits T of s kind t o rule silent = record {
@@ -40,7 +40,7 @@ refused_fits T of s kind t o rule silent = record {
   string_goes_on = λ n. rw t tt;
 }
 
-pub refused_gives : (T : Ty) (s : Step) (kind : Kind) (path : List PathSegment) (at : ℕ)
+pub refused_gives : (T : Ty) (s : Step) (kind : ValueFault) (path : List PathSegment) (at : ℕ)
     (read : Read) → s.transition ≡ transitions.Refused kind → s.output ≡ outputs.Nothing →
     read ≡ Fault [] at kind T → TransitionGives T s.transition s.output [] [] path at read
 refused_gives T s kind path at read t o e = record {
@@ -77,7 +77,7 @@ same_single s t e = cc
 
 -- a union's discriminator that is no value of its type
 pub switch_wrong : (coding : Coding) (path : List PathSegment) (T : Ty) (at : ℕ) (scalar : Scalar)
-    (n : ℕ) (kind : Kind) → IsUnion (shape_in T) → switch_of T ≡ Single scalar →
+    (n : ℕ) (kind : ValueFault) → IsUnion (shape_in T) → switch_of T ≡ Single scalar →
     wrong scalar n ≡ Some kind → after coding path T n at [] ≡ Fault [] at kind T
 switch_wrong coding path (Union choice own select names cases) at scalar n kind is same bad =
     let e : own ≡ scalar = same_single own scalar same in

@@ -8,7 +8,7 @@ use Rattle.giop_decode.specs.declared.notes.Notes.{Notes}
 use Rattle.giop_decode.specs.NameBuffer.{FitsName}
 use Rattle.giop_decode.specs.Noted.{Noted}
 use Rattle.giop_decode.specs.SeenState.{Fits, IsHeld, KeepsNoted, Reads, HoldsNoted, read_by_fields}
-use Rattle.giop_decode.specs.ReadResult.{Coding, Line, Read}
+use Rattle.giop_decode.specs.ReadResult.{Coding, ValueAt, Read}
 use Rattle.giop_decode.specs.Stored.{IsKept, IsRestored, Stored, fixed_octets, kept_name}
 use Rattle.giop_print.specs.declared.path.Root.{Root}
 use Rattle.giop_sig.specs.Table.{Table}
@@ -43,7 +43,7 @@ keeps_noted_again : (C : Table) (root : Root) (d e : Decoder) (r : Read) → IsR
     KeepsNoted C root d r → KeepsNoted C root e r
 keeps_noted_again C root d e r restored keeps_noted = search (arith, recalls_again)
 
-standing_again : (C : Table) (d e : Decoder) (lines : List Line) (at : ℕ) → IsRestored d e →
+standing_again : (C : Table) (d e : Decoder) (lines : List ValueAt) (at : ℕ) → IsRestored d e →
     read_by_fields C d lines at ≡ read_by_fields C e lines at
 standing_again C d e lines at r = search (arith)
 

@@ -23,14 +23,14 @@ use Rattle.giop_sig.specs.Hearings.{hearing_in}
 use Rattle.giop_sig.specs.Table.{Table}
 use Rattle.giop_sig.specs.Trees.{follows, part_number_in, tree, tree_at}
 use Rattle.giop_decode.proofs.Rooms.{place_in_room, within_as_in_room}
-use Rattle.giop_sig.specs.Types.{Cases, Tag, Encapsulation, Enum, Marked, Plain, Ty, Single, Text, Octets, Struct, Union, Sequence, Array, HasPlace, HasShape, Hearing, Is, Recursive, elements_fit, part_of, shape_in, Led}
+use Rattle.giop_sig.specs.Types.{Cases, Tag, Encapsulation, Enum, Marked, Plain, Ty, Single, Text, Octets, Struct, Union, Sequence, Array, HasIndex, HasShape, Hearing, Is, Recursive, elements_fit, part_of, shape_in, Led}
 use Rattle.giop_sig.specs.declared.types.Shape.TheVariants as shapes
 use Rattle.giop_sig.proofs.HearingLaws.{follows_known, follows_led, led_follows}
 use Rattle.giop_sig.proofs.PartLaws.{part_in_is, part_in_known, root_is, shape_room}
 
 -- ---- one open part
 
-pub part_place : (T : Ty) (i count : ℕ) → HasPart T i count → HasPlace (shape_in T) i
+pub part_place : (T : Ty) (i count : ℕ) → HasPart T i count → HasIndex (shape_in T) i
 part_place (Union (Cases n) scalar select names cases) i count has = has.0
 part_place (Union Tag scalar select names cases) i count has = has.0
 part_place (Struct n names parts) i count has = search (arith)
@@ -75,14 +75,14 @@ part_bare : (T : Ty) (i count : ℕ) → HasPart T i count → IsEncapsulation T
 part_bare (Encapsulation T) i count has is = absurd has.0
 part_bare T i count has is = absurd is
 
-pub inside_place : (T : Ty) (i : ℕ) → IsEncapsulation T → HasPlace (shape_in T) i
+pub inside_place : (T : Ty) (i : ℕ) → IsEncapsulation T → HasIndex (shape_in T) i
 inside_place (Encapsulation T) i is = tt
 inside_place T i is = absurd is
 
 -- ---- one frame
 
 pub frame_place : (inside : Option Order) (T : Ty) (i count : ℕ) → HasFrame inside T i count →
-    HasPlace (shape_in T) (part_index None inside i)
+    HasIndex (shape_in T) (part_index None inside i)
 frame_place None T i count has = part_place T i count has
 frame_place (Some order) T i count has = inside_place T 0 has.0
 
@@ -92,7 +92,7 @@ frame_within None T i count has = search (arith, part_place, part_bare, part_unc
 frame_within (Some order) T i count has = search (arith)
 
 frame_place_as : (told : Option Stage) (inside : Option Order) (T : Ty) (i count : ℕ) →
-    HasFrameAs told inside T i count → HasPlace (shape_in T) (part_index told inside i)
+    HasFrameAs told inside T i count → HasIndex (shape_in T) (part_index told inside i)
 frame_place_as None None T i count has = frame_place None T i count has
 frame_place_as None (Some order) T i count has = frame_place (Some order) T i count has
 frame_place_as (Some stage) inside (Led h F parts) i count has = tt
@@ -239,7 +239,7 @@ frame_known C room id (Some stage) inside i count has led = omega arith
 -- and it is a place of the frame's type
 pub frame_there : (C : Table) (room id : ℕ) (told : Option Stage) (inside : Option Order)
     (i count : ℕ) → HasFrameAs told inside (tree_at C (suc room) id) i count →
-    HasPlace (shape_in (tree C id)) (part_index told inside i)
+    HasIndex (shape_in (tree C id)) (part_index told inside i)
 frame_there C room id told inside i count has =
     place_in_room C (suc room) 24 id (part_index told inside i)
     (frame_place_as told inside (tree_at C (suc room) id) i count has)
@@ -278,7 +278,7 @@ module _ (C : Table) (room id : ℕ) (f : Frame) (laws : IsTable C) (known : id 
   one : suc (pred room) ≡ room
   one = omega (arith, some)
 
-  place_there : HasPlace (shape_in (tree C id)) i
+  place_there : HasIndex (shape_in (tree C id)) i
   place_there = place_in_room C room 24 id i
       (frame_place_as f.told f.inside (tree_at C room id) f.index f.count has)
 

@@ -12,11 +12,11 @@ use Rattle.giop_decode.specs.declared.frame.Stage.{Stage}
 use Rattle.giop_decode.specs.declared.frame.Within.{Within}
 use Rattle.std.specs.List.{list_any}
 use Rattle.giop_sig.specs.declared.types.TypeId.{TypeId}
-use Rattle.giop_decode.specs.declared.progress.Kind.TheVariants as kinds
+use Rattle.giop_decode.specs.declared.progress.ValueFault.TheVariants as kinds
 use Rattle.giop_decode.specs.declared.leaf.Leaf.{Leaf as Innermost}
 use Rattle.giop_decode.specs.Fits.{Surround, Surrounds}
 use Rattle.giop_decode.specs.Reading.{cut_off}
-use Rattle.giop_decode.specs.ReadResult.{Done, with_front, Coding, Fault, Leaf, Line, OpenPart, Read, PathSegment, Short}
+use Rattle.giop_decode.specs.ReadResult.{Done, with_front, Coding, Fault, Leaf, ValueAt, OpenPart, Read, PathSegment, Short}
 use Rattle.giop_decode.specs.ReadingSteps.{around, coding_at, coding_in, heard_in, heard_parts, resumed, segment_in}
 use Rattle.giop_decode.specs.Transitions.{HasOctetsLeft, tick_of, tick_by_of, HaveOctetsLeft, AreKnown, IsAtMost, IsWithin, IsWithinAs, holds_one, tells_one, within_by, within_held, within_more, StandAt, StandsAt, coding_by, coding_of, ended_at, gone_on, gone_to, leaf_by, leaf_of, leaf_type, has_ended, is_inside, is_some_order, is_some_stage, part_as, part_in, open_part, open_part_in, open_parts, parts_in_room, tree_in, ticked, ticked_at, ticked_by}
 use Rattle.giop_sig.specs.Table.{Table}
@@ -147,7 +147,7 @@ surrounds C room here (f ∷ frames) k a s = (
 -- ---- a part that goes on inside these frames
 
 resumed_short : (coding : Coding) (path : List PathSegment) (T : Ty) (i count : ℕ)
-    (lines : List Line)
+    (lines : List ValueAt)
     (at : ℕ) (outer : List OpenPart) (leaf : Leaf) →
     resumed coding path (part_in T i count) (Short lines at outer leaf)
     ≡ Short lines at (part_in T i count ∷ outer) leaf
@@ -156,7 +156,7 @@ resumed_short coding path (Led h F parts) i count lines at outer leaf = refl
 resumed_short coding path T i count lines at outer leaf = refl
 
 resumed_fault : (coding : Coding) (path : List PathSegment) (T : Ty) (i count : ℕ)
-    (lines : List Line)
+    (lines : List ValueAt)
     (at : ℕ) (S : Ty) → resumed coding path (part_in T i count) (Fault lines at kinds.EncapShort S)
     ≡ Fault lines at kinds.EncapShort S
 resumed_fault coding path (Union n scalar select names cases) i count lines at S = refl
@@ -164,13 +164,13 @@ resumed_fault coding path (Led h F parts) i count lines at S = refl
 resumed_fault coding path T i count lines at S = refl
 
 -- a reading inside these open parts, or cut off by the end of an encapsulation
-abbrev pub unless_ended : Bool → List Line → ℕ → List OpenPart → Leaf → Read
+abbrev pub unless_ended : Bool → List ValueAt → ℕ → List OpenPart → Leaf → Read
 unless_ended ended lines at outer leaf =
     cond ended (Fault lines at kinds.EncapShort (cut_off leaf)) (Short lines at outer leaf)
 
 pub resumed_shut : (coding : Coding) (path : List PathSegment) (inside : Option Order) (T : Ty)
     (i count : ℕ)
-    (ended : Bool) (lines : List Line) (at : ℕ) (outer : List OpenPart) (leaf : Leaf) →
+    (ended : Bool) (lines : List ValueAt) (at : ℕ) (outer : List OpenPart) (leaf : Leaf) →
     IsWithin inside i count T → resumed coding path (open_part_in at inside T i count)
     (unless_ended ended lines at outer leaf) ≡ unless_ended (ended_at inside i count || ended) lines
     at (open_part_in at inside T i count ∷ outer) leaf
@@ -217,13 +217,14 @@ pub around_gone : (C : Table) (coding : Coding) (path : List PathSegment) (at : 
 around_gone C coding path at frames leaf k = search (arith, around_unless_ended, append-nil)
 
 -- a part that tells nothing hears nothing
-heard_in_part : (lines : List Line) (T : Ty) (i count : ℕ) →
+heard_in_part : (lines : List ValueAt) (T : Ty) (i count : ℕ) →
     heard_in lines (part_in T i count) ≡ part_in T i count
 heard_in_part lines (Union choice scalar select names cases) i count = refl
 heard_in_part lines (Led h F parts) i count = refl
 heard_in_part lines T i count = refl
 
-pub heard_in_open : (lines : List Line) (here : ℕ) (inside : Option Order) (T : Ty) (i count : ℕ) →
+pub heard_in_open : (lines : List ValueAt) (here : ℕ) (inside : Option Order) (T : Ty) (i count :
+    ℕ) →
     heard_in lines (open_part_in here inside T i count) ≡ open_part_in here inside T i count
 heard_in_open lines here None T i count = heard_in_part lines T i count
 heard_in_open lines here (Some order) T i count = refl
@@ -443,7 +444,8 @@ free_coding_by order at (f ∷ frames) h =
     let n = free_first f frames h in
     rw n.0 (free_coding_by order at frames n.2)
 
-unheard_as : (told : Option Stage) (lines : List Line) (here : ℕ) (inside : Option Order) (T : Ty)
+unheard_as : (told : Option Stage) (lines : List ValueAt) (here : ℕ) (inside : Option Order) (T :
+    Ty)
     (i count : ℕ) → told ≡ None →
     heard_in lines (part_as told here inside T i count) ≡ part_as told here inside T i count
 unheard_as told lines here inside T i count none = rw none (heard_in_open lines here inside T i
@@ -455,7 +457,7 @@ quiet_first None rest h = (refl, h)
 quiet_first (Some stage) rest h = absurd cc
 
 -- if no frame tells what comes after it, nothing is heard
-pub unheard : (C : Table) (room here : ℕ) (lines : List Line) (frames : List Frame) →
+pub unheard : (C : Table) (room here : ℕ) (lines : List ValueAt) (frames : List Frame) →
     tells_one frames ≡ false →
     heard_parts lines (parts_in_room C room here frames) ≡ parts_in_room C room here frames
 unheard C room here lines [] h = refl
@@ -560,23 +562,24 @@ coding_next order at outer i d below =
     rw (take_more outer i d below, coding_push order at (take i outer) (get_or outer i d)) refl
 
 -- the reading after a part has ended, if it has these lines
-abbrev pub gone_behind : Table → List Line → ℕ → List Frame → Option Innermost → Read
+abbrev pub gone_behind : Table → List ValueAt → ℕ → List Frame → Option Innermost → Read
 gone_behind C lines at frames None = Done lines at []
 gone_behind C lines at frames (Some leaf) = gone_to C lines at frames (leaf_of C frames leaf [] [])
 
-pub front_shut : (ended : Bool) (front : List Line) (at : ℕ) (outer : List OpenPart) (leaf : Leaf) →
+pub front_shut : (ended : Bool) (front : List ValueAt) (at : ℕ) (outer : List OpenPart) (leaf :
+    Leaf) →
     with_front front (unless_ended ended [] at outer leaf) ≡ unless_ended ended front at outer leaf
 front_shut true front at outer leaf = search (arith, append-nil)
 front_shut false front at outer leaf = search (arith, append-nil)
 
-pub front_gone : (C : Table) (lines : List Line) (at : ℕ) (frames : List Frame)
+pub front_gone : (C : Table) (lines : List ValueAt) (at : ℕ) (frames : List Frame)
     (leaf : Option Innermost) → with_front lines (gone_on C at frames leaf)
     ≡ gone_behind C lines at frames leaf
 front_gone C lines at frames None = search (arith, append-nil)
 front_gone C lines at frames (Some leaf) = search (arith, front_shut)
 
 pub behind_stopped : (C : Table) (frames : List Frame) (carry piece : List ℕ)
-    (leaf : Option Innermost) (lines : List Line) (at : ℕ) → carry ≡ [] → piece ≡ [] →
+    (leaf : Option Innermost) (lines : List ValueAt) (at : ℕ) → carry ≡ [] → piece ≡ [] →
     gone_behind C lines at frames leaf ≡ stopped_with C frames carry piece leaf lines at
 behind_stopped C frames carry piece None lines at no_carry no_piece = refl
 behind_stopped C frames carry piece (Some leaf) lines at no_carry no_piece =
@@ -590,7 +593,8 @@ gone_stopped C frames carry piece (Some leaf) at no_carry no_piece = rw (no_carr
 
 -- the same with lines, if no frame hears them
 pub around_free : (C : Table) (coding : Coding) (path : List PathSegment) (at : ℕ)
-    (frames : List Frame) (lines : List Line) (leaf : Leaf) → is_inside frames ≡ withins.Nothing →
+    (frames : List Frame) (lines : List ValueAt) (leaf : Leaf) →
+    is_inside frames ≡ withins.Nothing →
     AreKnown C frames → around coding path (open_parts C at frames) (Short lines at [] leaf)
     ≡ gone_to C lines at frames leaf
 around_free C coding path at frames lines leaf free k =

@@ -4,7 +4,7 @@ use Rattle.giop_cdr.specs.declared.order.Order.{Order}
 use Rattle.giop_decode.specs.declared.frame.Frame.{Frame}
 use Rattle.giop_decode.specs.declared.frame.Stage.{Stage}
 use Rattle.giop_decode.specs.declared.leaf.Leaf.TheVariants as innermost
-use Rattle.giop_decode.specs.declared.progress.Kind.TheVariants as kinds
+use Rattle.giop_decode.specs.declared.progress.ValueFault.TheVariants as kinds
 use Rattle.giop_decode.specs.Begins.{start_leaf, start_outer}
 use Rattle.giop_decode.specs.Fits.{HasCase, IsLed, OpenFrom}
 use Rattle.giop_decode.specs.Heard.{IsPast, IsTold, begun_in}

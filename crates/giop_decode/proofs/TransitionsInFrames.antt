@@ -1,6 +1,6 @@
 -- The reading after a transition of an innermost part, inside the frames around it.
 use Rattle.std.proofs.Common.{arith, ◌≡◌, ℕ, zero, suc, pred, ◌<◌, List, [], sym, ◌∙◌, ap, append-nil}
-use Rattle.giop_decode.specs.ReadResult.{Coding, PathSegment, Line, OpenPart, Done, with_front}
+use Rattle.giop_decode.specs.ReadResult.{Coding, PathSegment, ValueAt, OpenPart, Done, with_front}
 use Rattle.giop_decode.specs.ReadingSteps.{around, heard_parts}
 use Rattle.giop_decode.specs.Fits.{HasParts, HasCase, IsEncapsulation}
 use Rattle.giop_decode.proofs.Around.{fit_part, around-front}
@@ -24,7 +24,7 @@ unfolding IsFit
 fit_inside zero T fit kind = absurd fit
 fit_inside (suc d) T fit kind = fit_held d T fit kind
 
-module _ (coding : Coding) (path : List PathSegment) (ps : List OpenPart) (lines : List Line)
+module _ (coding : Coding) (path : List PathSegment) (ps : List OpenPart) (lines : List ValueAt)
     (at : ℕ) where
   pub around_done : around coding path ps (Done lines at [])
       ≡ with_front lines (around coding path (heard_parts lines ps) (Done [] at []))

@@ -2,8 +2,8 @@
 -- of a piece.
 use Rattle.std.proofs.Common.{◌≡◌, ◌≢◌, ℕ, suc, ◌+◌, ◌-◌, ◌%◌, ◌^◌, Bool, true, false, ◌<◌, ◌≤◌, inl, inr, take_all, List, [], ◌∷◌, ◌++◌, length, take, get_or, Option, Some, None, refl, ne_eqb, sym, ◌∙◌, ap, subst, arith, length-append, append_assoc, IfSome}
 use Rattle.std.proofs.lemmas.Bool.{cases_lt}
-use Rattle.giop_decode.specs.declared.progress.Kind.{Kind}
-use Rattle.giop_decode.specs.declared.progress.Kind.TheVariants as kinds
+use Rattle.giop_decode.specs.declared.progress.ValueFault.{ValueFault}
+use Rattle.giop_decode.specs.declared.progress.ValueFault.TheVariants as kinds
 use Rattle.std.proofs.Math.Bool.{and-true, and-false}
 use Rattle.std.proofs.lemmas.List.{get_or-append-add, get_or-take, length-take-le, take-take}
 use Rattle.std.proofs.Math.Seq.{take-append-add}
@@ -32,7 +32,7 @@ use Rattle.giop_decode.specs.NameBuffer.{FitsName, string_offset}
 use Rattle.giop_decode.specs.declared.notes.Notes.{Notes}
 use Rattle.giop_decode.specs.NotingSteps.{transition_offset, StringGoesOn, OutputFitsString, clears_name, leaf_in_string, transition_in_string}
 use Rattle.giop_decode.specs.Runs.{Adds, AllGathered, IsHeldOf, IsParted, IsStep, IsStepBy, IsStepOf, TakenTogether}
-use Rattle.giop_decode.specs.ReadResult.{line, Coding, Done, Line, Opening, PathSegment, Piece, lines_of, with_front}
+use Rattle.giop_decode.specs.ReadResult.{line, Coding, Done, ValueAt, Opening, PathSegment, Piece, lines_of, with_front}
 use Rattle.giop_decode.specs.ReadingSteps.{after, coding_in, content_step, leading_width, leaf_step, path_in, IsRule}
 use Rattle.giop_decode.specs.Transitions.{AreKnown, HasOutput, HaveOctetsLeft, IsOutput, IsWholeLong, IsWholeNumber, LetsGo, NumberStands, TransitionGives, TransitionFits, after_transition, block_of, coding_by, leaf_by, leaf_of, leaf_type, open_parts, still_held, ticked, ticked_by, tree_in, IsClean}
 use Rattle.giop_decode.proofs.Advancing.{lines_after_transition, same_some, stands_at, fits_allowed}
@@ -166,12 +166,15 @@ module _ (C : Table) (d : Decoder) (of : TypeId) (octets : List ℕ) (count : �
       (rw empty (lets_nothing_go s.transition)) fits.has_output fits.output_fits_string
       fits.string_goes_on (λ coding path here. rw empty (gives coding path here))
 
-  pub comes_head : (order : Order) (at : ℕ) → coding_by d.order d.at d.outer.items ≡ (order, at) →
+  pub comes_leading : (order : Order) (at : ℕ) → coding_by d.order d.at d.outer.items ≡ (
+    order,
+    at,
+  ) →
       (kept all : List ℕ) (s : Step) → kept ≡ [] →
       NumberStands (leading_width (tree_in C d.outer.items of.0)) at d.carry octets count true all →
       HaveOctetsLeft (ticked_by (length octets - 1) d.outer.items) → IsStep C of.0 s →
       IsStepOf C of.0 (num order all) s → TakenTogether C d octets of count s [] kept d.piece.items
-  comes_head order at coded kept all s empty stands ahead fits gives =
+  comes_leading order at coded kept all s empty stands ahead fits gives =
       let few = (stands_at C d f (innermost.Number of) e).room in
       comes_here order at coded kept all s empty stands ahead
       (in_frames (λ n. IsStepBy (tree_at C n of.0) of.0 s) d.outer.items few fits)
@@ -213,7 +216,7 @@ module _ (C : Table) (d : Decoder) (of : TypeId) (octets : List ℕ) (count : �
       HaveOctetsLeft (ticked_by (length octets - 1) d.outer.items) → IsStep C of.0 s →
       IsStepOf C of.0 n s → TakenTogether C d octets of count s [] d.carry d.piece.items
   comes_long order at coded n s four empty h ahead fits gives =
-      comes_head order at coded d.carry h.all s empty (rw (empty, four) h.stands) ahead fits
+      comes_leading order at coded d.carry h.all s empty (rw (empty, four) h.stands) ahead fits
       (subst (λ k. IsStepOf C of.0 k s) h.spelled gives)
 
   -- the last octet of the number is still to come
@@ -339,7 +342,7 @@ module _ (C : Table) (d : Decoder) (of : TypeId) (total offset : ℕ) (octets : 
       LetsGo s.transition d.carry (still_held s.output kept) →
       HasOutput T s.output → OutputFitsString T (is_text T) s.transition s.output →
       StringGoesOn T (string_offset T content_leaf) s.transition s.output (length (kept ++ rest)) →
-      (lines : List PathSegment → ℕ → List Line) →
+      (lines : List PathSegment → ℕ → List ValueAt) →
       ((path : List PathSegment) (here : ℕ) →
       content_step T path total offset here held_before last_octet
       ≡ after_transition T s.transition d.carry (still_held s.output kept) (lines path here)
@@ -401,12 +404,12 @@ module _ (C : Table) (d : Decoder) (of : TypeId) (total offset : ℕ) (octets : 
       (λ path here. refl)
 
   -- the step of the last piece, by the rule that the end of its content breaks, if it breaks one
-  abbrev step_of : Option Kind → Step
+  abbrev step_of : Option ValueFault → Step
   step_of None = record { transition = transitions.Ended; output = outputs.Piece offset false }
   step_of (Some kind) = record { transition = transitions.Refused kind; output = outputs.Nothing }
 
   -- the last piece, with what ends its content
-  comes_end : (size : ℕ) (why : Option Kind) → IfSome why IsRule → total - offset ≤ 32 →
+  comes_end : (size : ℕ) (why : Option ValueFault) → IfSome why IsRule → total - offset ≤ 32 →
       size ≡ total - offset - length d.piece.items → count ≡ size + tail T →
       count ≤ length octets →
       ends T (total - offset) (d.piece.items ++ take count octets) ≡ why →
@@ -444,7 +447,7 @@ module _ (C : Table) (d : Decoder) (of : TypeId) (total offset : ℕ) (octets : 
       (omega (arith, before_size within, counted, sized, room, one))) in
       go why rule some parted short come
     where
-      go : (why : Option Kind) → IfSome why IsRule → 0 < count →
+      go : (why : Option ValueFault) → IfSome why IsRule → 0 < count →
           IsParted C d.outer.items content_leaf d.piece.items (count - 1) →
           length d.piece.items + length (take size octets) ≤ 32 →
           ((path : List PathSegment) (here : ℕ) →
@@ -701,7 +704,7 @@ module _ (C : Table) (d : Decoder) (octets : List ℕ) (of : TypeId) (count : �
   }
 
   -- the lines that the last octet gives
-  abbrev pub lines_at : Coding → ℕ → List Line
+  abbrev pub lines_at : Coding → ℕ → List ValueAt
   lines_at coding here =
       let ps = open_parts C here m.outer.items in
       h.lines (coding_in coding ps) (path_in [] ps) here
@@ -762,7 +765,7 @@ module _ (C : Table) (d : Decoder) (octets : List ℕ) (of : TypeId) (count : �
   lines_whole coding here stands = search
       (arith, told_whole, lines_after_transition, fits_then, fits_allowed)
 
-  pub keeps_noted_whole : (new : Decoder) (coding : Coding) (here : ℕ) (front : List Line) →
+  pub keeps_noted_whole : (new : Decoder) (coding : Coding) (here : ℕ) (front : List ValueAt) →
       CanStandAt coding before_last here →
       ends_in_string (emitted coding C m of.0 s.transition s.output (lines_at coding here) here)
       ≡ transition_in_string (tree_in C m.outer.items of.0) s.transition →
@@ -859,7 +862,7 @@ module _ (C : Table) (d now : Decoder) (octets : List ℕ) (of : TypeId) (count 
       omega (arith, few, same, outer)
 
 pub behind_gives : (C : Table) (d now : Decoder) (of : ℕ) (s : Step) (rest : List ℕ) (here at : ℕ)
-    (lines : List Line) → IsBehind C d now of s rest → Gives C d of s rest here at lines →
+    (lines : List ValueAt) → IsBehind C d now of s rest → Gives C d of s rest here at lines →
     Gives C now of s rest (here + 1) at lines
 behind_gives C d now of s rest here at lines b says =
     let frames = ticked d.outer.items in

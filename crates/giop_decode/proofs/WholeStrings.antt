@@ -15,9 +15,9 @@ use Rattle.giop_decode.specs.Noted.{ends_in_string}
 use Rattle.giop_decode.specs.NotedFromLines.{piece, text_of, text_pieces, cut_from, pieces_of, Strings}
 use Rattle.giop_decode.specs.Pieces.{Complete, Block, Partial, block, content, ends, full_piece, full_pieces, last_piece, octets, over, text, unless}
 use Rattle.giop_decode.specs.Reading.{enclosed, after_leading_number, inside, member, opening, ordered, parts_from, read, refused, rest_of, single, sized, wrong, following, led, led_segment, elements}
-use Rattle.giop_decode.specs.ReadResult.{Coding, Count, Done, Fault, Held, Index, Line, Member, Name, Number, Part, Piece, OpenPart, Read, PathSegment, Short, Size, Switch, followed, line, with_front, within, lines_of}
-use Rattle.giop_decode.specs.declared.progress.Kind.TheVariants as kinds
-use Rattle.giop_decode.specs.declared.progress.Kind.{Kind}
+use Rattle.giop_decode.specs.ReadResult.{Coding, Count, Done, Fault, Held, Index, ValueAt, Member, Name, Number, Part, Piece, OpenPart, Read, PathSegment, Short, Size, Switch, followed, line, with_front, within, lines_of}
+use Rattle.giop_decode.specs.declared.progress.ValueFault.TheVariants as kinds
+use Rattle.giop_decode.specs.declared.progress.ValueFault.{ValueFault}
 use Rattle.giop_sig.specs.Types.{tag_of, Array, Encapsulation, OctetKind, Octets, bound_of, Scalar, Sequence, Single, Struct, Text, Ty, Union, Led, Hearing, Told, Untold, Sequel, Then, Ends, Stops, Recursive}
 use Rattle.giop_sig.specs.declared.types.Selected.{Selected}
 use Rattle.giop_sig.specs.declared.types.Selected.TheVariants.{Case}
@@ -25,14 +25,14 @@ use Rattle.giop_decode.proofs.Noting.{cut_inside, front_inside}
 use Rattle.giop_decode.proofs.Law.{block_got, block_waits}
 use Rattle.giop_decode.proofs.Resuming.{lines_front}
 
-texts_append : (xs ys : List Line) → text_pieces (xs ++ ys) ≡ text_pieces xs ++ text_pieces ys
+texts_append : (xs ys : List ValueAt) → text_pieces (xs ++ ys) ≡ text_pieces xs ++ text_pieces ys
 texts_append xs ys = search (arith, filter_map-append)
 
 -- a reading without pieces of strings
 no_strings : (r : Read) → text_pieces (lines_of r) ≡ [] → Strings r
 no_strings r e = search (arith)
 
-whole_then : (front : List Line) (contents : List (List ℕ)) (r : Read) →
+whole_then : (front : List ValueAt) (contents : List (List ℕ)) (r : Read) →
     text_pieces front ≡ flat_map pieces_of contents → Strings r → Strings (with_front front r)
 whole_then front contents r e h = record {
   contents = contents ++ h.contents;
@@ -50,7 +50,7 @@ whole_then front contents r e h = record {
 }
 
 -- lines before a reading, none of which is a piece of a string
-then_strings : (front : List Line) (r : Read) → text_pieces front ≡ [] → Strings r →
+then_strings : (front : List ValueAt) (r : Read) → text_pieces front ≡ [] → Strings r →
     Strings (with_front front r)
 then_strings front r e h = whole_then front [] r e h
 
@@ -63,7 +63,7 @@ within_strings : (place : OpenPart) (r : Read) → Strings r → Strings (within
 within_strings place (Short lines at outer leaf) h = search (arith)
 within_strings place r h = h
 
-unless_strings : (T : Ty) (why : Option Kind) (at : ℕ) (r : Read) → Strings r →
+unless_strings : (T : Ty) (why : Option ValueFault) (at : ℕ) (r : Read) → Strings r →
     Strings (unless T why at r)
 unless_strings T None at r h = h
 unless_strings T (Some kinds.Untyped) at r h = no_strings (Fault [] at kinds.Untyped T) refl
@@ -128,7 +128,7 @@ full_comes : (bound : Option ℕ) (path : List PathSegment) (total full offset :
     Comes total (suc full) offset (with_front (line at path
     (Piece (Text bound) offset xs true) ∷ []) (next at rest))
 full_comes bound path total full offset next xs rest at h (inl (ys, len, is)) =
-    let front : List Line = line at path (Piece (Text bound) offset xs true) ∷ [] in
+    let front : List ValueAt = line at path (Piece (Text bound) offset xs true) ∷ [] in
     let long : offset + length (xs ++ ys) ≡ total = omega (arith, length-append {A = ℕ}) in
     inl (xs ++ ys, long, rw (lines_front front (next at rest), is) (cut_more full offset xs ys h))
 full_comes bound path total full offset next xs rest at h (inr (inside, each)) = search (
@@ -340,7 +340,7 @@ read_strings coding path (Union choice scalar select names cases) at s =
     headed_strings (Union choice scalar select names cases) _ (λ xs at rest.
     let T = Union choice scalar select names cases in
     let n = num coding.order xs in
-    let front : List Line = line at (path ++ Switch (tag_of choice scalar names) ∷ [])
+    let front : List ValueAt = line at (path ++ Switch (tag_of choice scalar names) ∷ [])
     (Number scalar n) ∷ [] in
     unless_strings T (wrong scalar n) at _ (unless_strings T (refused (select n)) at _
     (then_strings front _ refl (member_strings (select n) _ (λ i at s. within_strings (Member T i) _

@@ -8,8 +8,8 @@ use Rattle.giop_decode.specs.declared.leaf.Transition.TheVariants as transitions
 use Rattle.giop_decode.specs.declared.leaf.Output.{Output}
 use Rattle.giop_decode.specs.declared.progress.Progress.{Progress}
 use Rattle.giop_decode.specs.declared.progress.Progress.TheVariants as progress
-use Rattle.giop_decode.specs.ReadResult.{Coding, Line, Leaf, LeadingNumber, Read, Fault, Done}
-use Rattle.giop_decode.specs.declared.progress.Kind.TheVariants as kinds
+use Rattle.giop_decode.specs.ReadResult.{Coding, ValueAt, Leaf, LeadingNumber, Read, Fault, Done}
+use Rattle.giop_decode.specs.declared.progress.ValueFault.TheVariants as kinds
 use Rattle.giop_decode.specs.Fits.{OpenFrom}
 use Rattle.giop_decode.specs.Reading.{none_left, rooted}
 use Rattle.giop_decode.specs.ReadingSteps.{around, root_step}
@@ -25,17 +25,18 @@ use Rattle.giop_sig.specs.Trees.{tree}
 
 -- the reading that the fields of a decoder stand for; it is a fault if an encapsulation has ended
 -- before its value
-abbrev pub stopped_with : Table → List Frame → List ℕ → List ℕ → Option Innermost → List Line → ℕ →
+abbrev pub stopped_with : Table → List Frame → List ℕ → List ℕ → Option Innermost →
+    List ValueAt → ℕ →
     Read
 stopped_with C frames carry piece None lines at = Done lines at []
 stopped_with C frames carry piece (Some leaf) lines at =
     gone_to C lines at frames (leaf_of C frames leaf carry piece)
 
-abbrev pub stopped : Table → Decoder → Option Innermost → List Line → ℕ → Read
+abbrev pub stopped : Table → Decoder → Option Innermost → List ValueAt → ℕ → Read
 stopped C d leaf lines at = stopped_with C d.outer.items d.carry d.piece.items leaf lines at
 
 -- the reading that the fields of a decoder stand for after a transition of the innermost part
-abbrev pub transition_result : Table → Ty → Decoder → Transition → List Line → ℕ → Read
+abbrev pub transition_result : Table → Ty → Decoder → Transition → List ValueAt → ℕ → Read
 transition_result C T d (transitions.Refused kind) lines at = Fault lines at kind T
 transition_result C T d transition lines at = stopped C d d.leaf lines at
 
@@ -51,7 +52,7 @@ decoder_step coding C d here octet =
 
 -- the answer agrees with the decoder after a step with these lines, and with the reading; `named`
 -- says whether a value that goes on has just named its operation
-abbrev pub progressed : Table → Decoder → Bool → Progress → List Line → ℕ → Read → Type 0
+abbrev pub progressed : Table → Decoder → Bool → Progress → List ValueAt → ℕ → Read → Type 0
 progressed C d named progress.More lines at r =
     (r ≡ read_by_fields C d lines at) × ((leaf : Innermost) × (d.leaf ≡ Some leaf))
     × (named ≡ false)
@@ -76,7 +77,7 @@ IsProgress named ended transition leaf p = IsGoing named ended leaf p
 -- the answer agrees with the reading after a step with some lines
 abbrev pub Comes : Table → Decoder → Progress → ℕ → Read → Type 0
 Comes C d p at r =
-    (lines : List Line)
+    (lines : List ValueAt)
     × progressed C d (names_operation (is_header_root d.head.root) lines) p lines at r
 
 -- a transition that breaks no rule
@@ -96,7 +97,7 @@ pub record IsAround (C : Table) (d : Decoder) (of : ℕ) : Type 0 where
   pub at : d.at < 8
 
 -- the reading after a transition of that part, within the parts around it, with these lines
-abbrev pub emitted : Coding → Table → Decoder → ℕ → Transition → Output → List Line → ℕ → Read
+abbrev pub emitted : Coding → Table → Decoder → ℕ → Transition → Output → List ValueAt → ℕ → Read
 emitted coding C d of transition output lines here =
     rooted none_left (around coding [] (open_parts C here d.outer.items)
     (after_transition (tree_in C d.outer.items of) transition d.carry

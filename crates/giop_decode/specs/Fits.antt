@@ -3,7 +3,7 @@ use Rattle.std.specs.Prelude.{◌≡◌, true, ℕ, zero, suc, ◌+◌, ◌-◌,
 use Rattle.giop_decode.specs.ReadResult.{Coding, OpenPart, Part, Member, Inside, Telling, Leaf, LeadingNumber, Opening, Content, Read, Done, Short, Fault}
 use Rattle.giop_decode.specs.Pieces.{tail}
 use Rattle.giop_decode.specs.ReadingSteps.{leading_width}
-use Rattle.giop_sig.specs.Types.{places_of, Ty, Text, Octets, Struct, Union, Sequence, Array, part_of, Encapsulation, Recursive, Led, Told, Then, Hearing, sequel}
+use Rattle.giop_sig.specs.Types.{case_count, Ty, Text, Octets, Struct, Union, Sequence, Array, part_of, Encapsulation, Recursive, Led, Told, Then, Hearing, sequel}
 use Rattle.giop_sig.specs.Fits.{IsFit}
 use Rattle.std.specs.List.{AllByRecursion}
 
@@ -57,7 +57,7 @@ HasParts T count = ⊥
 
 -- a union that has a case at this place, or what can come at this place after a part that tells it
 abbrev pub HasCase : Ty → ℕ → Type 0
-HasCase (Union choice scalar select names cases) i = i < places_of choice
+HasCase (Union choice scalar select names cases) i = i < case_count choice
 HasCase (Led h F parts) i = CanFollow h i
 HasCase T i = ⊥
 

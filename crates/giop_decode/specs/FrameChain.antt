@@ -13,11 +13,11 @@ use Rattle.giop_decode.specs.declared.frame.Stage.{Stage}
 use Rattle.giop_sig.specs.Fits.{IsEmptyStruct}
 use Rattle.giop_sig.specs.Table.{Table}
 use Rattle.giop_sig.specs.Trees.{part_number_in, tree, tree_at}
-use Rattle.giop_sig.specs.Types.{Ty, Led, Union, places_of}
+use Rattle.giop_sig.specs.Types.{Ty, Led, Union, case_count}
 
 -- a type has this part, and this many parts; the cases of a union aren't counted
 abbrev pub HasPart : Ty → ℕ → ℕ → Type 0
-HasPart (Union choice scalar select names cases) i count = (i < places_of choice) × (count ≡ 0)
+HasPart (Union choice scalar select names cases) i count = (i < case_count choice) × (count ≡ 0)
 HasPart (Led h F parts) i count = CanFollow h i × (count ≡ 0)
 HasPart T i count = HasParts T count × (i < count)
 

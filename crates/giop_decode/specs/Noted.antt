@@ -4,10 +4,10 @@ use Rattle.std.specs.Prelude.{ℕ, ◌%◌, ◌==◌, ◌&&◌, ◌||◌, Bool, 
 use Rattle.std.specs.Option.{is_none}
 use Rattle.std.specs.Str.{bytes_eq}
 use Rattle.giop_cdr.specs.declared.prim.Primitive.TheVariants as prims
-use Rattle.giop_decode.specs.ReadResult.{PathSegment, Name, Value, Number, Piece, Line, Leaf, Content, Read, Done, Short, Fault, lines_of}
+use Rattle.giop_decode.specs.ReadResult.{PathSegment, Name, Value, Number, Piece, ValueAt, Leaf, Content, Read, Done, Short, Fault, lines_of}
 use Rattle.giop_print.specs.declared.path.Root.{Root}
 use Rattle.giop_print.specs.declared.path.Root.TheVariants as roots
-use Rattle.giop_decode.specs.declared.progress.Kind.TheVariants as kinds
+use Rattle.giop_decode.specs.declared.progress.ValueFault.TheVariants as kinds
 use Rattle.giop_sig.specs.Types.{Plain, Enum, Ty, Text, Octets, Raw}
 
 pub record Noted : Type 0 where
@@ -113,14 +113,14 @@ abbrev pub with_expects : Noted → Option Bool → Noted
 with_expects h expects = record h { expects_reply = expects }
 
 -- after one more line; `is_header` says whether it is one of a header
-abbrev pub note : Bool → Noted → Line → Noted
+abbrev pub note : Bool → Noted → ValueAt → Noted
 note is_header h l =
     note_key (is_header && is_key_path l.path)
     (with_expects (note_value (is_header && is_member (codes "request_id") l.path) h l.value)
     (expects_after is_header l.path l.value h.expects_reply)) l.value
 
 -- after these lines, one after another
-abbrev pub noted : Bool → Noted → List Line → Noted
+abbrev pub noted : Bool → Noted → List ValueAt → Noted
 noted is_header h [] = h
 noted is_header h (l ∷ ls) = noted is_header (note is_header h l) ls
 
@@ -169,12 +169,12 @@ ends_text (Piece (Text bound) offset octets false) = true
 ends_text value = false
 
 -- whether a line ends the operation of a Request's header
-abbrev pub ends_operation : Bool → Line → Bool
+abbrev pub ends_operation : Bool → ValueAt → Bool
 ends_operation is_header l =
     is_header && (is_member (codes "operation") l.path && ends_text l.value)
 
 -- whether one of these lines ends the operation of a Request's header
-abbrev pub names_operation : Bool → List Line → Bool
+abbrev pub names_operation : Bool → List ValueAt → Bool
 names_operation is_header [] = false
 names_operation is_header (l ∷ ls) = ends_operation is_header l || names_operation is_header ls
 

@@ -5,7 +5,7 @@ use Rattle.std.specs.List.{AllByRecursion as Each, last_or}
 use Rattle.giop_cdr.specs.declared.prim.Primitive.TheVariants as prims
 use Rattle.giop_decode.specs.Noted.{Noted, expects_after, ends_in_string, is_key_path, is_member, name_if}
 use Rattle.giop_decode.specs.Pieces.{full_pieces}
-use Rattle.giop_decode.specs.ReadResult.{Value, Number, Piece, Line, Read, lines_of}
+use Rattle.giop_decode.specs.ReadResult.{Value, Number, Piece, ValueAt, Read, lines_of}
 use Rattle.giop_sig.specs.Types.{Plain, Enum, Octets, Raw, Text}
 
 -- ---- numbers
@@ -16,7 +16,7 @@ enum_of (Number (Enum count names) n) = Some n
 enum_of value = None
 
 -- the numbers of the lines that have enums
-abbrev pub enums : List Line → List ℕ
+abbrev pub enums : List ValueAt → List ℕ
 enums lines = filter_map (λ l. enum_of l.value) lines
 
 -- the number of a value, if it is an unsigned long
@@ -25,12 +25,12 @@ ulong_of (Number (Plain prims.ULong) n) = Some n
 ulong_of value = None
 
 -- the number of a line, if it is the root's member `request_id` in a header
-abbrev pub id_of : Bool → Line → Option ℕ
+abbrev pub id_of : Bool → ValueAt → Option ℕ
 id_of is_header l =
     cond (is_header && is_member (codes "request_id") l.path) (ulong_of l.value) None
 
 -- the numbers of such lines; a header has one
-abbrev pub request_ids : Bool → List Line → List ℕ
+abbrev pub request_ids : Bool → List ValueAt → List ℕ
 request_ids is_header lines = filter_map (id_of is_header) lines
 
 -- the first of these numbers
@@ -39,11 +39,11 @@ first_in [] = None
 first_in (n ∷ ns) = Some n
 
 -- whether a reply is expected, if this line says it
-abbrev pub expected_by : Bool → Line → Option Bool
+abbrev pub expected_by : Bool → ValueAt → Option Bool
 expected_by is_header l = expects_after is_header l.path l.value None
 
 -- what such lines say; the header of a Request has one
-abbrev pub expectations : Bool → List Line → List Bool
+abbrev pub expectations : Bool → List ValueAt → List Bool
 expectations is_header lines = filter_map (expected_by is_header) lines
 
 -- ---- strings
@@ -64,7 +64,7 @@ text_of (Piece (Text bound) offset octets more) = Some (piece offset octets more
 text_of value = None
 
 -- the pieces of strings that lines have
-abbrev pub text_pieces : List Line → List TextPiece
+abbrev pub text_pieces : List ValueAt → List TextPiece
 text_pieces lines = filter_map (λ l. text_of l.value) lines
 
 -- a content from an offset in it on; `full` of its pieces aren't the last, and have 32 octets each
@@ -99,10 +99,10 @@ key_of is_key (Piece (Octets (Raw bound)) offset octets more) =
 key_of is_key value = None
 
 -- the piece of an object key that a line in a header has
-abbrev pub key_piece : Bool → Line → Option TextPiece
+abbrev pub key_piece : Bool → ValueAt → Option TextPiece
 key_piece is_header l = key_of (is_header && is_key_path l.path) l.value
 
-abbrev pub key_pieces : Bool → List Line → List TextPiece
+abbrev pub key_pieces : Bool → List ValueAt → List TextPiece
 key_pieces is_header lines = filter_map (key_piece is_header) lines
 
 -- The last content that these pieces give, if it has at most 128 octets; none within a content.
@@ -133,6 +133,6 @@ pub record IsLeft (is_header : Bool) (r : Read) (h : Noted) : Type 0 where
   -- after the last octet of its length
   pub name : h.name ≡ cond (ends_in_string r) None (name_of (last_or None strings.contents))
   -- if no line has an enum, and no string comes before the last piece of an object key
-  pub key : (front back : List Line) → lines_of r ≡ front ++ back → enums (lines_of r) ≡ [] →
+  pub key : (front back : List ValueAt) → lines_of r ≡ front ++ back → enums (lines_of r) ≡ [] →
       text_pieces front ≡ [] → key_pieces is_header back ≡ [] →
       h.key ≡ last_content None [] (key_pieces is_header front)

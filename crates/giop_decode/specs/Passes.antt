@@ -6,7 +6,7 @@ use Rattle.giop_decode.specs.declared.leaf.Finished.{Finished}
 use Rattle.giop_decode.specs.declared.leaf.Step.{Step}
 use Rattle.giop_decode.specs.declared.progress.Progress.{Progress}
 use Rattle.giop_decode.specs.Heard.{AreHeard}
-use Rattle.giop_decode.specs.ReadResult.{Coding, Line}
+use Rattle.giop_decode.specs.ReadResult.{Coding, ValueAt}
 use Rattle.giop_decode.specs.ReadingSteps.{path_in}
 use Rattle.giop_decode.specs.SeenState.{AreOfRoot, CanStandAt, GoesOn, HoldsNoted}
 use Rattle.giop_decode.specs.DecoderSteps.{Comes, IsAround, IsNext, emitted}
@@ -17,7 +17,7 @@ use Rattle.giop_sig.specs.Table.{Table}
 
 -- The lines, up to this offset, of what an octet finishes: those of a part within these frames,
 -- which are at offset `here`.
-abbrev pub Finishes : Table → List Frame → Finished → ℕ → ℕ → List Line → Type 0
+abbrev pub Finishes : Table → List Frame → Finished → ℕ → ℕ → List ValueAt → Type 0
 Finishes C outer finished here at lines =
     IsOutput (tree_in C outer finished.of.0) (path_in [] (open_parts C here outer)) at
     finished.output
@@ -26,7 +26,7 @@ Finishes C outer finished here at lines =
 -- The lines that the step gives up to this offset, for a part of this type within the frames around
 -- it, which are at offset `here`: those of its output. A piece has the octets that are held, and
 -- then the rest.
-abbrev pub Gives : Table → Decoder → ℕ → Step → List ℕ → ℕ → ℕ → List Line → Type 0
+abbrev pub Gives : Table → Decoder → ℕ → Step → List ℕ → ℕ → ℕ → List ValueAt → Type 0
 Gives C d of step rest here at lines =
     IsOutput (tree_in C d.outer.items of) (path_in [] (open_parts C here d.outer.items)) at
     step.output
@@ -58,15 +58,15 @@ pub record Passes (C : Table) (d new : Decoder) (of : ℕ) (step : Step) (rest :
   pub here : (coding : Coding) (here : ℕ) → CanStandAt coding d here →
       CanStandAt coding new (here + 1)
   pub next : GoesOn p → IsNext C d new of step.transition
-  pub steps : (coding : Coding) (here : ℕ) (lines : List Line) →
+  pub steps : (coding : Coding) (here : ℕ) (lines : List ValueAt) →
       Gives C d of step rest here (here + 1) lines →
       Comes C new p (here + 1) (emitted coding C d of step.transition step.output lines here)
-  pub inside : (coding : Coding) (here : ℕ) (lines : List Line) →
+  pub inside : (coding : Coding) (here : ℕ) (lines : List ValueAt) →
       Gives C d of step rest here (here + 1) lines →
       ends_in_string (emitted coding C d of step.transition step.output lines here)
       ≡ transition_in_string (tree_in C d.outer.items of) step.transition
   pub of_root : AreOfRoot C d.head.root d.notes → AreOfRoot C d.head.root new.notes
-  pub notes : (asked : Bool) (h : Noted) (here at : ℕ) (lines : List Line) →
+  pub notes : (asked : Bool) (h : Noted) (here at : ℕ) (lines : List ValueAt) →
       HoldsNoted C asked d.notes h → Gives C d of step rest here at lines →
       HoldsNoted C asked new.notes (without_name_if (clears_name step.output)
       (noted (is_header_root d.head.root) h lines))

@@ -2,8 +2,8 @@
 -- the contents of strings and octet sequences in pieces of 32 (docs/FORMATS.md; meaning).
 use Rattle.std.specs.Prelude.{ℕ, zero, suc, ◌+◌, ◌-◌, ◌/◌, false, true, cond, ltb, eqb, List, [], ◌∷◌, length, take, drop, get_or, Option, Some, None}
 use Rattle.giop_cdr.specs.Alignment.{padding}
-use Rattle.giop_decode.specs.declared.progress.Kind.{Kind}
-use Rattle.giop_decode.specs.declared.progress.Kind.TheVariants as kinds
+use Rattle.giop_decode.specs.declared.progress.ValueFault.{ValueFault}
+use Rattle.giop_decode.specs.declared.progress.ValueFault.TheVariants as kinds
 use Rattle.giop_decode.specs.ReadResult.{PathSegment, Piece, line, Content, Read, Done, Short, Fault, with_front}
 use Rattle.giop_sig.specs.Types.{OctetKind, Ty, Text, Octets, bound_of}
 
@@ -25,12 +25,12 @@ number phase n at (b ∷ s) =
     cond (ltb 0 (padding (phase at) n)) (number phase n (at + 1) s) (block n at (b ∷ s))
 
 -- a fault instead of a value, if there is one
-abbrev pub unless : Ty → Option Kind → ℕ → Read → Read
+abbrev pub unless : Ty → Option ValueFault → ℕ → Read → Read
 unless T None at read = read
 unless T (Some kind) at read = Fault [] at kind T
 
 -- what is wrong with a count, or with the length of a content, that is above its bound
-abbrev pub over : Option ℕ → ℕ → Option Kind
+abbrev pub over : Option ℕ → ℕ → Option ValueFault
 over None n = None
 over (Some bound) n = cond (ltb bound n) (Some kinds.Bound) None
 
@@ -45,7 +45,7 @@ tail T = 0
 
 -- what is wrong with the end of a content of n octets, together with those after it: a string must
 -- end in a zero
-abbrev pub ends : Ty → ℕ → List ℕ → Option Kind
+abbrev pub ends : Ty → ℕ → List ℕ → Option ValueFault
 ends (Text bound) n octets = cond (eqb (get_or octets n 0) 0) None (Some kinds.StringEnd)
 ends T n octets = None
 

@@ -1,7 +1,7 @@
 -- The result of reading a value: its lines, and the parts that have begun and not ended (meaning).
 use Rattle.std.specs.Prelude.{◌≡◌, ℕ, ◌+◌, ◌-◌, ◌%◌, Bool, cond, ltb, List, ◌∷◌, ◌++◌, Option}
 use Rattle.giop_cdr.specs.declared.order.Order.{Order}
-use Rattle.giop_decode.specs.declared.progress.Kind.{Kind}
+use Rattle.giop_decode.specs.declared.progress.ValueFault.{ValueFault}
 use Rattle.giop_sig.specs.Types.{Scalar, Ty, Told}
 
 -- ---- lines
@@ -28,13 +28,13 @@ pub data Value : Type 0 where
   Piece : Ty → ℕ → List ℕ → Bool → Value
 
 -- a line: the offset just after the last octet of its value, its path below the root, and the value
-pub record Line : Type 0 where
+pub record ValueAt : Type 0 where
   pub at : ℕ
   pub path : List PathSegment
   pub value : Value
 
 -- the line of a value at a path; the offset is that just after its last octet
-abbrev pub line : ℕ → List PathSegment → Value → Line
+abbrev pub line : ℕ → List PathSegment → Value → ValueAt
 line at path value = record { at = at; path = path; value = value }
 
 -- ---- how octets are taken
@@ -94,18 +94,18 @@ pub data Leaf : Type 0 where
 -- that have begun and not ended, the outermost first; or the fault, the offset just after its
 -- octet, and the type of the value at fault.
 pub data Read : Type 0 where
-  Done : List Line → ℕ → List ℕ → Read
-  Short : List Line → ℕ → List OpenPart → Leaf → Read
-  Fault : List Line → ℕ → Kind → Ty → Read
+  Done : List ValueAt → ℕ → List ℕ → Read
+  Short : List ValueAt → ℕ → List OpenPart → Leaf → Read
+  Fault : List ValueAt → ℕ → ValueFault → Ty → Read
 
 -- the lines of a reading
-abbrev pub lines_of : Read → List Line
+abbrev pub lines_of : Read → List ValueAt
 lines_of (Done lines at rest) = lines
 lines_of (Short lines at outer leaf) = lines
 lines_of (Fault lines at kind S) = lines
 
 -- a reading with these lines before its own
-abbrev pub with_front : List Line → Read → Read
+abbrev pub with_front : List ValueAt → Read → Read
 with_front front (Done lines at rest) = Done (front ++ lines) at rest
 with_front front (Short lines at outer leaf) = Short (front ++ lines) at outer leaf
 with_front front (Fault lines at kind S) = Fault (front ++ lines) at kind S

@@ -5,9 +5,9 @@ use Rattle.giop_cdr.specs.Numbers.{num}
 use Rattle.giop_cdr.specs.declared.order.Order.{Order}
 use Rattle.giop_cdr.specs.declared.order.Order.TheVariants.{Big, Little}
 use Rattle.giop_cdr.specs.declared.prim.Primitive.TheVariants as prims
-use Rattle.giop_decode.specs.declared.progress.Kind.{Kind}
-use Rattle.giop_decode.specs.declared.progress.Kind.TheVariants as kinds
-use Rattle.giop_decode.specs.ReadResult.{Coding, PathSegment, Name, Index, Switch, Value, Number, Count, Piece, Line, Telling, line, Part, Member, LeadingNumber, Read, Done, Short, with_front, followed, within, Held, Size, Ordered, coded, Inside, Leaf, Opening, Content, Fault}
+use Rattle.giop_decode.specs.declared.progress.ValueFault.{ValueFault}
+use Rattle.giop_decode.specs.declared.progress.ValueFault.TheVariants as kinds
+use Rattle.giop_decode.specs.ReadResult.{Coding, PathSegment, Name, Index, Switch, Value, Number, Count, Piece, ValueAt, Telling, line, Part, Member, LeadingNumber, Read, Done, Short, with_front, followed, within, Held, Size, Ordered, coded, Inside, Leaf, Opening, Content, Fault}
 use Rattle.giop_decode.specs.Pieces.{Block, Partial, Complete, number, unless, over, text, octets, block, content, full_pieces}
 use Rattle.giop_sig.specs.Kinds.{is_kind, kind_word}
 use Rattle.giop_sig.specs.Types.{Scalar, Plain, Enum, Marked, width, Ty, Single, Text, Octets, size_width, Struct, Union, Sequence, Array, tag_of, Encapsulation, Recursive, Led, Sign, MarkedNumber, Counted, Spelt, Told, Untold, Sequel, Then, Ends, Stops, Hearing, sequel}
@@ -20,13 +20,13 @@ after_leading_number T after (Partial carry at) = Short [] at [] (LeadingNumber 
 after_leading_number T after (Complete octets at rest) = after octets at rest
 
 -- a number isn't a kind if it has no word
-abbrev pub wrong_kind : Bool → Option (List ℕ) → Option Kind
+abbrev pub wrong_kind : Bool → Option (List ℕ) → Option ValueFault
 wrong_kind true None = Some kinds.Enum
 wrong_kind kind word = None
 
 -- what is wrong with a number: a boolean is 0 or 1, an enum has a name for its number, and a kind a
 -- word
-abbrev pub wrong : Scalar → ℕ → Option Kind
+abbrev pub wrong : Scalar → ℕ → Option ValueFault
 wrong (Plain prims.Boolean) n = cond (ltb n 2) None (Some kinds.Boolean)
 wrong (Plain p) n = None
 wrong (Enum count names) n = cond (ltb n count) None (Some kinds.Enum)
@@ -49,7 +49,7 @@ member Nothing case at s = Done [] at s
 member Refused case at s = Done [] at s
 
 -- what is wrong with what a discriminator selects: it isn't one of the dispositions
-abbrev pub refused : Selected → Option Kind
+abbrev pub refused : Selected → Option ValueFault
 refused Refused = Some kinds.Disposition
 refused _ = None
 
@@ -144,7 +144,7 @@ heard h told None = told
 heard h told (Some sign) = h.hears told sign
 
 -- what has been told after these lines
-abbrev pub told_after : Hearing → Told → List Line → Told
+abbrev pub told_after : Hearing → Told → List ValueAt → Told
 told_after h told [] = told
 told_after h told (l ∷ ls) = told_after h (heard h told (sign_of l.value)) ls
 

@@ -2,11 +2,11 @@
 use Rattle.std.specs.Prelude.{◌≡◌, ℕ, suc, ◌+◌, ◌-◌, ◌%◌, cond, ltb, List, [], ◌∷◌, ◌++◌, length, map}
 use Rattle.giop_cdr.specs.Alignment.{padding}
 use Rattle.giop_cdr.specs.Numbers.{num}
-use Rattle.giop_decode.specs.declared.progress.Kind.{Kind}
-use Rattle.giop_decode.specs.declared.progress.Kind.TheVariants as kinds
+use Rattle.giop_decode.specs.declared.progress.ValueFault.{ValueFault}
+use Rattle.giop_decode.specs.declared.progress.ValueFault.TheVariants as kinds
 use Rattle.giop_decode.specs.Pieces.{Complete, Block, Partial, content, full_piece, full_pieces, last_piece, octets, over, tail, text, unless}
 use Rattle.giop_decode.specs.Reading.{chosen, after_leading_number, parts_from, read, single, elements, enclosed, opening, sized, none_left, led, led_segment, rooted, told_after}
-use Rattle.giop_decode.specs.ReadResult.{Coding, Line, Content, Count, Done, Fault, LeadingNumber, Index, Leaf, Member, Name, Part, OpenPart, Read, PathSegment, Short, followed, line, with_front, within, Held, Inside, Opening, Size, Telling}
+use Rattle.giop_decode.specs.ReadResult.{Coding, ValueAt, Content, Count, Done, Fault, LeadingNumber, Index, Leaf, Member, Name, Part, OpenPart, Read, PathSegment, Short, followed, line, with_front, within, Held, Inside, Opening, Size, Telling}
 use Rattle.giop_sig.specs.Hearings.{hearing_in}
 use Rattle.giop_sig.specs.Types.{part_of, Octets, size_width, Sequence, Single, Struct, Text, Ty, Union, width, tag_of, Encapsulation, Recursive, Led}
 
@@ -134,12 +134,12 @@ around coding path (place ∷ outer) r =
     r)
 
 -- an open part after these lines came within it
-abbrev pub heard_in : List Line → OpenPart → OpenPart
+abbrev pub heard_in : List ValueAt → OpenPart → OpenPart
 heard_in lines (Telling T told) = Telling T (told_after (hearing_in T) told lines)
 heard_in lines place = place
 
 -- open parts after these lines came within them
-abbrev pub heard_parts : List Line → List OpenPart → List OpenPart
+abbrev pub heard_parts : List ValueAt → List OpenPart → List OpenPart
 heard_parts lines outer = map (heard_in lines) outer
 
 -- the path within open parts
@@ -190,19 +190,19 @@ root_resumes coding path r (b ∷ t) = root_resumes coding path (root_advance co
 -- ---- how many lines there are
 
 -- at most one line, which is at this offset
-abbrev pub OneAt : ℕ → List Line → Type 0
+abbrev pub OneAt : ℕ → List ValueAt → Type 0
 OneAt n [] = Unit {0}
 OneAt n (l ∷ []) = l.at ≡ n
 OneAt n (l ∷ l' ∷ ls) = ⊥
 
 -- a rule that an octet breaks; octets of no known type break none
-abbrev pub IsRule : Kind → Type 0
+abbrev pub IsRule : ValueFault → Type 0
 IsRule kinds.Untyped = ⊥
 IsRule kind = Unit {0}
 
 -- the lines at the octet of a fault: there are none if its value breaks a rule, but the last octet
 -- of an encapsulation may have the line of what it completes
-abbrev pub Faulted : ℕ → Kind → List Line → Type 0
+abbrev pub Faulted : ℕ → ValueFault → List ValueAt → Type 0
 Faulted n kinds.EncapShort lines = OneAt n lines
 Faulted n kinds.Untyped lines = OneAt n lines
 Faulted n why lines = lines ≡ []

@@ -4,7 +4,7 @@ use Rattle.giop_decode.specs.declared.decoder.Decoder.{Decoder}
 use Rattle.giop_decode.specs.declared.frame.Frame.{Frame}
 use Rattle.giop_decode.specs.declared.progress.Progress.{Progress}
 use Rattle.giop_decode.specs.declared.progress.Progress.TheVariants as progress
-use Rattle.giop_decode.specs.ReadResult.{Coding, Line, PathSegment, lines_of}
+use Rattle.giop_decode.specs.ReadResult.{Coding, ValueAt, PathSegment, lines_of}
 use Rattle.giop_decode.specs.Reading.{reading}
 use Rattle.giop_decode.specs.Noted.{is_header_root, names_operation}
 use Rattle.giop_decode.specs.SeenState.{Fits, GoesOn, IsDone, Reads, KeepsNoted, IsAnswer, IsFault, added_lines}
@@ -25,7 +25,7 @@ use Rattle.giop_decode.specs.ReadingSteps.{AreHeld, after, leading_width, leaf_s
 use Rattle.giop_decode.specs.Transitions.{HasOutput, HaveOctetsLeft, IsOutput, LetsGo, TransitionFits, TransitionGives, coding_by, leaf_of, leaf_type, still_held, ticked_by, tree_in, after_transition}
 
 -- the lines of more octets
-abbrev pub added_lines_of_run : Coding → Ty → ℕ → List ℕ → List ℕ → List Line
+abbrev pub added_lines_of_run : Coding → Ty → ℕ → List ℕ → List ℕ → List ValueAt
 added_lines_of_run coding T at s octets =
     drop (length (lines_of (reading coding [] T at s)))
     (lines_of (reading coding [] T at (s ++ octets)))
@@ -173,7 +173,7 @@ pub record TakenTogether (C : Table) (d : Decoder) (octets : List ℕ) (of : Typ
   pub string_goes_on : StringGoesOn (tree_in C d.outer.items of.0)
       (string_offset (tree_in C d.outer.items of.0) leaf) step.transition step.output
       (length (kept_piece ++ rest))
-  pub lines : Coding → List PathSegment → ℕ → List Line
+  pub lines : Coding → List PathSegment → ℕ → List ValueAt
   pub comes : (coding : Coding) (path : List PathSegment) (here : ℕ) →
       coding.order ≡ (coding_by d.order d.at d.outer.items).0 →
       coding.phase here % 8 ≡ ((coding_by d.order d.at d.outer.items).1 + (count - 1)) % 8 →

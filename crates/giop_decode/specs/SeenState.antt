@@ -10,7 +10,7 @@ use Rattle.giop_decode.specs.declared.notes.Last.{Last}
 use Rattle.giop_decode.specs.declared.notes.Last.TheVariants as lasts
 use Rattle.giop_decode.specs.declared.progress.Progress.{Progress}
 use Rattle.giop_decode.specs.declared.progress.Progress.TheVariants as progress
-use Rattle.giop_decode.specs.ReadResult.{Coding, IsEvenFrom, Line, Read, Done, Short, Fault, lines_of}
+use Rattle.giop_decode.specs.ReadResult.{Coding, IsEvenFrom, ValueAt, Read, Done, Short, Fault, lines_of}
 use Rattle.giop_decode.specs.Reading.{reading}
 use Rattle.giop_decode.specs.Fits.{FitsIn}
 use Rattle.giop_decode.specs.NameBuffer.{FitsName, string_offset}
@@ -91,14 +91,14 @@ IsDone d = d.leaf ≡ None
 
 -- the reading that the fields of a decoder stand for, with this innermost part, and with these
 -- lines at this offset
-abbrev pub read_by_leaf : Table → Decoder → Option Innermost → List Line → ℕ → Read
+abbrev pub read_by_leaf : Table → Decoder → Option Innermost → List ValueAt → ℕ → Read
 read_by_leaf C d None lines at = Done lines at []
 read_by_leaf C d (Some leaf) lines at =
     Short lines at (open_parts C at d.outer.items)
     (leaf_of C d.outer.items leaf d.carry d.piece.items)
 
 -- the reading that the fields of a decoder stand for, with these lines at this offset
-abbrev pub read_by_fields : Table → Decoder → List Line → ℕ → Read
+abbrev pub read_by_fields : Table → Decoder → List ValueAt → ℕ → Read
 read_by_fields C d lines at = read_by_leaf C d d.leaf lines at
 
 -- What the name buffer has: the last name, the octets of a string that hasn't ended, or those of an
@@ -152,7 +152,7 @@ KeepsNoted C root d r = HoldsNoted C true d.notes (noted_of (is_header_root root
 -- it.
 pub record Reads (C : Table) (T : Ty) (coding : Coding) (at message : ℕ) (root : Root) (d : Decoder)
     (s : List ℕ) : Type 0 where
-  pub lines : List Line
+  pub lines : List ValueAt
   pub is : reading coding [] T at s ≡ read_by_fields C d lines (at + length s)
   pub keeps_noted : KeepsNoted C root d (reading coding [] T at s)
   pub narrow : d.narrow ≡ C.narrow
@@ -163,7 +163,7 @@ pub record Reads (C : Table) (T : Ty) (coding : Coding) (at message : ℕ) (root
 -- ---- one more octet
 
 -- the lines of the octet
-abbrev pub added_lines : Coding → Ty → ℕ → List ℕ → ℕ → List Line
+abbrev pub added_lines : Coding → Ty → ℕ → List ℕ → ℕ → List ValueAt
 added_lines coding T at s octet =
     drop (length (lines_of (reading coding [] T at s)))
     (lines_of (reading coding [] T at (s ++ octet ∷ [])))

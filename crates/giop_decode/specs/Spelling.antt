@@ -4,7 +4,7 @@ use Rattle.giop_cdr.specs.Numbers.{interpreted_as}
 use Rattle.giop_cdr.specs.Primitives.{size_of}
 use Rattle.giop_cdr.specs.declared.number.Number.{Number as Taken}
 use Rattle.giop_cdr.specs.declared.prim.Primitive.{Primitive}
-use Rattle.giop_decode.specs.ReadResult.{PathSegment, Name, Index, Switch, Value, Number, Count, Piece, Line, Held, Size, Ordered}
+use Rattle.giop_decode.specs.ReadResult.{PathSegment, Name, Index, Switch, Value, Number, Count, Piece, ValueAt, Held, Size, Ordered}
 use Rattle.giop_print.specs.Lines.{kind_word, spaced, number_text, spaced_hex, more_word, order_word}
 use Rattle.giop_print.specs.Paths.{root_word, name_segment, index_segment}
 use Rattle.giop_print.specs.Text.{joined, quoted}
@@ -70,10 +70,10 @@ value_text message path value =
     joined (codes "m" ∷ decimal message ∷ codes " " ∷ path ∷ (value_words value ++ codes "\n" ∷ []))
 
 -- the line of a value, in the message with this number and below a root
-abbrev pub line_text : ℕ → Root → Line → List ℕ
+abbrev pub line_text : ℕ → Root → ValueAt → List ℕ
 line_text message root l = value_text message (path_text root l.path) l.value
 
 -- the text of lines, one after another
-unfoldable pub lines_text : ℕ → Root → List Line → List ℕ
+unfoldable pub lines_text : ℕ → Root → List ValueAt → List ℕ
 lines_text message root [] = []
 lines_text message root (l ∷ ls) = line_text message root l ++ lines_text message root ls

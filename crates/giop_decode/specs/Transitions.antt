@@ -13,16 +13,16 @@ use Rattle.giop_decode.specs.declared.leaf.Transition.{Transition}
 use Rattle.giop_decode.specs.declared.leaf.Transition.TheVariants as transitions
 use Rattle.giop_decode.specs.declared.leaf.Output.{Output}
 use Rattle.giop_decode.specs.declared.leaf.Output.TheVariants as outputs
-use Rattle.giop_decode.specs.declared.progress.Kind.{Kind}
-use Rattle.giop_decode.specs.declared.progress.Kind.TheVariants as kinds
-use Rattle.giop_decode.specs.ReadResult.{PathSegment, Switch, Number, Count, Size, Ordered, Piece, Line, line, coded, OpenPart, Part, Member, Inside, Telling, Leaf, LeadingNumber, Opening, Content, Read, Done, Short, Fault}
+use Rattle.giop_decode.specs.declared.progress.ValueFault.{ValueFault}
+use Rattle.giop_decode.specs.declared.progress.ValueFault.TheVariants as kinds
+use Rattle.giop_decode.specs.ReadResult.{PathSegment, Switch, Number, Count, Size, Ordered, Piece, ValueAt, line, coded, OpenPart, Part, Member, Inside, Telling, Leaf, LeadingNumber, Opening, Content, Read, Done, Short, Fault}
 use Rattle.giop_decode.specs.Pieces.{Block, Partial, Complete}
 use Rattle.giop_decode.specs.Reading.{cut_off, enclosed, none_left, wrong}
 use Rattle.giop_decode.specs.Begins.{start_outer, start_leaf}
 use Rattle.giop_decode.specs.Fits.{HasParts, HasCase, HasContent, IsEncapsulation, IsLed, IsRecursive}
 use Rattle.giop_sig.specs.declared.types.Shape.{Shape}
 use Rattle.giop_sig.specs.declared.types.Shape.TheVariants as shapes
-use Rattle.giop_sig.specs.Types.{tag_of, Scalar, width, interpreted_by, elements_fit, Ty, Single, Struct, Union, Array, Led, part_of, switch_of, shape_in, HasPlace, IsUnion}
+use Rattle.giop_sig.specs.Types.{tag_of, Scalar, width, interpreted_by, elements_fit, Ty, Single, Struct, Union, Array, Led, part_of, switch_of, shape_in, HasIndex, IsUnion}
 use Rattle.giop_decode.specs.declared.frame.Within.{Within}
 use Rattle.giop_decode.specs.declared.frame.Within.TheVariants as withins
 use Rattle.giop_decode.specs.declared.frame.Stage.{Stage}
@@ -105,7 +105,7 @@ IsUncounted s = ⊥
 
 -- an index and a count of an encapsulation, or of another type
 abbrev pub IsWithin : Option Order → ℕ → ℕ → Ty → Type 0
-IsWithin None i count T = HasPlace (shape_in T) i × (IsEncapsulation T → ⊥)
+IsWithin None i count T = HasIndex (shape_in T) i × (IsEncapsulation T → ⊥)
     × (IsUncounted (shape_in T) → count ≡ 0)
 IsWithin (Some order) i count T = IsEncapsulation T × (0 < i) × (i ≤ count)
 
@@ -309,7 +309,7 @@ abbrev pub has_ended : List Frame → Bool
 has_ended frames = list_any (λ f. ended_at f.inside f.index f.count) frames
 
 -- an innermost part that goes on within these frames, unless one of them has ended
-abbrev pub gone_to : Table → List Line → ℕ → List Frame → Leaf → Read
+abbrev pub gone_to : Table → List ValueAt → ℕ → List Frame → Leaf → Read
 gone_to C lines at frames leaf =
     cond (has_ended frames) (Fault lines at kinds.EncapShort (cut_off leaf))
     (Short lines at (open_parts C at frames) leaf)
@@ -323,13 +323,13 @@ gone_on C at outer (Some leaf) = gone_to C [] at outer (leaf_of C outer leaf [] 
 
 -- the reading after the count of a recursive sequence's elements, which is at least 1; they may
 -- have room or not
-abbrev pub recursed : Ty → Bool → ℕ → List Line → ℕ → Read
+abbrev pub recursed : Ty → Bool → ℕ → List ValueAt → ℕ → Read
 recursed T true count lines at =
     Short lines at (Part T 0 count ∷ start_outer (part_of T 0)) (start_leaf (part_of T 0))
 recursed T false count lines at = Fault lines at kinds.Untyped T
 
 -- the reading of an innermost part after a transition, with these lines at this offset
-abbrev pub after_transition : Ty → Transition → List ℕ → List ℕ → List Line → ℕ → Read
+abbrev pub after_transition : Ty → Transition → List ℕ → List ℕ → List ValueAt → ℕ → Read
 after_transition T (transitions.More leaf) carry piece lines at =
     Short lines at [] (leaf_by T leaf carry piece)
 after_transition T transitions.Ended carry piece lines at = Done lines at []
@@ -392,7 +392,7 @@ switch_segment T = Switch (tag_in T)
 
 -- the line of an octet, if it has one; a piece has these octets, those that are held and those
 -- ahead
-abbrev pub IsOutput : Ty → List PathSegment → ℕ → Output → List ℕ → List Line → Type 0
+abbrev pub IsOutput : Ty → List PathSegment → ℕ → Output → List ℕ → List ValueAt → Type 0
 IsOutput T path at outputs.Nothing piece lines = lines ≡ []
 IsOutput T path at outputs.Length piece lines = lines ≡ []
 IsOutput T path at (outputs.Number number) piece lines =
@@ -423,17 +423,17 @@ HasOutput T output = Unit {0}
 pub record TransitionGives (T : Ty) (transition : Transition) (output : Output)
     (carry piece : List ℕ)
     (path : List PathSegment) (at : ℕ) (read : Read) : Type 0 where
-  pub lines : List Line
+  pub lines : List ValueAt
   pub comes : read ≡ after_transition T transition carry (still_held output piece) lines at
   pub says : IsOutput T path at output piece lines
 
 -- what is wrong if a bound is exceeded
-abbrev pub over_by : Bool → Option Kind
+abbrev pub over_by : Bool → Option ValueFault
 over_by true = Some kinds.Bound
 over_by false = None
 
 -- what is wrong if a kind has no word
-abbrev pub unnamed_by : Bool → Option Kind
+abbrev pub unnamed_by : Bool → Option ValueFault
 unnamed_by true = Some kinds.Enum
 unnamed_by false = None
 

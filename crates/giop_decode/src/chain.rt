@@ -123,7 +123,8 @@ fn has_frame(catalogue: &SeenCatalogue<'_>, left: u8, of: TypeId, frame: Frame) 
     }
 }
 
-/// The same for a frame that has told nothing.
+/// Whether a frame that has told nothing can be for a type: for one of its parts, or for an
+/// encapsulation some of whose octets are to come. `left` is the room of the type's parts.
 fn has_own_frame(catalogue: &SeenCatalogue<'_>, left: u8, of: TypeId, frame: Frame) -> bool
     requires { of.0 < length catalogue.now.types }
     ensures { IsTrue result

@@ -4,7 +4,7 @@ ghost use Rattle.std.specs.Prelude.{◌≡◌, ℕ, ◌+◌, ◌-◌, ◌%◌, �
 ghost use Rattle.std.specs.Option.{option_map};
 ghost use Rattle.giop_decode.specs.declared.decoder.Decoder.{Decoder as Before};
 ghost use Rattle.giop_decode.specs.declared.leaf.Leaf.{Leaf as Innermost};
-ghost use Rattle.giop_decode.specs.ReadResult.{Coding, IsEvenFrom, PathSegment, Line, Read, lines_of, seamed, with_front};
+ghost use Rattle.giop_decode.specs.ReadResult.{Coding, IsEvenFrom, PathSegment, ValueAt, Read, lines_of, seamed, with_front};
 ghost use Rattle.giop_decode.specs.Spelling.{lines_text};
 ghost use Rattle.giop_print.specs.Output.{Writes};
 ghost use Rattle.giop_print.specs.declared.path.Root.{Root as PathRoot};
@@ -295,7 +295,7 @@ impl Decoder {
         ensures notes { self.new.notes ≡ self.old.notes }
         ensures at { self.new.at ≡ self.old.at }
         ensures narrow { self.new.narrow ≡ self.old.narrow }
-        ensures inside { (at : ℕ) (lines : List Line) →
+        ensures inside { (at : ℕ) (lines : List ValueAt) →
             ends_in_string
             (transition_result catalogue.now (tree_in catalogue.now self.old.outer.items of.0)
             self.new transition lines at)
@@ -429,7 +429,7 @@ impl Decoder {
             ahead.entry.of.0 ahead.entry.step ahead.entry.rest.now p) }
         ensures writes { (d : Before) → IsBehind catalogue.now d self.old ahead.entry.of.0
             ahead.entry.step ahead.entry.rest.now →
-            (here at : ℕ) (lines : List Line) →
+            (here at : ℕ) (lines : List ValueAt) →
             Gives catalogue.now d ahead.entry.of.0 ahead.entry.step ahead.entry.rest.now
             here at lines →
             Writes result (O.log out.old) (O.log out.new)

@@ -3,7 +3,7 @@
 ghost use Rattle.std.specs.Prelude.{◌≡◌, ℕ, ◌+◌, ◌-◌, ◌^◌, ◌<◌, ◌≤◌, List, [], ◌∷◌, ◌++◌, length, take, Bool, Some, ◌↔◌, IsTrue, IfSome, IfNone, false};
 ghost use Rattle.arrayvec.specs.ArrayVec.{array_vec_len};
 ghost use Rattle.giop_decode.specs.ReadResult.{Coding, PathSegment, LeadingNumber, Done, Fault};
-ghost use Rattle.giop_decode.specs.declared.progress.Kind.TheVariants as kinds;
+ghost use Rattle.giop_decode.specs.declared.progress.ValueFault.TheVariants as kinds;
 ghost use Rattle.giop_decode.specs.Reading.{none_left, rooted};
 ghost use Rattle.giop_decode.specs.ReadingSteps.{around};
 ghost use Rattle.giop_decode.specs.Fits.{HasLeadingNumber, OpenFrom};

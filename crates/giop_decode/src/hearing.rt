@@ -1,7 +1,7 @@
 //! What a line tells the parts around it about what comes next in them.
 
 ghost use Rattle.std.specs.Prelude.{◌≡◌, ℕ, suc, ◌<◌, ◌++◌, List, [], ◌∷◌, length};
-ghost use Rattle.giop_decode.specs.ReadResult.{Line, Number as NumberValue, PathSegment, line};
+ghost use Rattle.giop_decode.specs.ReadResult.{ValueAt, Number as NumberValue, PathSegment, line};
 ghost use Rattle.giop_decode.specs.Heard.{AreHeard, IsSign};
 ghost use Rattle.giop_decode.specs.Transitions.{AreKnown, HasOutput, IsNumberOf, IsOutput, frames_after, hear_of, number_of, signal_by, stage_of, tree_in};
 ghost use Rattle.giop_sig.specs.Trees.{tree_at};
@@ -38,7 +38,7 @@ fn sign<'a>(catalogue: &SeenCatalogue<'_>, finished: Finished<'a>) -> Option<Sig
     requires known { finished.of.0 < length catalogue.now.types }
     requires has_output { (n : ℕ) × HasOutput (tree_at catalogue.now (suc n) finished.of.0)
         finished.output }
-    ensures { (n at : ℕ) (path : List PathSegment) (lines : List Line) →
+    ensures { (n at : ℕ) (path : List PathSegment) (lines : List ValueAt) →
         IsOutput (tree_at catalogue.now (suc n) finished.entry.of.0) path at finished.entry.output
         (finished.entry.held.now ++ finished.entry.rest.now) lines → IsSign result lines }
 {

@@ -4,7 +4,7 @@
 ghost use Rattle.std.specs.Prelude.{◌≡◌, ℕ, ◌+◌, ◌<◌, Bool, List, [], ◌∷◌, ◌++◌, length, flat_map};
 ghost use Rattle.giop_sig.specs.Types.{Ty};
 ghost use Rattle.giop_sig.specs.Fits.{IsFit};
-ghost use Rattle.giop_decode.specs.ReadResult.{Coding, PathSegment, Line, OpenPart, Leaf, Read, Short, lines_of, with_front};
+ghost use Rattle.giop_decode.specs.ReadResult.{Coding, PathSegment, ValueAt, OpenPart, Leaf, Read, Short, lines_of, with_front};
 ghost use Rattle.giop_decode.specs.Reading.{read, reading};
 ghost use Rattle.giop_decode.specs.Begins.{start_outer, start_leaf};
 ghost use Rattle.giop_decode.specs.ReadingSteps.{step, advance, around, root_step, root_advance, root_resumes, resumes, heard_parts, IsOctetResult};
@@ -26,7 +26,7 @@ pub fn reading_laws()
         read coding path T at (s ++ t) ≡ resumes coding path (read coding path T at s) t }
     // The lines of a longer list begin with those of a shorter one.
     ensures lines { (coding : Coding) (path : List PathSegment) (T : Ty) (at : ℕ) (s t : List ℕ) →
-        (more : List Line)
+        (more : List ValueAt)
         × (lines_of (read coding path T at (s ++ t)) ≡ lines_of (read coding path T at s) ++ more) }
     // A step has at most one line, which is at its octet. It has none if the octet breaks a rule of
     // its own value; an octet that only ends an encapsulation too soon has the line of what it
@@ -83,7 +83,7 @@ pub fn whole_laws()
         ≡ root_resumes coding path (reading coding path T at s) t }
     // The lines of a longer list begin with those of a shorter one.
     ensures lines { (coding : Coding) (path : List PathSegment) (T : Ty) (at : ℕ) (s t : List ℕ) →
-        (more : List Line)
+        (more : List ValueAt)
         × (lines_of (reading coding path T at (s ++ t))
         ≡ lines_of (reading coding path T at s) ++ more) }
     // A step has at most one line, which is at its octet.
@@ -112,7 +112,7 @@ pub fn whole_laws()
     // The lines of a part are heard by each part around it that tells what comes after it, and come
     // before what is read next.
     ensures heard { (coding : Coding) (path : List PathSegment) (outer : List OpenPart)
-        (lines : List Line) (r : Read) →
+        (lines : List ValueAt) (r : Read) →
         around coding path outer (with_front lines r)
         ≡ with_front lines (around coding path (heard_parts lines outer) r) }
 {}

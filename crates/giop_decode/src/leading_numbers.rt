@@ -16,7 +16,7 @@ ghost use Rattle.giop_sig.specs.Trees.{tree, tree_at};
 
 use crate::encapsulation;
 use crate::leaf::{Leaf, Output, Step, Transition, refused};
-use crate::progress::Kind;
+use crate::progress::ValueFault;
 use giop_cdr::{Carry, Number, Order, Prim, number_of, pad, size};
 use giop_sig::{SeenCatalogue, Selected, Shape, TypeId, is_kind, kind_word};
 
@@ -125,12 +125,12 @@ pub(crate) fn take_value(
                 transition: Transition::Ended,
                 output: Output::Number(number),
             },
-            Err(_) => refused(Kind::Boolean),
+            Err(_) => refused(ValueFault::Boolean),
         },
         Shape::Enumeration(count) => {
             let n = long_of(order, octets);
             if n >= count {
-                return refused(Kind::Enum);
+                return refused(ValueFault::Enum);
             }
             Step {
                 transition: Transition::Ended,
@@ -151,7 +151,7 @@ pub(crate) fn take_value(
         Shape::Marked(mark) => {
             let n = long_of(order, octets);
             if is_unnamed(mark, n) {
-                return refused(Kind::Enum);
+                return refused(ValueFault::Enum);
             }
             Step {
                 transition: Transition::Ended,
@@ -183,19 +183,19 @@ fn take_switch(catalogue: &SeenCatalogue<'_>, order: Order, of: TypeId, octets: 
     match catalogue.shape(catalogue.switch_type(of)) {
         Shape::Prim(prim) => match number_of(order, prim, octets) {
             Ok(number) => take_selected(catalogue, of, number),
-            Err(_) => refused(Kind::Boolean),
+            Err(_) => refused(ValueFault::Boolean),
         },
         Shape::Enumeration(count) => {
             let label = long_of(order, octets);
             if label >= count {
-                return refused(Kind::Enum);
+                return refused(ValueFault::Enum);
             }
             take_selected(catalogue, of, Number::Unsigned(u64::from(label)))
         }
         Shape::Marked(mark) => {
             let kind = long_of(order, octets);
             if is_unnamed(mark, kind) {
-                return refused(Kind::Enum);
+                return refused(ValueFault::Enum);
             }
             take_selected(catalogue, of, Number::Unsigned(u64::from(kind)))
         }
@@ -224,7 +224,7 @@ fn take_selected(catalogue: &SeenCatalogue<'_>, of: TypeId, number: Number) -> S
             transition: Transition::Ended,
             output: Output::Switch(number),
         },
-        Selected::Refused => refused(Kind::Disposition),
+        Selected::Refused => refused(ValueFault::Disposition),
     }
 }
 
@@ -248,7 +248,7 @@ pub(crate) fn take_length(
     }
     if exceeds(bound, n - 1) {
         return Step {
-            transition: Transition::Refused(Kind::Bound),
+            transition: Transition::Refused(ValueFault::Bound),
             output: Output::Length,
         };
     }
@@ -276,7 +276,7 @@ pub(crate) fn take_size(
     ensures transitions { IsStepOf catalogue.now of.0 n result }
 {
     if exceeds(bound, n) {
-        return refused(Kind::Bound);
+        return refused(ValueFault::Bound);
     }
     if n == 0 {
         return Step {
@@ -309,7 +309,7 @@ pub(crate) fn take_count(
 {
     catalogue.laws();
     if exceeds(bound, n) {
-        return refused(Kind::Bound);
+        return refused(ValueFault::Bound);
     }
     let output = Output::Count(n);
     if n == 0 {
@@ -334,7 +334,7 @@ fn take_recursive(catalogue: &SeenCatalogue<'_>, of: TypeId, most: Option<u32>, 
 {
     catalogue.laws();
     if exceeds(most, n) {
-        return refused(Kind::Bound);
+        return refused(ValueFault::Bound);
     }
     let output = Output::Count(n);
     if n == 0 {

@@ -4,7 +4,7 @@
 ghost use Rattle.std.specs.Prelude.{◌≡◌};
 ghost use Rattle.giop_decode.specs.Transitions.{leaf_type};
 
-use crate::progress::Kind;
+use crate::progress::ValueFault;
 use giop_cdr::{Number, Order};
 use giop_sig::TypeId;
 
@@ -66,7 +66,7 @@ pub(crate) enum Transition {
     /// octets.
     Entered(Order, u32),
     /// The octet breaks a rule.
-    Refused(Kind),
+    Refused(ValueFault),
 }
 
 /// What an octet puts out: nothing, or something that has a line.
@@ -116,7 +116,7 @@ pub(crate) struct Finished<'a> {
 
 /// The step of an octet that breaks a rule.
 #[inline(always)]
-pub(crate) fn refused(kind: Kind) -> Step
+pub(crate) fn refused(kind: ValueFault) -> Step
     ensures transition { result.transition ≡ Transition.Refused kind }
     ensures output { result.output ≡ Output.Nothing }
 {

@@ -24,4 +24,4 @@ mod stored;
 
 pub use decoder::Decoder;
 pub use laws::{noting_laws, reading_laws, whole_laws};
-pub use progress::{Kind, Progress};
+pub use progress::{Progress, ValueFault};

@@ -1,7 +1,7 @@
 //! The lines of a value: its path, and its number, count or piece.
 
 ghost use Rattle.std.specs.Prelude.{ℕ, ◌+◌, ◌<◌, ◌≤◌, List, ◌++◌, length};
-ghost use Rattle.giop_decode.specs.ReadResult.{Line};
+ghost use Rattle.giop_decode.specs.ReadResult.{ValueAt};
 ghost use Rattle.giop_decode.specs.ReadResult as results;
 ghost use Rattle.giop_decode.specs.Fits.{HasContent};
 ghost use Rattle.giop_decode.specs.Spelling.{value_text, lines_text};
@@ -138,7 +138,7 @@ pub(crate) fn write_line<O: Out>(
     requires has_output { HasOutput (tree_in catalogue.now outer.now finished.of.0)
         finished.output }
     requires short { length finished.held.now + length finished.rest.now ≤ 32 }
-    ensures { (here at : ℕ) (lines : List Line) →
+    ensures { (here at : ℕ) (lines : List ValueAt) →
         Finishes catalogue.now outer.now finished.entry here at lines →
         Writes result (O.log out.old) (O.log out.new)
         (lines_text head.now.message head.now.root lines) }

@@ -5,7 +5,7 @@ ghost use Rattle.std.specs.Prelude.{◌≡◌, ℕ, ◌<◌, ◌≤◌, ◌&&◌
 ghost use Rattle.giop_decode.specs.Noted.{Noted, nothing_noted, with_piece, ended, noted_piece, is_name, is_member, is_key_path, is_header_root, without_name_if, note_value, noted, names_operation, expects_after, with_expects, may_have_key, with_key_piece, key_ended, noted_key};
 ghost use Rattle.giop_decode.specs.SeenState.{AreOfRoot, HoldsNoKey, HoldsNoted, interface_of};
 ghost use Rattle.giop_decode.specs.NotingSteps.{IsForKey, clears_name, is_set};
-ghost use Rattle.giop_decode.specs.ReadResult.{Line};
+ghost use Rattle.giop_decode.specs.ReadResult.{ValueAt};
 ghost use Rattle.giop_decode.specs.ReadResult as results;
 ghost use Rattle.giop_decode.specs.Passes.{Finishes};
 ghost use Rattle.giop_decode.specs.ReadingSteps.{path_in, segment_in};
@@ -402,13 +402,13 @@ impl Notes {
             finished.output }
         ensures of_root { AreOfRoot catalogue.now root self.old →
             AreOfRoot catalogue.now root self.new }
-        ensures notes { (asked : Bool) (h : Noted) (here at : ℕ) (lines : List Line) →
+        ensures notes { (asked : Bool) (h : Noted) (here at : ℕ) (lines : List ValueAt) →
             HoldsNoted catalogue.now asked self.old h →
             Finishes catalogue.now outer.now finished.entry here at lines →
             HoldsNoted catalogue.now asked self.new
             (without_name_if (clears_name finished.entry.output)
             (noted (is_header_root root) h lines)) }
-        ensures named { (here at : ℕ) (lines : List Line) →
+        ensures named { (here at : ℕ) (lines : List ValueAt) →
             Finishes catalogue.now outer.now finished.entry here at lines →
             result ≡ names_operation (is_header_root root) lines }
     {

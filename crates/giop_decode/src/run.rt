@@ -18,7 +18,7 @@ use crate::leaf::{Finished, Leaf, Output, Step, Transition, ended, refused};
 use crate::lookahead::{
     Lookahead, ahead_of, held, octets_behind, whole_long, whole_number, whole_octets,
 };
-use crate::progress::{Kind, Progress};
+use crate::progress::{Progress, ValueFault};
 use giop_cdr::Order;
 use giop_print::{Out, OutFault};
 use giop_sig::{Catalogue, SeenCatalogue, Shape, TypeId};
@@ -305,7 +305,7 @@ impl Decoder {
             return self.take_ahead(catalogue, octets, ahead, out);
         }
         if behind > 0 && octets[size] != 0 {
-            let ahead = ahead_of(of, count, refused(Kind::StringEnd), rest);
+            let ahead = ahead_of(of, count, refused(ValueFault::StringEnd), rest);
             return self.take_ahead(catalogue, octets, ahead, out);
         }
         let step = ended(Output::Piece {

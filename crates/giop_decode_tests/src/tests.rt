@@ -2,7 +2,7 @@
 
 use crate::rows::row_of;
 use crate::tracing::differs;
-use giop_decode::{Kind, reading_laws, whole_laws};
+use giop_decode::{ValueFault, reading_laws, whole_laws};
 use giop_sig::Catalogue;
 use std::process::Abort;
 use std::test::Fail;
@@ -105,14 +105,14 @@ fn each_is_told(rt: &impl Abort, catalogue: &Catalogue) {
     }
 }
 
-static FAULTS: [(Kind, u32); 7] = [
-    (Kind::Boolean, 1),
-    (Kind::StringEnd, 2),
-    (Kind::Enum, 3),
-    (Kind::Bound, 4),
-    (Kind::Disposition, 5),
-    (Kind::EncapShort, 6),
-    (Kind::EncapOrder, 7),
+static FAULTS: [(ValueFault, u32); 7] = [
+    (ValueFault::Boolean, 1),
+    (ValueFault::StringEnd, 2),
+    (ValueFault::Enum, 3),
+    (ValueFault::Bound, 4),
+    (ValueFault::Disposition, 5),
+    (ValueFault::EncapShort, 6),
+    (ValueFault::EncapOrder, 7),
 ];
 
 #[test]

@@ -38,17 +38,17 @@ module _ {V : Type 0} where
       let rest = length-entries values ks ns (omega (arith, same)) held.1 in
       rw v.1 (ap suc rest)
 
-  pub entry_at : (values : Slab V) (keys numbers : List ℕ) (place : ℕ) (v : V) →
+  pub entry_at : (values : Slab V) (keys numbers : List ℕ) (index : ℕ) (v : V) →
       length keys ≡ length numbers → AllHeld values numbers →
-      place < length numbers → get values (get_or numbers place 0) ≡ Some v →
-      slice_get (entries_of values keys numbers) place
-      ≡ Some (record { key = get_or keys place 0; value = v })
-  entry_at values [] numbers place v same held within found = absurd (omega (arith, same, within))
-  entry_at values (k ∷ ks) [] place v same held within found = absurd (omega (arith, within))
+      index < length numbers → get values (get_or numbers index 0) ≡ Some v →
+      slice_get (entries_of values keys numbers) index
+      ≡ Some (record { key = get_or keys index 0; value = v })
+  entry_at values [] numbers index v same held within found = absurd (omega (arith, same, within))
+  entry_at values (k ∷ ks) [] index v same held within found = absurd (omega (arith, within))
   entry_at values (k ∷ ks) (n ∷ ns) zero v same held within found = rw found refl
-  entry_at values (k ∷ ks) (n ∷ ns) (suc place) v same held within found =
+  entry_at values (k ∷ ks) (n ∷ ns) (suc index) v same held within found =
       let first = there (get values n) held.0 in
-      let rest = entry_at values ks ns place v (omega (arith, same)) held.1 (omega (arith, within))
+      let rest = entry_at values ks ns index v (omega (arith, same)) held.1 (omega (arith, within))
       found in
       rw first.1 rest
 
@@ -71,43 +71,43 @@ module _ {V : Type 0} where
       let rest = entries-push values ks ns key number v (omega (arith, same)) held.1 found in
       rw (first.1, rest) refl
 
-  pub entries-remove : (values : Slab V) (keys numbers : List ℕ) (place : ℕ) →
+  pub entries-remove : (values : Slab V) (keys numbers : List ℕ) (index : ℕ) →
       length keys ≡ length numbers → AllHeld values numbers →
-      entries_of values (remove keys place) (remove numbers place)
-      ≡ remove (entries_of values keys numbers) place
-  entries-remove values [] [] place same held =
-      rw (remove-nil {X = ℕ} place, remove-nil {X = Entry V} place) refl
-  entries-remove values [] (n ∷ ns) place same held = absurd (omega (arith, same))
-  entries-remove values (k ∷ ks) [] place same held = absurd (omega (arith, same))
+      entries_of values (remove keys index) (remove numbers index)
+      ≡ remove (entries_of values keys numbers) index
+  entries-remove values [] [] index same held =
+      rw (remove-nil {X = ℕ} index, remove-nil {X = Entry V} index) refl
+  entries-remove values [] (n ∷ ns) index same held = absurd (omega (arith, same))
+  entries-remove values (k ∷ ks) [] index same held = absurd (omega (arith, same))
   entries-remove values (k ∷ ks) (n ∷ ns) zero same held =
       let first = there (get values n) held.0 in
       rw first.1 refl
-  entries-remove values (k ∷ ks) (n ∷ ns) (suc place) same held =
+  entries-remove values (k ∷ ks) (n ∷ ns) (suc index) same held =
       let first = there (get values n) held.0 in
-      let rest = entries-remove values ks ns place (omega (arith, same)) held.1 in
+      let rest = entries-remove values ks ns index (omega (arith, same)) held.1 in
       rw first.1 (rw rest refl)
 
-  pub entries-revalued : (old new : Slab V) (keys numbers : List ℕ) (place : ℕ) (v : V) →
+  pub entries-revalued : (old new : Slab V) (keys numbers : List ℕ) (index : ℕ) (v : V) →
       length keys ≡ length numbers → AllHeld old numbers →
-      IsDistinct eqb numbers → place < length numbers →
-      Updates old new (get_or numbers place 0) (Some v) →
-      entries_of new keys numbers ≡ revalued (entries_of old keys numbers) place v
+      IsDistinct eqb numbers → index < length numbers →
+      Updates old new (get_or numbers index 0) (Some v) →
+      entries_of new keys numbers ≡ revalued (entries_of old keys numbers) index v
   unfolding IsDistinct
-  entries-revalued old new keys [] place v same held distinct within updates =
+  entries-revalued old new keys [] index v same held distinct within updates =
       absurd (omega (arith, within))
-  entries-revalued old new [] (n ∷ ns) place v same held distinct within updates =
+  entries-revalued old new [] (n ∷ ns) index v same held distinct within updates =
       absurd (omega (arith, same))
   entries-revalued old new (k ∷ ks) (n ∷ ns) zero v same held distinct within updates =
       let first = there (get old n) held.0 in
       let kept : SameAt old new ns = each-map (λ m. eqb n m ≡ false) (λ m. get new m ≡ get old m)
       (λ m apart. updates.others m (λ e. eqb-false n m apart (sym e))) ns distinct.0 in
       rw (first.1, updates.changed, entries-same old new ks ns kept) refl
-  entries-revalued old new (k ∷ ks) (n ∷ ns) (suc place) v same held distinct within updates =
+  entries-revalued old new (k ∷ ks) (n ∷ ns) (suc index) v same held distinct within updates =
       let first = there (get old n) held.0 in
-      let short : place < length ns = omega (arith, within) in
-      let apart = each-at (λ m. eqb n m ≡ false) ns place distinct.0 short in
+      let short : index < length ns = omega (arith, within) in
+      let apart = each-at (λ m. eqb n m ≡ false) ns index distinct.0 short in
       let kept = updates.others n (eqb-false n _ apart) in
-      let rest = entries-revalued old new ks ns place v (omega (arith, same)) held.1 distinct.1
+      let rest = entries-revalued old new ks ns index v (omega (arith, same)) held.1 distinct.1
       short updates in
       rw (kept, first.1, rest) refl
 
@@ -158,14 +158,14 @@ module _ {V : Type 0} where
       length (entries_of values keys numbers) ≡ length numbers
   length-held keys numbers values tied = length-entries values keys numbers tied.as_many tied.held
 
-  pub held-at : (keys numbers : List ℕ) (values : Slab V) (place : ℕ) →
-      IsTied keys numbers values → place < length numbers →
-      (v : V) × (get values (get_or numbers place 0) ≡ Some v)
-      × (slice_get (entries_of values keys numbers) place
-      ≡ Some (record { key = get_or keys place 0; value = v }))
-  held-at keys numbers values place tied within =
-      let v = there _ (each-at (λ n. IsSome (get values n)) numbers place tied.held within) in
-      (v.0, v.1, entry_at values keys numbers place v.0 tied.as_many tied.held within v.1)
+  pub held-at : (keys numbers : List ℕ) (values : Slab V) (index : ℕ) →
+      IsTied keys numbers values → index < length numbers →
+      (v : V) × (get values (get_or numbers index 0) ≡ Some v)
+      × (slice_get (entries_of values keys numbers) index
+      ≡ Some (record { key = get_or keys index 0; value = v }))
+  held-at keys numbers values index tied within =
+      let v = there _ (each-at (λ n. IsSome (get values n)) numbers index tied.held within) in
+      (v.0, v.1, entry_at values keys numbers index v.0 tied.as_many tied.held within v.1)
 
   same-beside : (old new : Slab V) (number : ℕ) (slot : Option V) (numbers : List ℕ) →
       Updates old new number slot → Each (λ m. m ≢ number) numbers → SameAt old new numbers
@@ -217,48 +217,48 @@ module _ {V : Type 0} where
       ∙ ap (λ es. es ++ record { key = key; value = v } ∷ [])
       (entries-same old new keys numbers same)
 
-  pub IsTied-remove : (keys numbers : List ℕ) (old new : Slab V) (place : ℕ) →
-      IsTied keys numbers old → place < length numbers →
-      Updates old new (get_or numbers place 0) None → slab_len new + 1 ≡ slab_len old →
-      IsTied (remove keys place) (remove numbers place) new
-  IsTied-remove keys numbers old new place tied within updates len =
-      let apart = others-remove numbers place tied.distinct within in
-      let same = same-beside old new _ _ (remove numbers place) updates apart in
-      let fewer = each-remove (λ n. IsSome (get old n)) numbers place tied.held in
+  pub IsTied-remove : (keys numbers : List ℕ) (old new : Slab V) (index : ℕ) →
+      IsTied keys numbers old → index < length numbers →
+      Updates old new (get_or numbers index 0) None → slab_len new + 1 ≡ slab_len old →
+      IsTied (remove keys index) (remove numbers index) new
+  IsTied-remove keys numbers old new index tied within updates len =
+      let apart = others-remove numbers index tied.distinct within in
+      let same = same-beside old new _ _ (remove numbers index) updates apart in
+      let fewer = each-remove (λ n. IsSome (get old n)) numbers index tied.held in
       record {
         as_many = omega (
           arith,
           tied.as_many,
           within,
-          length-remove keys place,
-          length-remove numbers place,
+          length-remove keys index,
+          length-remove numbers index,
         );
-        distinct = distinct-remove numbers place tied.distinct;
-        held = held-beside old new (remove numbers place) same fewer;
-        counted = omega (arith, len, tied.counted, within, length-remove numbers place);
+        distinct = distinct-remove numbers index tied.distinct;
+        held = held-beside old new (remove numbers index) same fewer;
+        counted = omega (arith, len, tied.counted, within, length-remove numbers index);
       }
 
-  pub entries-taken : (keys numbers : List ℕ) (old new : Slab V) (place : ℕ) →
-      IsTied keys numbers old → place < length numbers →
-      Updates old new (get_or numbers place 0) None →
-      entries_of new (remove keys place) (remove numbers place)
-      ≡ remove (entries_of old keys numbers) place
-  entries-taken keys numbers old new place tied within updates =
-      let apart = others-remove numbers place tied.distinct within in
-      let same = same-beside old new _ _ (remove numbers place) updates apart in
-      entries-same old new (remove keys place) (remove numbers place) same
-      ∙ entries-remove old keys numbers place tied.as_many tied.held
+  pub entries-taken : (keys numbers : List ℕ) (old new : Slab V) (index : ℕ) →
+      IsTied keys numbers old → index < length numbers →
+      Updates old new (get_or numbers index 0) None →
+      entries_of new (remove keys index) (remove numbers index)
+      ≡ remove (entries_of old keys numbers) index
+  entries-taken keys numbers old new index tied within updates =
+      let apart = others-remove numbers index tied.distinct within in
+      let same = same-beside old new _ _ (remove numbers index) updates apart in
+      entries-same old new (remove keys index) (remove numbers index) same
+      ∙ entries-remove old keys numbers index tied.as_many tied.held
 
-  pub IsTied-revalued : (keys numbers : List ℕ) (old new : Slab V) (place : ℕ) (v : V) →
+  pub IsTied-revalued : (keys numbers : List ℕ) (old new : Slab V) (index : ℕ) (v : V) →
       IsTied keys numbers old →
-      Updates old new (get_or numbers place 0) (Some v) → slab_len new ≡ slab_len old →
+      Updates old new (get_or numbers index 0) (Some v) → slab_len new ≡ slab_len old →
       IsTied keys numbers new
-  IsTied-revalued keys numbers old new place v tied updates len =
+  IsTied-revalued keys numbers old new index v tied updates len =
       record {
         as_many = tied.as_many;
         distinct = tied.distinct;
         held = each-map (λ n. IsSome (get old n)) (λ n. IsSome (get new n)) (λ n p.
-            elim (cases_eq n (get_or numbers place 0)) [
+            elim (cases_eq n (get_or numbers index 0)) [
               | inl same ↦ rw (same, updates.changed) refl
               | inr differs ↦ rw (updates.others n differs) p
             ]) numbers tied.held;
@@ -276,44 +276,44 @@ module _ {V : Type 0} where
   }
 
   -- the ids are those of the entries
-  pub keys-held : (keys numbers : List ℕ) (values : Slab V) (place : ℕ) →
+  pub keys-held : (keys numbers : List ℕ) (values : Slab V) (index : ℕ) →
       IsTied keys numbers values →
-      option_map (λ e. e.key) (slice_get (entries_of values keys numbers) place)
-      ≡ slice_get keys place
-  keys-held keys numbers values place tied =
-      rw (← slice_get-map) (ap (λ ks. slice_get ks place)
+      option_map (λ e. e.key) (slice_get (entries_of values keys numbers) index)
+      ≡ slice_get keys index
+  keys-held keys numbers values index tied =
+      rw (← slice_get-map) (ap (λ ks. slice_get ks index)
       (keys-of values keys numbers tied.as_many tied.held))
 
   -- the value of an entry is the one under its number
-  pub value-at : (keys numbers : List ℕ) (values : Slab V) (place number : ℕ) →
-      IsTied keys numbers values → place < length numbers →
-      number ≡ get_or numbers place 0 →
-      option_map (λ e. e.value) (slice_get (entries_of values keys numbers) place)
+  pub value-at : (keys numbers : List ℕ) (values : Slab V) (index number : ℕ) →
+      IsTied keys numbers values → index < length numbers →
+      number ≡ get_or numbers index 0 →
+      option_map (λ e. e.value) (slice_get (entries_of values keys numbers) index)
       ≡ get values number
-  value-at keys numbers values place number tied within found =
-      let at = held-at keys numbers values place tied within in
+  value-at keys numbers values index number tied within found =
+      let at = held-at keys numbers values index tied within in
       rw at.2 (rw found (sym at.1))
 
-  pub none-at : (keys numbers : List ℕ) (values : Slab V) (place : ℕ) →
-      IsTied keys numbers values → length numbers ≤ place →
-      slice_get (entries_of values keys numbers) place ≡ None
-  none-at keys numbers values place tied past =
-      slice_get_past _ place (rw (length-held keys numbers values tied) past)
+  pub none-at : (keys numbers : List ℕ) (values : Slab V) (index : ℕ) →
+      IsTied keys numbers values → length numbers ≤ index →
+      slice_get (entries_of values keys numbers) index ≡ None
+  none-at keys numbers values index tied past =
+      slice_get_past _ index (rw (length-held keys numbers values tied) past)
 
   -- the slab has a value under the number at an index
-  pub held-number : (keys numbers : List ℕ) (values : Slab V) (place number : ℕ) →
-      IsTied keys numbers values → place < length numbers →
-      number ≡ get_or numbers place 0 → IsSome (get values number)
-  held-number keys numbers values place number tied within found =
-      rw found (each-at (λ n. IsSome (get values n)) numbers place tied.held within)
+  pub held-number : (keys numbers : List ℕ) (values : Slab V) (index number : ℕ) →
+      IsTied keys numbers values → index < length numbers →
+      number ≡ get_or numbers index 0 → IsSome (get values number)
+  held-number keys numbers values index number tied within found =
+      rw found (each-at (λ n. IsSome (get values n)) numbers index tied.held within)
 
-  pub entry-of : (keys numbers : List ℕ) (values : Slab V) (place number : ℕ) (v : V) →
-      IsTied keys numbers values → place < length numbers →
-      number ≡ get_or numbers place 0 → get values number ≡ Some v →
-      slice_get (entries_of values keys numbers) place
-      ≡ Some (record { key = get_or keys place 0; value = v })
-  entry-of keys numbers values place number v tied within found here =
-      entry_at values keys numbers place v tied.as_many tied.held within (rw found at here)
+  pub entry-of : (keys numbers : List ℕ) (values : Slab V) (index number : ℕ) (v : V) →
+      IsTied keys numbers values → index < length numbers →
+      number ≡ get_or numbers index 0 → get values number ≡ Some v →
+      slice_get (entries_of values keys numbers) index
+      ≡ Some (record { key = get_or keys index 0; value = v })
+  entry-of keys numbers values index number v tied within found here =
+      entry_at values keys numbers index v tied.as_many tied.held within (rw found at here)
 
   count-kept : (slots : List (Option V)) (number : ℕ) (v : V) → IsSome (get_or slots number None) →
       count_by is_some (set slots number (Some v)) ≡ count_by is_some slots

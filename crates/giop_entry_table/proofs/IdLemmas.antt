@@ -20,8 +20,8 @@ position-apart test (x ∷ xs) (suc n) from few none =
     let here : test x ≡ false = none 0 (omega arith) in
     let rest = position-apart test xs n (from + 1) (omega (arith, few))
     (λ i less. none (suc i) (omega (arith, less))) in
-    let place : from + 1 + n ≡ from + suc n = omega arith in
-    rw (here, ← place) rest
+    let index : from + 1 + n ≡ from + suc n = omega arith in
+    rw (here, ← index) rest
 
 -- the same for a search from the beginning
 pub position-behind : (test : ℕ → Bool) (xs : List ℕ) (n : ℕ) → n ≤ length xs →
@@ -50,12 +50,12 @@ added p xs x = grind (arith, sum_by-append, sum_by-cons)
 module _ (divisor : ℕ) (keys counts firsts : List ℕ) (removals : ℕ)
     (h : AreIndexed divisor keys counts firsts removals) where
   -- the id at this index is counted
-  pub some_counted : (place r : ℕ) → place < length keys → r ≡ get_or keys place 0 % divisor →
+  pub some_counted : (index r : ℕ) → index < length keys → r ≡ get_or keys index 0 % divisor →
       r < divisor → 1 ≤ get_or counts r 0
-  some_counted place r there is within =
+  some_counted index r there is within =
       let f : ℕ → ℕ = λ k. cond (k % divisor == r) 1 0 in
-      let all = sum_by-remove f keys place 0 there in
-      let one : f (get_or keys place 0) ≡ 1 = one_of (get_or keys place 0 % divisor) r (sym is) in
+      let all = sum_by-remove f keys index 0 there in
+      let one : f (get_or keys index 0) ≡ 1 = one_of (get_or keys index 0 % divisor) r (sym is) in
       omega (arith, all, one, h.counted r within)
 
   pub indexed_push : (key r first : ℕ) → r < divisor → r ≡ key % divisor →
@@ -110,41 +110,41 @@ module _ (divisor : ℕ) (keys counts firsts : List ℕ) (removals : ℕ)
         ];
       }
 
-  pub indexed_remove : (place r removals' : ℕ) → place < length keys →
-      r ≡ get_or keys place 0 % divisor → r < divisor →
+  pub indexed_remove : (index r removals' : ℕ) → index < length keys →
+      r ≡ get_or keys index 0 % divisor → r < divisor →
       removals' ≡ min (removals + 1) (2 ^ 64 - 1) →
-      AreIndexed divisor (remove keys place) (set counts r (get_or counts r 0 - 1)) firsts removals'
-  indexed_remove place r removals' there is within up =
-      let shorter = length-remove keys place there in
+      AreIndexed divisor (remove keys index) (set counts r (get_or counts r 0 - 1)) firsts removals'
+  indexed_remove index r removals' there is within up =
+      let shorter = length-remove keys index there in
       record {
         counts_many = length-set counts r _ ∙ h.counts_many;
         firsts_many = h.firsts_many;
         counted = λ j less.
             let f : ℕ → ℕ = λ k. one_if (k % divisor == j) in
-            let all = sum_by-remove f keys place 0 there in
+            let all = sum_by-remove f keys index 0 there in
             let old = h.counted j less in
             elim (eqb_tells j r) [
               | inl same ↦
-                  let one = one_of (get_or keys place 0 % divisor) j (sym is ∙ sym same.1) in
+                  let one = one_of (get_or keys index 0 % divisor) j (sym is ∙ sym same.1) in
                   let now = get_or-set_same counts r (get_or counts r 0 - 1) 0
                   (omega (arith, within, h.counts_many)) in
                   ap (λ n. get_or (set counts r (get_or counts r 0 - 1)) n 0) same.1 ∙ now
                   ∙ ap (λ n. get_or counts n 0 - 1) (sym same.1) ∙ omega (arith, all, old, one)
               | inr apart ↦
-                  let none = none_of (get_or keys place 0 % divisor) j
+                  let none = none_of (get_or keys index 0 % divisor) j
                   (λ e. apart.1 (sym e ∙ sym is)) in
                   let now = get_or-set_other counts r j (get_or counts r 0 - 1) 0 apart.1 in
                   omega (arith, all, old, none, now)
             ];
-        before = λ j less i here has. elim (leb_tells (suc i) place) [
+        before = λ j less i here has. elim (leb_tells (suc i) index) [
           | inl sooner ↦
               let held = sym (ap (λ k. k % divisor)
-              (get_or-remove_below keys place 0 i sooner.1 there)) ∙ has in
+              (get_or-remove_below keys index 0 i sooner.1 there)) ∙ has in
               let bound = h.before j less i (omega (arith, sooner.1, there)) held in
               omega (arith, bound, h.range j less, up)
           | inr later ↦
               let held = sym (ap (λ k. k % divisor)
-              (get_or-remove_above keys place 0 i (omega (arith, later.1)) there)) ∙ has in
+              (get_or-remove_above keys index 0 i (omega (arith, later.1)) there)) ∙ has in
               let bound = h.before j less (i + 1) (omega (arith, here, shorter)) held in
               omega (arith, bound, h.range j less, up)
         ];

@@ -4,21 +4,21 @@ use Rattle.std.specs.List.{AllByRecursion as Each, IsDistinct, remove}
 use Rattle.std.proofs.lemmas.List.{get_or_default}
 use Rattle.std.proofs.lemmas.Bool.{eqb-false, ne_eqb}
 
-pub remove-nil : {X : Type 0} (place : ℕ) → remove {X = X} [] place ≡ []
+pub remove-nil : {X : Type 0} (index : ℕ) → remove {X = X} [] index ≡ []
 remove-nil zero = refl
-remove-nil (suc place) = refl
+remove-nil (suc index) = refl
 
-pub each-remove : {X : Type 0} (P : X → Type 0) (xs : List X) (place : ℕ) → Each P xs →
-    Each P (remove xs place)
-each-remove P [] place all = rw (remove-nil place) tt
+pub each-remove : {X : Type 0} (P : X → Type 0) (xs : List X) (index : ℕ) → Each P xs →
+    Each P (remove xs index)
+each-remove P [] index all = rw (remove-nil index) tt
 each-remove P (x ∷ xs) zero all = all.1
-each-remove P (x ∷ xs) (suc place) all = (all.0, each-remove P xs place all.1)
+each-remove P (x ∷ xs) (suc index) all = (all.0, each-remove P xs index all.1)
 
-pub each-at : (P : ℕ → Type 0) (xs : List ℕ) (place : ℕ) → Each P xs → place < length xs →
-    P (get_or xs place 0)
-each-at P [] place all within = absurd (omega (arith, within))
+pub each-at : (P : ℕ → Type 0) (xs : List ℕ) (index : ℕ) → Each P xs → index < length xs →
+    P (get_or xs index 0)
+each-at P [] index all within = absurd (omega (arith, within))
 each-at P (x ∷ xs) zero all within = all.0
-each-at P (x ∷ xs) (suc place) all within = each-at P xs place all.1 (omega (arith, within))
+each-at P (x ∷ xs) (suc index) all within = each-at P xs index all.1 (omega (arith, within))
 
 pub each-map : {X : Type 0} (P Q : X → Type 0) → ((x : X) → P x → Q x) → (xs : List X) →
     Each P xs → Each Q xs
@@ -35,26 +35,26 @@ pub each-push : {X : Type 0} (P : X → Type 0) (xs : List X) (x : X) → Each P
 each-push P [] x all last = (last, tt)
 each-push P (y ∷ ys) x all last = (all.0, each-push P ys x all.1 last)
 
-pub distinct-remove : (numbers : List ℕ) (place : ℕ) → IsDistinct eqb numbers →
-    IsDistinct eqb (remove numbers place)
+pub distinct-remove : (numbers : List ℕ) (index : ℕ) → IsDistinct eqb numbers →
+    IsDistinct eqb (remove numbers index)
 unfolding IsDistinct
-distinct-remove [] place distinct = rw (remove-nil place) tt
+distinct-remove [] index distinct = rw (remove-nil index) tt
 distinct-remove (n ∷ ns) zero distinct = distinct.1
-distinct-remove (n ∷ ns) (suc place) distinct =
-    (each-remove (λ m. eqb n m ≡ false) ns place distinct.0, distinct-remove ns place distinct.1)
+distinct-remove (n ∷ ns) (suc index) distinct =
+    (each-remove (λ m. eqb n m ≡ false) ns index distinct.0, distinct-remove ns index distinct.1)
 
 -- the numbers that are left differ from the one that is taken
-pub others-remove : (numbers : List ℕ) (place : ℕ) → IsDistinct eqb numbers →
-    place < length numbers →
-    Each (λ m. m ≢ get_or numbers place 0) (remove numbers place)
+pub others-remove : (numbers : List ℕ) (index : ℕ) → IsDistinct eqb numbers →
+    index < length numbers →
+    Each (λ m. m ≢ get_or numbers index 0) (remove numbers index)
 unfolding IsDistinct
-others-remove [] place distinct within = absurd (omega (arith, within))
+others-remove [] index distinct within = absurd (omega (arith, within))
 others-remove (n ∷ ns) zero distinct within =
     each-map (λ m. eqb n m ≡ false) (λ m. m ≢ n) (λ m e same. eqb-false n m e (sym same)) ns
     distinct.0
-others-remove (n ∷ ns) (suc place) distinct within =
-    let apart = each-at (λ m. eqb n m ≡ false) ns place distinct.0 (omega (arith, within)) in
-    (eqb-false _ _ apart, others-remove ns place distinct.1 (omega (arith, within)))
+others-remove (n ∷ ns) (suc index) distinct within =
+    let apart = each-at (λ m. eqb n m ≡ false) ns index distinct.0 (omega (arith, within)) in
+    (eqb-false _ _ apart, others-remove ns index distinct.1 (omega (arith, within)))
 
 pub distinct-push : (numbers : List ℕ) (number : ℕ) → IsDistinct eqb numbers →
     Each (λ m. m ≢ number) numbers →
@@ -67,6 +67,6 @@ distinct-push (n ∷ ns) number distinct apart = (
 )
 
 -- an element within a list is the same by any default
-pub read-at : (xs : List ℕ) (place x : ℕ) → place < length xs → x ≡ get_or xs place x →
-    x ≡ get_or xs place 0
-read-at xs place x within found = found ∙ get_or_default xs place x 0 within
+pub read-at : (xs : List ℕ) (index x : ℕ) → index < length xs → x ≡ get_or xs index x →
+    x ≡ get_or xs index 0
+read-at xs index x within found = found ∙ get_or_default xs index x 0 within

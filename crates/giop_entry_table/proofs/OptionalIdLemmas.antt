@@ -8,108 +8,108 @@ use Rattle.std.specs.Option.{option_map}
 use Rattle.giop_entry_table.specs.declared.entry_table.Entry.{Entry}
 use Rattle.giop_entry_table.specs.EntryTable as by_ids
 use Rattle.giop_entry_table.specs.OptionalIds.{is_id, revalued}
-use Rattle.giop_entry_table.specs.OptionalIdsView.{first_key, place_after, with_optional_ids, after_removal}
+use Rattle.giop_entry_table.specs.OptionalIdsView.{first_key, index_after, with_optional_ids, after_removal}
 
 -- the entry without an id is among this number of entries, if there is one
 abbrev pub IsWithin : Option ℕ → ℕ → Type 0
-IsWithin place count = IfSome place (λ k. k < count)
+IsWithin index count = IfSome index (λ k. k < count)
 
-within-after : (place : Option ℕ) (count : ℕ) → IsWithin place (suc count) →
-    IsWithin (place_after place) count
+within-after : (index : Option ℕ) (count : ℕ) → IsWithin index (suc count) →
+    IsWithin (index_after index) count
 within-after None count within = tt
 within-after (Some zero) count within = tt
 within-after (Some (suc k)) count within = omega (arith, within)
 
-is_id-after : (place : Option ℕ) (k : ℕ) → is_id (suc k) place ≡ is_id k (place_after place)
+is_id-after : (index : Option ℕ) (k : ℕ) → is_id (suc k) index ≡ is_id k (index_after index)
 is_id-after None k = refl
 is_id-after (Some zero) k = eqb-zero-suc k
 is_id-after (Some (suc n)) k = eqb-suc-suc n k
 
-first_key-at : (place : Option ℕ) (key : ℕ) →
-    first_key place key ≡ cond (is_id 0 place) None (Some key)
+first_key-at : (index : Option ℕ) (key : ℕ) →
+    first_key index key ≡ cond (is_id 0 index) None (Some key)
 first_key-at None key = refl
 first_key-at (Some zero) key = refl
 first_key-at (Some (suc k)) key = rw (eqb-suc-zero k) refl
 
-first-is_id : (place : Option ℕ) (id key : ℕ) → is_id 0 place ≡ false →
-    is_id id (first_key place key) ≡ (key == id)
+first-is_id : (index : Option ℕ) (id key : ℕ) → is_id 0 index ≡ false →
+    is_id id (first_key index key) ≡ (key == id)
 first-is_id None id key apart = refl
 first-is_id (Some zero) id key apart = absurd (cc apart)
 first-is_id (Some (suc k)) id key apart = refl
 
-first-not : (place : Option ℕ) (id key : ℕ) → (key == id) ≡ false →
-    is_id id (first_key place key) ≡ false
+first-not : (index : Option ℕ) (id key : ℕ) → (key == id) ≡ false →
+    is_id id (first_key index key) ≡ false
 first-not None id key apart = apart
 first-not (Some zero) id key apart = refl
 first-not (Some (suc k)) id key apart = apart
 
-first-removed : (place : Option ℕ) (removed : ℕ) →
-    (first_key (after_removal place (suc removed)) ≡ first_key place)
-    × (place_after (after_removal place (suc removed)) ≡ after_removal (place_after place) removed)
+first-removed : (index : Option ℕ) (removed : ℕ) →
+    (first_key (after_removal index (suc removed)) ≡ first_key index)
+    × (index_after (after_removal index (suc removed)) ≡ after_removal (index_after index) removed)
 first-removed None removed = (refl, refl)
 first-removed (Some zero) removed = (refl, refl)
 first-removed (Some (suc k)) removed = by (after_removal (Some k) removed) refl
   where
     by : (o : Option ℕ) → after_removal (Some k) removed ≡ o →
         (first_key (after_removal (Some (suc k)) (suc removed)) ≡ first_key (Some (suc k)))
-        × (place_after (after_removal (Some (suc k)) (suc removed))
+        × (index_after (after_removal (Some (suc k)) (suc removed))
         ≡ after_removal (Some k) removed)
     by None is = rw is (refl, refl)
     by (Some n) is = rw is (refl, refl)
 
-removed-first : (place : Option ℕ) → after_removal place 0 ≡ place_after place
+removed-first : (index : Option ℕ) → after_removal index 0 ≡ index_after index
 removed-first None = refl
 removed-first (Some zero) = refl
 removed-first (Some (suc k)) = refl
 
 module _ {V : Type 0} where
-  pub length-optional : (place : Option ℕ) (es : List (Entry V)) →
-      length (with_optional_ids place es) ≡ length es
-  length-optional place [] = refl
-  length-optional place (e ∷ es) = ap suc (length-optional (place_after place) es)
+  pub length-optional : (index : Option ℕ) (es : List (Entry V)) →
+      length (with_optional_ids index es) ≡ length es
+  length-optional index [] = refl
+  length-optional index (e ∷ es) = ap suc (length-optional (index_after index) es)
 
-  pub value-optional : (place : Option ℕ) (es : List (Entry V)) (k : ℕ) →
-      option_map (λ e. e.value) (slice_get (with_optional_ids place es) k)
+  pub value-optional : (index : Option ℕ) (es : List (Entry V)) (k : ℕ) →
+      option_map (λ e. e.value) (slice_get (with_optional_ids index es) k)
       ≡ option_map (λ e. e.value) (slice_get es k)
-  value-optional place [] k = refl
-  value-optional place (e ∷ es) zero = refl
-  value-optional place (e ∷ es) (suc k) = value-optional (place_after place) es k
+  value-optional index [] k = refl
+  value-optional index (e ∷ es) zero = refl
+  value-optional index (e ∷ es) (suc k) = value-optional (index_after index) es k
 
-  pub key-optional : (place : Option ℕ) (es : List (Entry V)) (k : ℕ) →
-      option_map (λ e. e.key) (slice_get (with_optional_ids place es) k)
-      ≡ option_map (λ e. cond (is_id k place) None (Some e.key)) (slice_get es k)
-  key-optional place [] k = refl
-  key-optional place (e ∷ es) zero = ap Some (first_key-at place e.key)
-  key-optional place (e ∷ es) (suc k) =
-      rw (is_id-after place k) (key-optional (place_after place) es k)
+  pub key-optional : (index : Option ℕ) (es : List (Entry V)) (k : ℕ) →
+      option_map (λ e. e.key) (slice_get (with_optional_ids index es) k)
+      ≡ option_map (λ e. cond (is_id k index) None (Some e.key)) (slice_get es k)
+  key-optional index [] k = refl
+  key-optional index (e ∷ es) zero = ap Some (first_key-at index e.key)
+  key-optional index (e ∷ es) (suc k) =
+      rw (is_id-after index k) (key-optional (index_after index) es k)
 
-  pub key-there : (place : Option ℕ) (es : List (Entry V)) (k key : ℕ) →
+  pub key-there : (index : Option ℕ) (es : List (Entry V)) (k key : ℕ) →
       option_map (λ e. e.key) (slice_get es k) ≡ Some key →
-      option_map (λ e. e.key) (slice_get (with_optional_ids place es) k)
-      ≡ Some (cond (is_id k place) None (Some key))
-  key-there place es k key is = key-optional place es k ∙ by (slice_get es k) is
+      option_map (λ e. e.key) (slice_get (with_optional_ids index es) k)
+      ≡ Some (cond (is_id k index) None (Some key))
+  key-there index es k key is = key-optional index es k ∙ by (slice_get es k) is
     where
       by : (o : Option (Entry V)) → option_map (λ e. e.key) o ≡ Some key →
-          option_map (λ e. cond (is_id k place) None (Some e.key)) o
-          ≡ Some (cond (is_id k place) None (Some key))
+          option_map (λ e. cond (is_id k index) None (Some e.key)) o
+          ≡ Some (cond (is_id k index) None (Some key))
       by None is = absurd (cc is)
       by (Some e) is = cc is
 
-  pub key-past : (place : Option ℕ) (es : List (Entry V)) (k : ℕ) →
+  pub key-past : (index : Option ℕ) (es : List (Entry V)) (k : ℕ) →
       option_map (λ e. e.key) (slice_get es k) ≡ None →
-      option_map (λ e. e.key) (slice_get (with_optional_ids place es) k) ≡ None
-  key-past place es k is = key-optional place es k ∙ by (slice_get es k) is
+      option_map (λ e. e.key) (slice_get (with_optional_ids index es) k) ≡ None
+  key-past index es k is = key-optional index es k ∙ by (slice_get es k) is
     where
       by : (o : Option (Entry V)) → option_map (λ e. e.key) o ≡ None →
-          option_map (λ e. cond (is_id k place) None (Some e.key)) o ≡ None
+          option_map (λ e. cond (is_id k index) None (Some e.key)) o ≡ None
       by None is = refl
       by (Some e) is = absurd (cc is)
 
   -- the entry without an id is the one at its index
-  pub position-without : (place : Option ℕ) (es : List (Entry V)) (from : ℕ) →
-      IsWithin place (length es) →
-      position_from (λ e. is_none e.key) from (with_optional_ids place es)
-      ≡ option_map (λ k. from + k) place
+  pub position-without : (index : Option ℕ) (es : List (Entry V)) (from : ℕ) →
+      IsWithin index (length es) →
+      position_from (λ e. is_none e.key) from (with_optional_ids index es)
+      ≡ option_map (λ k. from + k) index
   position-without None [] from within = refl
   position-without (Some k) [] from within = absurd (omega (arith, within))
   position-without None (e ∷ es) from within = position-without None es (from + 1) tt
@@ -117,8 +117,8 @@ module _ {V : Type 0} where
   position-without (Some (suc k)) (e ∷ es) from within =
       position-without (Some k) es (from + 1) (omega (arith, within)) ∙ ap Some (omega arith)
 
-  pub without_at : (place : Option ℕ) (es : List (Entry V)) → IsWithin place (length es) →
-      position_from (λ e. is_none e.key) 0 (with_optional_ids place es) ≡ place
+  pub without_at : (index : Option ℕ) (es : List (Entry V)) → IsWithin index (length es) →
+      position_from (λ e. is_none e.key) 0 (with_optional_ids index es) ≡ index
   without_at None es within = position-without None es 0 tt
   without_at (Some k) es within = position-without (Some k) es 0 within ∙ ap Some (omega arith)
 
@@ -133,20 +133,20 @@ module _ {V : Type 0} where
   -- an id is found at the first index of it among the ids, unless that is the entry without an id;
   -- else the search goes on after that one
   abbrev IsFound : Option ℕ → ℕ → List (Entry V) → ℕ → Option ℕ → Type 0
-  IsFound place id es from None =
-      position_from (λ e. is_id id e.key) from (with_optional_ids place es) ≡ None
-  IsFound place id es from (Some k) = (from ≤ k)
-      × (is_id (k - from) place ≡ false →
-      position_from (λ e. is_id id e.key) from (with_optional_ids place es) ≡ Some k)
-      × (is_id (k - from) place ≡ true →
-      position_from (λ e. is_id id e.key) from (with_optional_ids place es)
+  IsFound index id es from None =
+      position_from (λ e. is_id id e.key) from (with_optional_ids index es) ≡ None
+  IsFound index id es from (Some k) = (from ≤ k)
+      × (is_id (k - from) index ≡ false →
+      position_from (λ e. is_id id e.key) from (with_optional_ids index es) ≡ Some k)
+      × (is_id (k - from) index ≡ true →
+      position_from (λ e. is_id id e.key) from (with_optional_ids index es)
       ≡ position_from (λ e. e.key == id) (k + 1) (drop (k + 1 - from) es))
 
-  found : (place : Option ℕ) (id : ℕ) (es : List (Entry V)) (from : ℕ) →
-      IsFound place id es from (position_from (λ e. e.key == id) from es)
-  found place id [] from = refl
-  found place id (e ∷ es) from =
-      by (e.key == id) refl (found (place_after place) id es (from + 1))
+  found : (index : Option ℕ) (id : ℕ) (es : List (Entry V)) (from : ℕ) →
+      IsFound index id es from (position_from (λ e. e.key == id) from es)
+  found index id [] from = refl
+  found index id (e ∷ es) from =
+      by (e.key == id) refl (found (index_after index) id es (from + 1))
     where
       here : from - from ≡ 0
       here = omega arith
@@ -160,59 +160,59 @@ module _ {V : Type 0} where
       other (Some (suc k)) is = absurd (cc (is, eqb-suc-zero k))
 
       later : (o : Option ℕ) → (e.key == id) ≡ false →
-          IsFound (place_after place) id es (from + 1) o → IsFound place id (e ∷ es) from o
-      later None apart rest = rw (first-not place id e.key apart) rest
+          IsFound (index_after index) id es (from + 1) o → IsFound index id (e ∷ es) from o
+      later None apart rest = rw (first-not index id e.key apart) rest
       later (Some k) apart rest =
           let up : k - from ≡ suc (k - (from + 1)) = omega (arith, rest.0) in
           let past : k + 1 - from ≡ suc (k + 1 - (from + 1)) = omega (arith, rest.0) in
-          let same = is_id-after place (k - (from + 1)) in (
+          let same = is_id-after index (k - (from + 1)) in (
             omega (arith, rest.0),
-            λ not_it. rw (first-not place id e.key apart) (rest.1 (rw (up, same) at not_it)),
-            λ it. rw (first-not place id e.key apart, past) (rest.2 (rw (up, same) at it)),
+            λ not_it. rw (first-not index id e.key apart) (rest.1 (rw (up, same) at not_it)),
+            λ it. rw (first-not index id e.key apart, past) (rest.2 (rw (up, same) at it)),
           )
 
       by : (b : Bool) → (e.key == id) ≡ b →
-          IsFound (place_after place) id es (from + 1)
+          IsFound (index_after index) id es (from + 1)
           (position_from (λ e. e.key == id) (from + 1) es) →
-          IsFound place id (e ∷ es) from (position_from (λ e. e.key == id) from (e ∷ es))
+          IsFound index id (e ∷ es) from (position_from (λ e. e.key == id) from (e ∷ es))
       by true is rest = rw is (
         omega arith,
-        λ not_it. rw (first-is_id place id e.key (rw here at not_it), is) refl,
+        λ not_it. rw (first-is_id index id e.key (rw here at not_it), is) refl,
         λ it.
-            let first = other place (rw here at it) in
+            let first = other index (rw here at it) in
             rw (first, next) (position-all id es (from + 1)),
       )
       by false is rest = rw is (later _ is rest)
 
-  pub found_at : (place : Option ℕ) (id : ℕ) (es : List (Entry V)) (k : ℕ) →
-      position_from (λ e. e.key == id) 0 es ≡ Some k → is_id k place ≡ false →
-      position_from (λ e. is_id id e.key) 0 (with_optional_ids place es) ≡ Some k
-  found_at place id es k is apart =
+  pub found_at : (index : Option ℕ) (id : ℕ) (es : List (Entry V)) (k : ℕ) →
+      position_from (λ e. e.key == id) 0 es ≡ Some k → is_id k index ≡ false →
+      position_from (λ e. is_id id e.key) 0 (with_optional_ids index es) ≡ Some k
+  found_at index id es k is apart =
       let from_zero : k - 0 ≡ k = omega arith in
-      (rw is at (found place id es 0)).1 (rw from_zero apart)
+      (rw is at (found index id es 0)).1 (rw from_zero apart)
 
-  pub found_past : (place : Option ℕ) (id : ℕ) (es : List (Entry V)) (k : ℕ) →
-      position_from (λ e. e.key == id) 0 es ≡ Some k → is_id k place ≡ true →
-      position_from (λ e. is_id id e.key) 0 (with_optional_ids place es)
+  pub found_past : (index : Option ℕ) (id : ℕ) (es : List (Entry V)) (k : ℕ) →
+      position_from (λ e. e.key == id) 0 es ≡ Some k → is_id k index ≡ true →
+      position_from (λ e. is_id id e.key) 0 (with_optional_ids index es)
       ≡ position_from (λ e. e.key == id) (k + 1) (drop (k + 1) es)
-  found_past place id es k is same =
+  found_past index id es k is same =
       let from_zero : k - 0 ≡ k = omega arith in
       let next : k + 1 - 0 ≡ k + 1 = omega arith in
-      rw next at ((rw is at (found place id es 0)).2 (rw from_zero same))
+      rw next at ((rw is at (found index id es 0)).2 (rw from_zero same))
 
-  pub not_found : (place : Option ℕ) (id : ℕ) (es : List (Entry V)) →
+  pub not_found : (index : Option ℕ) (id : ℕ) (es : List (Entry V)) →
       position_from (λ e. e.key == id) 0 es ≡ None →
-      position_from (λ e. is_id id e.key) 0 (with_optional_ids place es) ≡ None
-  not_found place id es is = rw is at (found place id es 0)
+      position_from (λ e. is_id id e.key) 0 (with_optional_ids index es) ≡ None
+  not_found index id es is = rw is at (found index id es 0)
 
-  pub optional-push : (place : Option ℕ) (es : List (Entry V)) (key : ℕ) (v : V) →
-      IsWithin place (length es) →
-      with_optional_ids place (es ++ record { key = key; value = v } ∷ [])
-      ≡ with_optional_ids place es ++ record { key = Some key; value = v } ∷ []
+  pub optional-push : (index : Option ℕ) (es : List (Entry V)) (key : ℕ) (v : V) →
+      IsWithin index (length es) →
+      with_optional_ids index (es ++ record { key = key; value = v } ∷ [])
+      ≡ with_optional_ids index es ++ record { key = Some key; value = v } ∷ []
   optional-push None [] key v within = refl
   optional-push (Some k) [] key v within = absurd (omega (arith, within))
-  optional-push place (e ∷ es) key v within =
-      rw (optional-push (place_after place) es key v (within-after place (length es) within)) refl
+  optional-push index (e ∷ es) key v within =
+      rw (optional-push (index_after index) es key v (within-after index (length es) within)) refl
 
   pub optional-push-without : (es : List (Entry V)) (key : ℕ) (v : V) →
       with_optional_ids (Some (length es)) (es ++ record { key = key; value = v } ∷ [])
@@ -220,23 +220,23 @@ module _ {V : Type 0} where
   optional-push-without [] key v = refl
   optional-push-without (e ∷ es) key v = rw (optional-push-without es key v) refl
 
-  pub optional-remove : (place : Option ℕ) (es : List (Entry V)) (removed : ℕ) →
+  pub optional-remove : (index : Option ℕ) (es : List (Entry V)) (removed : ℕ) →
       removed < length es →
-      with_optional_ids (after_removal place removed) (remove es removed)
-      ≡ remove (with_optional_ids place es) removed
-  optional-remove place [] removed within = absurd (omega (arith, within))
-  optional-remove place (e ∷ es) zero within = rw (removed-first place) refl
-  optional-remove place (e ∷ es) (suc removed) within =
-      let first = first-removed place removed in
-      rw (first.0, first.1, optional-remove (place_after place) es removed (omega (arith, within)))
+      with_optional_ids (after_removal index removed) (remove es removed)
+      ≡ remove (with_optional_ids index es) removed
+  optional-remove index [] removed within = absurd (omega (arith, within))
+  optional-remove index (e ∷ es) zero within = rw (removed-first index) refl
+  optional-remove index (e ∷ es) (suc removed) within =
+      let first = first-removed index removed in
+      rw (first.0, first.1, optional-remove (index_after index) es removed (omega (arith, within)))
       refl
 
-  pub optional-revalued : (place : Option ℕ) (es : List (Entry V)) (k : ℕ) (v : V) →
-      with_optional_ids place (by_ids.revalued es k v) ≡ revalued (with_optional_ids place es) k v
-  optional-revalued place [] k v = refl
-  optional-revalued place (e ∷ es) zero v = refl
-  optional-revalued place (e ∷ es) (suc k) v =
-      rw (optional-revalued (place_after place) es k v) refl
+  pub optional-revalued : (index : Option ℕ) (es : List (Entry V)) (k : ℕ) (v : V) →
+      with_optional_ids index (by_ids.revalued es k v) ≡ revalued (with_optional_ids index es) k v
+  optional-revalued index [] k v = refl
+  optional-revalued index (e ∷ es) zero v = refl
+  optional-revalued index (e ∷ es) (suc k) v =
+      rw (optional-revalued (index_after index) es k v) refl
 
   pub length-revalued : (es : List (Entry V)) (k : ℕ) (v : V) →
       length (by_ids.revalued es k v) ≡ length es
@@ -245,8 +245,8 @@ module _ {V : Type 0} where
   length-revalued (e ∷ es) (suc k) v = ap suc (length-revalued es k v)
 
 -- if the entry without an id was among the entries, it is among those that are left
-pub within-removed : (place : Option ℕ) (removed count : ℕ) → IsWithin place (count + 1) →
-    removed < count + 1 → IsWithin (after_removal place removed) count
+pub within-removed : (index : Option ℕ) (removed count : ℕ) → IsWithin index (count + 1) →
+    removed < count + 1 → IsWithin (after_removal index removed) count
 within-removed None removed count within less = tt
 within-removed (Some zero) zero count within less = tt
 within-removed (Some (suc k)) zero count within less = omega (arith, within)

@@ -29,10 +29,10 @@ entries_code {V} code =
 module _ {V : Type 0} where
   -- the entries after the one at this index got this value
   abbrev pub revalued : List (OptionalIdEntry V) → ℕ → V → List (OptionalIdEntry V)
-  revalued [] place value = []
+  revalued [] index value = []
   revalued (e ∷ es) zero value = record e { value = value } ∷ es
-  revalued (e ∷ es) (suc place) value = e ∷ revalued es place value
+  revalued (e ∷ es) (suc index) value = e ∷ revalued es index value
 
   -- the table after the entry at this index got this value
   abbrev pub with_value : OptionalIdEntries V → ℕ → V → OptionalIdEntries V
-  with_value r place value = record r { entries = revalued r.entries place value }
+  with_value r index value = record r { entries = revalued r.entries index value }

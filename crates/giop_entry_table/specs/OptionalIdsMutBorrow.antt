@@ -5,8 +5,8 @@ use Rattle.std.specs.Borrow.{LendsIf, Fml, RattleType, MutBor}
 use Rattle.giop_entry_table.specs.OptionalIds.{OptionalIdEntries, with_value}
 use Rattle.giop_entry_table.specs.contracts.optional_ids.OptionalIdTable.{the_row}
 
-module _ (V : RattleType) (r : MutBor (OptionalIdEntries V.Denot)) (place : ℕ) where
+module _ (V : RattleType) (r : MutBor (OptionalIdEntries V.Denot)) (index : ℕ) where
   -- after the borrow x ends, the entry at this index has the last value written through x; if x is
   -- `None`, the table stays as it is
   abbrev pub lends_get : Option (MutBor V.Denot) → Fml
-  lends_get x = LendsIf (the_row V) V r x (with_value r.now place) r.now
+  lends_get x = LendsIf (the_row V) V r x (with_value r.now index) r.now

@@ -6,7 +6,7 @@ ghost use Rattle.std.specs.Option.{option_map, option_copied_mut};
 ghost use Rattle.std.specs.Borrow.{sem};
 
 use crate::ids::Ids;
-use crate::search::place_of;
+use crate::search::index_of;
 use slab::Slab;
 use std::alloc::{AllocError, Global};
 use std::marker::Model;
@@ -91,62 +91,62 @@ impl<V> EntryTable<V> {
     /// The index of the first entry with this id.
     pub fn find(&self, key: u32) -> Option<usize>
         ensures value { result ≡ position_from (λ e. e.key == key) 0 self.now.entries }
-        ensures within { IfSome result (λ place. place < length self.now.entries) }
+        ensures within { IfSome result (λ index. index < length self.now.entries) }
     {
         self.ids.find(key)
     }
 
     /// The index of the first entry with this id after the entry at this index.
-    pub(crate) fn find_after(&self, place: usize, key: u32) -> Option<usize>
-        requires { place < length self.now.entries }
+    pub(crate) fn find_after(&self, index: usize, key: u32) -> Option<usize>
+        requires { index < length self.now.entries }
         ensures value { result
-            ≡ position_from (λ e. e.key == key) (place + 1) (drop (place + 1) self.now.entries) }
+            ≡ position_from (λ e. e.key == key) (index + 1) (drop (index + 1) self.now.entries) }
         ensures within { IfSome result (λ k. k < length self.now.entries) }
     {
-        place_of(self.ids.keys.as_slice(), place + 1, key)
+        index_of(self.ids.keys.as_slice(), index + 1, key)
     }
 
     /// The id of the entry at this index.
-    pub fn key(&self, place: usize) -> Option<u32>
-        ensures { result ≡ option_map (λ e. e.key) (slice_get self.now.entries place) }
+    pub fn key(&self, index: usize) -> Option<u32>
+        ensures { result ≡ option_map (λ e. e.key) (slice_get self.now.entries index) }
     {
-        match self.ids.keys.get(place) {
+        match self.ids.keys.get(index) {
             Some(key) => Some(*key),
             None => None,
         }
     }
 
     /// The value of the entry at this index.
-    pub fn get(&self, place: usize) -> Option<&V>
+    pub fn get(&self, index: usize) -> Option<&V>
         ensures { option_copied result
-            ≡ option_map (λ e. e.value) (slice_get self.now.entries place) }
+            ≡ option_map (λ e. e.value) (slice_get self.now.entries index) }
     {
-        match self.numbers.get(place) {
+        match self.numbers.get(index) {
             Some(number) => self.values.get(*number),
             None => None,
         }
     }
 
     /// The value of the entry at this index, for writing.
-    pub fn get_mut(&mut self, place: usize) -> Option<&mut V>
-        ensures* writes_back { sem 𝓛 (lends_get V.row self.entry place result) }
+    pub fn get_mut(&mut self, index: usize) -> Option<&mut V>
+        ensures* writes_back { sem 𝓛 (lends_get V.row self.entry index result) }
         ensures value { option_copied_mut result
-            ≡ option_map (λ e. e.value) (slice_get self.old.entries place) }
+            ≡ option_map (λ e. e.value) (slice_get self.old.entries index) }
     {
-        if place < self.len() {
-            Some(self.value_mut(place))
+        if index < self.len() {
+            Some(self.value_mut(index))
         } else {
             None
         }
     }
 
-    fn value_mut(&mut self, place: usize) -> &mut V
-        requires { place < length self.old.entries }
-        ensures* writes_back { sem 𝓛 (lends_value V.row self.entry place result) }
-        ensures value { option_map (λ e. e.value) (slice_get self.old.entries place)
+    fn value_mut(&mut self, index: usize) -> &mut V
+        requires { index < length self.old.entries }
+        ensures* writes_back { sem 𝓛 (lends_value V.row self.entry index result) }
+        ensures value { option_map (λ e. e.value) (slice_get self.old.entries index)
             ≡ Some result.now }
     {
-        let number = self.numbers[place];
+        let number = self.numbers[index];
         &mut self.values[number]
     }
 
@@ -163,18 +163,18 @@ impl<V> EntryTable<V> {
     }
 
     /// Removes the entry at this index and returns it. The entries after it move up.
-    pub fn take(&mut self, place: usize) -> Option<Entry<V>>
-        ensures value { result ≡ slice_get self.old.entries place }
-        ensures variant { IsSome result ↔ (place < length self.old.entries) }
-        ensures entries { OnSome result (self.new.entries ≡ remove self.old.entries place) }
+    pub fn take(&mut self, index: usize) -> Option<Entry<V>>
+        ensures value { result ≡ slice_get self.old.entries index }
+        ensures variant { IsSome result ↔ (index < length self.old.entries) }
+        ensures entries { OnSome result (self.new.entries ≡ remove self.old.entries index) }
         ensures len { OnSome result
             (length self.new.entries + 1 ≡ length self.old.entries) }
         ensures none { IfNone result (self.new ≡ self.old) }
         ensures most { self.new.most ≡ self.old.most }
     {
-        match self.key(place) {
+        match self.key(index) {
             Some(key) => {
-                let value = self.remove(place);
+                let value = self.remove(index);
                 Some(Entry { key, value })
             }
             None => None,
@@ -183,16 +183,16 @@ impl<V> EntryTable<V> {
 
     /// Removes the entry at this index and returns its value. There must be such an entry. The entries after it move up.
     #[inline]
-    pub fn remove(&mut self, place: usize) -> V
-        requires { place < length self.old.entries }
-        ensures value { option_map (λ e. e.value) (slice_get self.old.entries place)
+    pub fn remove(&mut self, index: usize) -> V
+        requires { index < length self.old.entries }
+        ensures value { option_map (λ e. e.value) (slice_get self.old.entries index)
             ≡ Some result }
-        ensures entries { self.new.entries ≡ remove self.old.entries place }
+        ensures entries { self.new.entries ≡ remove self.old.entries index }
         ensures len { length self.new.entries + 1 ≡ length self.old.entries }
         ensures most { self.new.most ≡ self.old.most }
     {
-        self.ids.remove(place);
-        let number = self.numbers.remove(place);
+        self.ids.remove(index);
+        let number = self.numbers.remove(index);
         self.values.remove(number)
     }
 

@@ -4,7 +4,7 @@ ghost use Rattle.std.specs.Prelude.{◌≡◌, ◌+◌, ◌%◌, ◌<◌, ◌≤
 ghost use Rattle.std.specs.List.{remove, position_from};
 ghost use Rattle.giop_entry_table.specs.Ids.{AreIndexed, IsBefore};
 
-use crate::search::place_of;
+use crate::search::index_of;
 use std::alloc::{AllocError, Global};
 
 /// If there are at most this number of ids, they are looked through one after another, and no remainders are kept.
@@ -87,9 +87,9 @@ impl Ids {
     /// The first index of an id.
     pub(crate) fn find(&self, key: u32) -> Option<usize>
         ensures value { result ≡ position_from (λ k. k == key) 0 self.now.keys.items }
-        ensures within { IfSome result (λ place. place < length self.now.keys.items) }
+        ensures within { IfSome result (λ index. index < length self.now.keys.items) }
     {
-        place_of(self.keys.as_slice(), self.start(key), key)
+        index_of(self.keys.as_slice(), self.start(key), key)
     }
 
     /// Adds an id after the other ids. There must be room for it.
@@ -109,19 +109,19 @@ impl Ids {
     }
 
     /// Removes the id at this index. There must be such an id. The ids after it move up.
-    pub(crate) fn remove(&mut self, place: usize)
-        requires { place < length self.old.keys.items }
-        ensures items { self.new.keys.items ≡ remove self.old.keys.items place }
+    pub(crate) fn remove(&mut self, index: usize)
+        requires { index < length self.old.keys.items }
+        ensures items { self.new.keys.items ≡ remove self.old.keys.items index }
         ensures capacity { vec_capacity self.new.keys ≡ vec_capacity self.old.keys }
     {
         if self.counts.is_empty() {
-            self.keys.remove(place);
+            self.keys.remove(index);
             return;
         }
-        let remainder = self.remainder(self.keys[place]);
+        let remainder = self.remainder(self.keys[index]);
         self.counts[remainder] -= 1;
         self.removals = self.removals.saturating_add(1);
-        self.keys.remove(place);
+        self.keys.remove(index);
     }
 
     /// Drops all ids, and keeps the memory.

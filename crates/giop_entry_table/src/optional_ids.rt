@@ -45,27 +45,27 @@ impl<V> Model for OptionalIdTable<V> {
       entries = with_optional_ids r.without_id r.table.entries;
     } };
 
-    ghost invariant = { λ r. IfSome r.without_id (λ place. place < length r.table.entries) };
+    ghost invariant = { λ r. IfSome r.without_id (λ index. index < length r.table.entries) };
 }
 
-/// Whether the index is this one.
-fn is_at(index: Option<usize>, place: usize) -> bool
-    ensures { result ≡ is_id place index }
+/// Whether an entry is at this index.
+fn is_at(entry: Option<usize>, index: usize) -> bool
+    ensures { result ≡ is_id index entry }
 {
-    match index {
-        Some(there) => there == place,
+    match entry {
+        Some(there) => there == index,
         None => false,
     }
 }
 
-/// The index of an entry after another one is removed.
-fn moved(index: Option<usize>, removed: usize) -> Option<usize>
-    ensures { result ≡ after_removal index removed }
+/// The index of an entry after one is removed; none if it is that one.
+fn moved(entry: Option<usize>, removed: usize) -> Option<usize>
+    ensures { result ≡ after_removal entry removed }
 {
-    match index {
-        Some(place) if place == removed => None,
-        Some(place) if removed < place => Some(place - 1),
-        _ => index,
+    match entry {
+        Some(index) if index == removed => None,
+        Some(index) if removed < index => Some(index - 1),
+        _ => entry,
     }
 }
 
@@ -108,14 +108,14 @@ impl<V> OptionalIdTable<V> {
     /// The index of the first entry with this id.
     pub fn find(&self, key: u32) -> Option<usize>
         ensures value { result ≡ position_from (λ e. is_id key e.key) 0 self.now.entries }
-        ensures within { IfSome result (λ place. place < length self.now.entries) }
+        ensures within { IfSome result (λ index. index < length self.now.entries) }
     {
         match self.table.find(key) {
-            Some(place) => {
-                if is_at(self.without_id, place) {
-                    self.table.find_after(place, key)
+            Some(index) => {
+                if is_at(self.without_id, index) {
+                    self.table.find_after(index, key)
                 } else {
-                    Some(place)
+                    Some(index)
                 }
             }
             None => None,
@@ -125,18 +125,18 @@ impl<V> OptionalIdTable<V> {
     /// The index of the entry without an id.
     pub fn without_id(&self) -> Option<usize>
         ensures value { result ≡ position_from (λ e. is_none e.key) 0 self.now.entries }
-        ensures within { IfSome result (λ place. place < length self.now.entries) }
+        ensures within { IfSome result (λ index. index < length self.now.entries) }
     {
         self.without_id
     }
 
     /// The id of the entry at this index, or `Some(None)` if that entry has none.
-    pub fn key(&self, place: usize) -> Option<Option<u32>>
-        ensures { result ≡ option_map (λ e. e.key) (slice_get self.now.entries place) }
+    pub fn key(&self, index: usize) -> Option<Option<u32>>
+        ensures { result ≡ option_map (λ e. e.key) (slice_get self.now.entries index) }
     {
-        match self.table.key(place) {
+        match self.table.key(index) {
             Some(key) => {
-                if is_at(self.without_id, place) {
+                if is_at(self.without_id, index) {
                     Some(None)
                 } else {
                     Some(Some(key))
@@ -147,20 +147,20 @@ impl<V> OptionalIdTable<V> {
     }
 
     /// The value of the entry at this index.
-    pub fn get(&self, place: usize) -> Option<&V>
+    pub fn get(&self, index: usize) -> Option<&V>
         ensures { option_copied result
-            ≡ option_map (λ e. e.value) (slice_get self.now.entries place) }
+            ≡ option_map (λ e. e.value) (slice_get self.now.entries index) }
     {
-        self.table.get(place)
+        self.table.get(index)
     }
 
     /// The value of the entry at this index, for writing.
-    pub fn get_mut(&mut self, place: usize) -> Option<&mut V>
-        ensures* writes_back { sem 𝓛 (lends_get V.row self.entry place result) }
+    pub fn get_mut(&mut self, index: usize) -> Option<&mut V>
+        ensures* writes_back { sem 𝓛 (lends_get V.row self.entry index result) }
         ensures value { option_copied_mut result
-            ≡ option_map (λ e. e.value) (slice_get self.old.entries place) }
+            ≡ option_map (λ e. e.value) (slice_get self.old.entries index) }
     {
-        self.table.get_mut(place)
+        self.table.get_mut(index)
     }
 
     /// Adds a value under this id, after the other entries. There must be room for it.
@@ -187,18 +187,18 @@ impl<V> OptionalIdTable<V> {
     }
 
     /// Removes the entry at this index and returns it. The entries after it move up.
-    pub fn take(&mut self, place: usize) -> Option<OptionalIdEntry<V>>
-        ensures value { result ≡ slice_get self.old.entries place }
-        ensures variant { IsSome result ↔ (place < length self.old.entries) }
-        ensures entries { OnSome result (self.new.entries ≡ remove self.old.entries place) }
+    pub fn take(&mut self, index: usize) -> Option<OptionalIdEntry<V>>
+        ensures value { result ≡ slice_get self.old.entries index }
+        ensures variant { IsSome result ↔ (index < length self.old.entries) }
+        ensures entries { OnSome result (self.new.entries ≡ remove self.old.entries index) }
         ensures len { OnSome result
             (length self.new.entries + 1 ≡ length self.old.entries) }
         ensures none { IfNone result (self.new ≡ self.old) }
         ensures most { self.new.most ≡ self.old.most }
     {
-        match self.key(place) {
+        match self.key(index) {
             Some(key) => {
-                let value = self.remove(place);
+                let value = self.remove(index);
                 Some(OptionalIdEntry { key, value })
             }
             None => None,
@@ -206,17 +206,17 @@ impl<V> OptionalIdTable<V> {
     }
 
     /// Removes the entry at this index and returns its value. There must be such an entry. The entries after it move up.
-    pub fn remove(&mut self, place: usize) -> V
-        requires { place < length self.old.entries }
-        ensures value { option_map (λ e. e.value) (slice_get self.old.entries place)
+    pub fn remove(&mut self, index: usize) -> V
+        requires { index < length self.old.entries }
+        ensures value { option_map (λ e. e.value) (slice_get self.old.entries index)
             ≡ Some result }
-        ensures entries { self.new.entries ≡ remove self.old.entries place }
+        ensures entries { self.new.entries ≡ remove self.old.entries index }
         ensures len { length self.new.entries + 1 ≡ length self.old.entries }
         ensures most { self.new.most ≡ self.old.most }
     {
-        let without_id = moved(self.without_id, place);
+        let without_id = moved(self.without_id, index);
         self.without_id = without_id;
-        self.table.remove(place)
+        self.table.remove(index)
     }
 
     /// Drops all entries, and keeps the memory.

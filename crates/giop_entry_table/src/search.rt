@@ -40,7 +40,7 @@ fn first_of(keys: &[u32], key: u32) -> Option<usize>
 }
 
 /// The first index of an id, from this index on.
-pub(crate) fn place_of(keys: &[u32], from: usize, key: u32) -> Option<usize>
+pub(crate) fn index_of(keys: &[u32], from: usize, key: u32) -> Option<usize>
     requires { from ≤ length keys.now }
     ensures value { result ≡ position_from (λ k. k == key) from (drop from keys.now) }
     ensures within { IfSome result (λ k. k < length keys.now) }

@@ -5,7 +5,7 @@ ghost use Rattle.std.specs.Prelude.{◌≤◌};
 use crate::arguments::Arguments;
 use giop_json_messages::{Calls, Messages};
 use giop_run::{failed, refused, words};
-use giop_views::viewed;
+use giop_views::run_view;
 
 /// The program's name, with which each message on standard error begins.
 const PROGRAM: &str = "giop-json";
@@ -30,8 +30,8 @@ fn view(rt: &HostRuntime, asked: Arguments<'_>) -> u8
 {
     if asked.are_calls {
         let calls = Calls::new(rt.alloc(), asked.settings);
-        return viewed(rt, PROGRAM, asked.file, calls);
+        return run_view(rt, PROGRAM, asked.file, calls);
     }
     let messages = Messages::new(rt.alloc(), asked.settings);
-    viewed(rt, PROGRAM, asked.file, messages)
+    run_view(rt, PROGRAM, asked.file, messages)
 }

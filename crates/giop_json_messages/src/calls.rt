@@ -9,7 +9,7 @@ use giop_lines::{Said, Value};
 use giop_print::Out;
 use giop_view_parts::{
     Ending, Key, Kind, Maker, Message, Notice, Of, Open, OwnKey, Place, Pool, Stream, Streams,
-    ViewFault, greater,
+    ViewError, greater,
 };
 use std::alloc::{AllocError, Global};
 use std::collections::BTreeMap;
@@ -60,7 +60,7 @@ impl Calls {
         open: &mut Open<Half>,
         request: Option<Box<Message<Half>>>,
         reply: Option<Box<Message<Half>>>,
-    ) -> Result<(), ViewFault>
+    ) -> Result<(), ViewError>
         // The Reply answers the Request.
         requires { IfSome request (λ q. IfSome reply (λ r.
             r.value.facts.answers ≡ Some q.value.key)) }
@@ -82,7 +82,7 @@ impl Calls {
         Ok(())
     }
 
-    fn put_row<O: Out>(&mut self, out: &mut O, call: Call<'_>) -> Result<(), ViewFault> {
+    fn put_row<O: Out>(&mut self, out: &mut O, call: Call<'_>) -> Result<(), ViewError> {
         let mut front = self.room.text();
         call.put_front(self.alloc, &mut front, self.settings.options.characters)?;
         let mut row = front.into_octets();
@@ -110,7 +110,7 @@ impl Calls {
         out: &mut O,
         open: &mut Open<Half>,
         request: Box<Message<Half>>,
-    ) -> Result<(), ViewFault> {
+    ) -> Result<(), ViewError> {
         let key = request.key;
         if key.stream == 0 || request.facts.is_oneway {
             return self.put_call(out, open, Some(request), None);
@@ -136,7 +136,7 @@ impl Calls {
         out: &mut O,
         open: &mut Open<Half>,
         reply: Box<Message<Half>>,
-    ) -> Result<(), ViewFault> {
+    ) -> Result<(), ViewError> {
         let Some(key) = reply.facts.answers else {
             return self.put_call(out, open, None, Some(reply));
         };
@@ -169,7 +169,7 @@ impl Calls {
         out: &mut O,
         open: &mut Open<Half>,
         of: Of,
-    ) -> Result<(), ViewFault> {
+    ) -> Result<(), ViewError> {
         for _ in 0..self.waiting.len() {
             let Some((place, key)) = self.by_connection.range((of.id, 0)..).next() else {
                 break;
@@ -214,7 +214,7 @@ impl Calls {
         &mut self,
         out: &mut O,
         open: &mut Open<Half>,
-    ) -> Result<bool, ViewFault> {
+    ) -> Result<bool, ViewError> {
         let Some(key) = self.waiting.first() else {
             return Ok(false);
         };
@@ -249,7 +249,7 @@ impl Maker for Calls {
         streams: &Streams,
         open: &mut Open<Half>,
         message: Box<Message<Half>>,
-    ) -> Result<(), ViewFault> {
+    ) -> Result<(), ViewError> {
         let mut message = message;
         let kind = message.facts.kind();
         let stream = streams.get(message.key.stream);
@@ -266,7 +266,7 @@ impl Maker for Calls {
         _out: &mut O,
         _stream: &Stream,
         _said: Said<'_>,
-    ) -> Result<(), ViewFault> {
+    ) -> Result<(), ViewError> {
         Ok(())
     }
 
@@ -276,14 +276,14 @@ impl Maker for Calls {
         stream: &Stream,
         ending: Ending,
         open: &mut Open<Half>,
-    ) -> Result<(), ViewFault> {
+    ) -> Result<(), ViewError> {
         match stream.connection {
             Some(of) if ending.is_end() => self.end_connection(out, open, of),
             _ => Ok(()),
         }
     }
 
-    fn finish<O: Out>(&mut self, out: &mut O, open: &mut Open<Half>) -> Result<(), ViewFault> {
+    fn finish<O: Out>(&mut self, out: &mut O, open: &mut Open<Half>) -> Result<(), ViewError> {
         for _ in 0..self.waiting.len() {
             let Some(key) = self.waiting.first() else {
                 break;
@@ -314,7 +314,7 @@ impl Maker for Calls {
         out: &mut O,
         _streams: &Streams,
         open: &mut Open<Half>,
-    ) -> Result<(), ViewFault> {
+    ) -> Result<(), ViewError> {
         for _ in 0..u64::MAX {
             let has_more = self.is_full(open.held())
                 && (self.drop_text(open)? || self.put_oldest(out, open)?);

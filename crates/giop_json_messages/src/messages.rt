@@ -9,7 +9,7 @@ use giop_json_values::Text;
 use giop_lines::{Said, Value};
 use giop_print::Out;
 use giop_view_parts::{
-    Capture, Ending, Key, Maker, Message, Notice, OPEN_MAX, Open, Stream, Streams, ViewFault,
+    Capture, Ending, Key, Maker, Message, Notice, OPEN_MAX, Open, Stream, Streams, ViewError,
 };
 use std::alloc::{AllocError, Global};
 
@@ -42,7 +42,7 @@ impl Messages {
         stream: Option<&Stream>,
         message: &mut Message<Parts>,
         is_last: bool,
-    ) -> Result<(), ViewFault> {
+    ) -> Result<(), ViewError> {
         let mut front = self.room.text();
         front.open(false)?;
         if let Some(stream) = stream {
@@ -66,7 +66,7 @@ impl Messages {
         out: &mut O,
         stream: &Stream,
         later: &[u8],
-    ) -> Result<(), ViewFault> {
+    ) -> Result<(), ViewError> {
         let mut line = Vec::new(self.alloc);
         let key = Key {
             stream: stream.number,
@@ -82,7 +82,7 @@ impl Messages {
     }
 
     /// Writes the object of a capture.
-    fn put_capture<O: Out>(&mut self, out: &mut O) -> Result<(), ViewFault> {
+    fn put_capture<O: Out>(&mut self, out: &mut O) -> Result<(), ViewError> {
         let mut text = self.room.text();
         self.capture.put(&mut text, true)?;
         self.capture = Capture::new(self.alloc);
@@ -96,7 +96,7 @@ impl Messages {
         streams: &Streams,
         open: &mut Open<Parts>,
         key: Key,
-    ) -> Result<(), ViewFault> {
+    ) -> Result<(), ViewError> {
         let is_current = open.current_key() == Some(key);
         let Some(mut message) = open.remove(key) else {
             return Ok(());
@@ -138,7 +138,7 @@ impl Maker for Messages {
         streams: &Streams,
         open: &mut Open<Parts>,
         message: Box<Message<Parts>>,
-    ) -> Result<(), ViewFault> {
+    ) -> Result<(), ViewError> {
         let mut message = message;
         let stream = streams.get(message.key.stream);
         self.put_message(out, stream, &mut message, true)?;
@@ -151,7 +151,7 @@ impl Maker for Messages {
         out: &mut O,
         stream: &Stream,
         said: Said<'_>,
-    ) -> Result<(), ViewFault> {
+    ) -> Result<(), ViewError> {
         self.capture.take(said)?;
         match said {
             Said::CaptureTotal(_) => self.put_capture(out),
@@ -166,7 +166,7 @@ impl Maker for Messages {
         stream: &Stream,
         _ending: Ending,
         _open: &mut Open<Parts>,
-    ) -> Result<(), ViewFault> {
+    ) -> Result<(), ViewError> {
         if !stream.is_told {
             return Ok(());
         }
@@ -175,7 +175,7 @@ impl Maker for Messages {
         self.room.put(out, text)
     }
 
-    fn finish<O: Out>(&mut self, out: &mut O, _open: &mut Open<Parts>) -> Result<(), ViewFault> {
+    fn finish<O: Out>(&mut self, out: &mut O, _open: &mut Open<Parts>) -> Result<(), ViewError> {
         if self.capture.is_empty() {
             return Ok(());
         }
@@ -193,7 +193,7 @@ impl Maker for Messages {
         out: &mut O,
         streams: &Streams,
         open: &mut Open<Parts>,
-    ) -> Result<(), ViewFault> {
+    ) -> Result<(), ViewError> {
         for _ in 0..=OPEN_MAX {
             match open.most() {
                 Some((_, key)) if self.is_full(open.held()) => {

@@ -4,7 +4,7 @@ ghost use Rattle.std.specs.Prelude.{◌<◌, ◌*◌, ◌↔◌, IsTrue};
 
 use giop_json_values::{Options, Text, shown_text};
 use giop_print::Out;
-use giop_view_parts::ViewFault;
+use giop_view_parts::ViewError;
 use std::alloc::{AllocError, Global};
 use std::mem;
 
@@ -56,7 +56,7 @@ impl Room {
     }
 
     /// Writes a text with its LF.
-    pub(crate) fn put<O: Out>(&mut self, out: &mut O, text: Text) -> Result<(), ViewFault> {
+    pub(crate) fn put<O: Out>(&mut self, out: &mut O, text: Text) -> Result<(), ViewError> {
         let mut octets = text.into_octets();
         octets.push(b'\n')?;
         put_ascii(out, &octets)?;
@@ -81,7 +81,7 @@ pub(crate) fn put_later(text: &mut Text, lines: &[u8]) -> Result<(), AllocError>
 }
 
 /// Writes a text of JSON. Each character outside ASCII is written as its escape; such characters stand only in its strings.
-pub(crate) fn put_ascii<O: Out>(out: &mut O, text: &[u8]) -> Result<(), ViewFault> {
+pub(crate) fn put_ascii<O: Out>(out: &mut O, text: &[u8]) -> Result<(), ViewError> {
     if text.is_ascii() {
         out.put_all(text)?;
         return Ok(());

@@ -12,7 +12,7 @@ use Rattle.giop_lines.specs.declared.line.Total.{Total}
 use Rattle.giop_lines.specs.declared.line.CaptureTotal.{CaptureTotal}
 use Rattle.giop_lines.specs.declared.line.Said.{Said}
 use Rattle.giop_lines.specs.declared.line.Said.TheVariants as said
-use Rattle.giop_lines.specs.declared.line.Line.{Line}
+use Rattle.giop_lines.specs.declared.line.DumpLine.{DumpLine}
 use Rattle.giop_lines.specs.Names.{is_name, is_word, is_type_word, is_printed}
 use Rattle.giop_lines.specs.Texts.{AreOctets}
 use Rattle.giop_lines.specs.Paths.{IsPath}
@@ -93,7 +93,7 @@ abbrev pub numbered : List ℕ → ℕ → List ℕ → List ℕ
 numbered letter zero rest = rest
 numbered letter (suc n) rest = letter ++ (decimal (suc n) ++ (codes " " ++ rest))
 
-abbrev pub line_text : Line → List ℕ
+abbrev pub line_text : DumpLine → List ℕ
 line_text l = numbered (codes "s") l.stream (numbered (codes "m") l.message (said_text l.said))
 
 -- a message type: a word, or a number

@@ -15,7 +15,7 @@ mod values;
 mod words;
 
 pub use line::{
-    Answers, Call, CaptureTotal, Content, Fault, Line, Piece, Said, Start, StreamStart, Time,
+    Answers, Call, CaptureTotal, Content, DumpLine, Fault, Piece, Said, Start, StreamStart, Time,
     Total, Value,
 };
 pub use numbers::{integer, number, ordinal};

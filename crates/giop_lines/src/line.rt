@@ -4,7 +4,7 @@ use giop_cdr::Order;
 
 /// A line of a dump, without its LF.
 #[derive(Clone, Copy)]
-pub struct Line<'a> {
+pub struct DumpLine<'a> {
     /// The number of its stream, from 1; 0 if it names none.
     pub stream: u64,
     /// The number of its message, from 1; 0 if it names none.

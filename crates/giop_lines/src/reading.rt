@@ -4,7 +4,7 @@ ghost use Rattle.std.specs.Prelude.{◌≡◌, ◌<◌, ◌++◌, codes, decimal
 ghost use Rattle.giop_lines.specs.Lines.{line_text, said_text, numbered, IsSaid};
 
 use crate::captures::of_capture;
-use crate::line::{Line, Said};
+use crate::line::{DumpLine, Said};
 use crate::messages::of_message;
 use crate::names::is_printed;
 use crate::numbers::ordinal;
@@ -16,7 +16,7 @@ use crate::words::{after, first_word, word};
 pub const LINE_MAX: usize = 8192;
 
 /// What a line was made of. There is nothing if no dump can have the line.
-pub fn read(line: &[u8]) -> Option<Line<'_>>
+pub fn read(line: &[u8]) -> Option<DumpLine<'_>>
     ensures spelled { IfSome result (λ l. line.now ≡ line_text l) }
     ensures fields { IfSome result (λ l. IsSaid l.said) }
 {
@@ -39,7 +39,7 @@ pub fn read(line: &[u8]) -> Option<Line<'_>>
         Some(said) => said,
         None => later(text, stream, message)?,
     };
-    Some(Line {
+    Some(DumpLine {
         stream,
         message,
         said,

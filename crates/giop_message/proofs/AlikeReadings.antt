@@ -9,9 +9,9 @@ use Rattle.giop_sig.specs.Kinds.{is_kind}
 use Rattle.giop_sig.specs.Types.{Scalar, Plain, Marked, width, Ty, Single, Text, Octets, Struct, Union, Sequence, Array, Encapsulation, tag_of}
 use Rattle.giop_sig.specs.declared.types.Selected.{Selected}
 use Rattle.giop_sig.specs.declared.types.Selected.TheVariants.{Case, Nothing, Refused}
-use Rattle.giop_decode.specs.declared.progress.Kind.{Kind}
-use Rattle.giop_decode.specs.declared.progress.Kind.TheVariants as kinds
-use Rattle.giop_decode.specs.ReadResult.{Coding, PathSegment, Name, Index, Switch, Held, Number, Count, Size, Ordered, Piece, Line, line, OpenPart, Part, Member, Read, Done, Short, Fault, with_front, followed, within, coded}
+use Rattle.giop_decode.specs.declared.progress.ValueFault.{ValueFault}
+use Rattle.giop_decode.specs.declared.progress.ValueFault.TheVariants as kinds
+use Rattle.giop_decode.specs.ReadResult.{Coding, PathSegment, Name, Index, Switch, Held, Number, Count, Size, Ordered, Piece, ValueAt, line, OpenPart, Part, Member, Read, Done, Short, Fault, with_front, followed, within, coded}
 use Rattle.giop_decode.specs.Pieces.{Block, Partial, Complete, block, number, unless, over, full_pieces, full_piece, last_piece, content}
 use Rattle.giop_decode.specs.Reading.{after_leading_number, wrong, parts_from, member, refused, chosen, single, order_of, rest_of, enclosed, left_after, ordered, opening, sized, read, rooted, reading}
 use Rattle.giop_decode.specs.Noted.{Noted, note, noted, first_of, is_member}
@@ -52,7 +52,7 @@ AreAlike path A B = ⊥
 pub data Outcome : Type 0 where
   Ended : Noted → ℕ → List ℕ → Outcome
   Open : Noted → ℕ → Outcome
-  Faulted : Noted → ℕ → Kind → Outcome
+  Faulted : Noted → ℕ → ValueFault → Outcome
 
 -- the outcome of a reading, if this was noted before; `is` says whether it is the reading of a
 -- header
@@ -69,7 +69,7 @@ module _ (is : Bool) where
   alike_itself : (r : Read) → Same r r
   alike_itself r = record { shows = λ h. refl }
 
-  front_outcome : (h : Noted) (front : List Line) (r : Read) →
+  front_outcome : (h : Noted) (front : List ValueAt) (r : Read) →
       outcome is h (with_front front r) ≡ outcome is (noted is h front) r
   front_outcome h front (Done lines at rest) =
       ap (λ now. Ended now at rest) (noted-append is h front lines)
@@ -79,7 +79,7 @@ module _ (is : Bool) where
       ap (λ now. Faulted now at why) (noted-append is h front lines)
 
   -- two readings have the same outcome after lines, if the same is noted of these lines
-  front_same : (front other : List Line) {r q : Read} →
+  front_same : (front other : List ValueAt) {r q : Read} →
       ((h : Noted) → noted is h front ≡ noted is h other) → Same r q →
       Same (with_front front r) (with_front other q)
   front_same front other {r} {q} e same = record {
@@ -87,7 +87,7 @@ module _ (is : Bool) where
         ∙ (same.shows (noted is h other) ∙ sym (front_outcome h other q)));
   }
 
-  unless_same : (A B : Ty) (why : Option Kind) (at : ℕ) {r q : Read} → Same r q →
+  unless_same : (A B : Ty) (why : Option ValueFault) (at : ℕ) {r q : Read} → Same r q →
       Same (unless A why at r) (unless B why at q)
   unless_same A B None at same = same
   unless_same A B (Some why) at same = record { shows = λ h. refl }

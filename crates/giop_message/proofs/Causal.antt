@@ -8,8 +8,8 @@ use Rattle.std.proofs.lemmas.List.Elements.{filter-append}
 use Rattle.giop_cdr.specs.Alignment.{padding}
 use Rattle.giop_print.specs.declared.path.Root.{Root}
 use Rattle.giop_sig.specs.Types.{Ty}
-use Rattle.giop_decode.specs.declared.progress.Kind.{Kind}
-use Rattle.giop_decode.specs.ReadResult.{PathSegment, Value as Valued, Line, Read, Done, Short, Fault}
+use Rattle.giop_decode.specs.declared.progress.ValueFault.{ValueFault}
+use Rattle.giop_decode.specs.ReadResult.{PathSegment, Value as Valued, ValueAt, Read, Done, Short, Fault}
 use Rattle.giop_decode.specs.Reading.{reading}
 use Rattle.giop_decode.specs.ReadingSteps as decoder
 use Rattle.giop_decode.specs.ReadingSteps.{IsEmptyResult, OneAt, IsOctetResult, root_step}
@@ -20,7 +20,7 @@ use Rattle.giop_message.specs.declared.part.Section.{Section}
 use Rattle.giop_message.specs.declared.part.Section.TheVariants as sections
 use Rattle.giop_message.specs.MessageReader.{LineClass, TimedLine, AreInLineOrder, IsOrdered, IsCausal}
 use Rattle.giop_message.specs.Signatures.{Signatures}
-use Rattle.giop_message.specs.Messages.{coding_of, Calling, Said, only_lines, nothing_said, ValueLine, CallLine, RestLine, FaultLine, LineAt, line_at, call_of, calls, section_lines, BodyType, Stage, In_typed, In_padding, In_rest, Over, Message, ReadTo, with_front, section_then, rest_in, rest, body, padded, message, message_lines, root_of, calling, after, section_and_rest}
+use Rattle.giop_message.specs.Messages.{coding_of, Calling, Said, only_lines, nothing_said, ValueLine, CallLine, RestLine, FaultLine, LineAt, line_at, call_of, calls, section_lines, BodyType, Stage, In_typed, In_padding, In_rest, Over, MessageReading, ReadTo, with_front, section_then, rest_in, rest, body, padded, message, message_lines, root_of, calling, after, section_and_rest}
 use Rattle.giop_message.specs.StageSteps.{rest_step, message_step, advance}
 use Rattle.giop_message.specs.ReaderOfTable.{line_class_of, timed_line_of, remarks_by, reader_by}
 use Rattle.giop_message.proofs.LastParts.{CallsNone, root_none}
@@ -31,7 +31,7 @@ abbrev pub ToldAt : ℕ → List LineAt → Type 0
 ToldAt n emitted = Each (λ t. t.at ≡ n) emitted
 
 -- a message that was read from no octets has no line
-abbrev pub Silent : ℕ → Message → Type 0
+abbrev pub Silent : ℕ → MessageReading → Type 0
 Silent n (ReadTo said at stage) = (said.lines ≡ []) × (at ≡ n)
 
 -- the lines of one octet, in their order
@@ -40,13 +40,13 @@ Turn n emitted = ToldAt n emitted × AreInLineOrder (map (λ t. line_class_of t.
 
 -- a message after one octet: its lines are those of the octet, and it is at this offset unless it
 -- is over
-abbrev pub Prompt : ℕ → Message → Type 0
+abbrev pub Prompt : ℕ → MessageReading → Type 0
 Prompt n (ReadTo said at stage) = Turn n said.lines × ((at ≡ n) ⊎ (stage ≡ Over))
 
-silent_prompt : (n : ℕ) (m : Message) → Silent n m → Prompt n m
+silent_prompt : (n : ℕ) (m : MessageReading) → Silent n m → Prompt n m
 silent_prompt n (ReadTo said at stage) h = search (arith)
 
-prompt_front : (n : ℕ) (front : Said) (m : Message) → Turn n front.lines → Silent n m →
+prompt_front : (n : ℕ) (front : Said) (m : MessageReading) → Turn n front.lines → Silent n m →
     Prompt n (with_front front m)
 unfolding with_front
 prompt_front n front (ReadTo said at stage) h k = search (arith, append-nil)
@@ -69,7 +69,7 @@ call_by : (n : ℕ) (test : Bool) (ts : List LineAt) → MayCall n ts →
 call_by n true ts h = h
 call_by n false ts h = inl refl
 
-pub calls_is : (is : Calling) (l : Line) (h : Noted) → MayCall l.at (calls is l h)
+pub calls_is : (is : Calling) (l : ValueAt) (h : Noted) → MayCall l.at (calls is l h)
 unfolding calls
 calls_is is l h = search (arith, call_by, call_is)
 
@@ -79,7 +79,7 @@ unfolding line_at line_class_of
 value_turn n root path v more (inl e) = search (arith)
 value_turn n root path v more (inr f) = search (arith)
 
-section_lines_turn : (root : Root) (is : Calling) (n : ℕ) (h : Noted) (lines : List Line) →
+section_lines_turn : (root : Root) (is : Calling) (n : ℕ) (h : Noted) (lines : List ValueAt) →
     OneAt n lines →
     Turn n (section_lines root is h lines)
 unfolding section_lines
@@ -90,7 +90,7 @@ section_lines_turn root is n h (l ∷ []) e =
     (value_turn l.at root l.path l.value (calls is l now) (calls_is is l now))
 section_lines_turn root is n h (l ∷ l' ∷ ls) e = absurd e
 
-module _ (section : Section) (is : Calling) (next : Noted → ℕ → List ℕ → Message) (n : ℕ)
+module _ (section : Section) (is : Calling) (next : Noted → ℕ → List ℕ → MessageReading) (n : ℕ)
     (silent : (k : Noted) → Silent n (next k n [])) where
   abbrev R : Root
   R = root_of section
@@ -103,7 +103,8 @@ module _ (section : Section) (is : Calling) (next : Noted → ℕ → List ℕ �
   passes_silent k (Fault lines at why T) h = absurd h
 
   -- a fault, and the value that its octet completes
-  faulted_turn : (k : Noted) (lines : List Line) (at : ℕ) (why : Kind) → at ≡ n → OneAt n lines →
+  faulted_turn : (k : Noted) (lines : List ValueAt) (at : ℕ) (why : ValueFault) → at ≡ n →
+      OneAt n lines →
       Each (λ l. ends_operation is.is_request l ≡ false) lines →
       Turn n (section_lines R is k lines ++ line_at at (FaultLine why) ∷ [])
   unfolding line_at section_lines calls line_class_of
@@ -123,7 +124,7 @@ unfolding rest rest_in
 rest_silent n = (refl, add-zero n)
 
 -- a reader gives no line if there are no octets
-abbrev IsSilent : (ℕ → List ℕ → Message) → Type 0
+abbrev IsSilent : (ℕ → List ℕ → MessageReading) → Type 0
 IsSilent reader = (n : ℕ) → Silent n (reader n [])
 
 module _ (S : Signatures) (header : List ℕ) where
@@ -178,10 +179,10 @@ step_prompt S header at (In_rest offset held) b = search (arith, rest_by)
 step_prompt S header at Over b = ((tt, inl refl), inr refl)
 
 -- a message after n octets is at the offset n, unless it is over
-abbrev pub Stands : ℕ → Message → Type 0
+abbrev pub Stands : ℕ → MessageReading → Type 0
 Stands n (ReadTo said at stage) = (at ≡ n) ⊎ (stage ≡ Over)
 
-stands_more : (S : Signatures) (header : List ℕ) (n : ℕ) (m : Message) (b : ℕ) → Stands n m →
+stands_more : (S : Signatures) (header : List ℕ) (n : ℕ) (m : MessageReading) (b : ℕ) → Stands n m →
     Stands (n + 1) (advance S header m b)
 unfolding advance with_front message_step
 stands_more S header n (ReadTo said at stage) b (inl h) = search (arith, step_prompt)
@@ -202,7 +203,7 @@ pub stands : (S : Signatures) (header xs : List ℕ) → Stands (12 + length xs)
 stands S header xs = grown (λ xs. Stands (12 + length xs) (message S header xs)) more [] xs
     (none (message S header []) (message_silent S header))
   where
-    none : (m : Message) → Silent 12 m → Stands 12 m
+    none : (m : MessageReading) → Silent 12 m → Stands 12 m
     none (ReadTo said at stage) h = inl h.1
 
     more : (xs : List ℕ) (b : ℕ) → Stands (12 + length xs) (message S header xs) →
@@ -221,14 +222,15 @@ behind_less : (n m : ℕ) (emitted : List LineAt) → n ≤ m → Behind m emitt
 behind_less n m [] h k = tt
 behind_less n m (t ∷ ts) h k = search (arith, behind_less n m ts h k.1)
 
-pub one_more : (S : Signatures) (header : List ℕ) (n : ℕ) (m : Message) (b : ℕ) → Stands n m →
+pub one_more : (S : Signatures) (header : List ℕ) (n : ℕ) (m : MessageReading) (b : ℕ) →
+    Stands n m →
     (more : List LineAt) × (message_lines (advance S header m b) ≡ message_lines m ++ more)
     × Turn (n + 1) more
 unfolding advance with_front message_step message_lines
 one_more S header n (ReadTo said at stage) b (inl h) =
     go (message_step S header at stage b) (step_prompt S header at stage b)
   where
-    go : (m : Message) → Prompt (at + 1) m →
+    go : (m : MessageReading) → Prompt (at + 1) m →
         (more : List LineAt) × (message_lines (with_front said m) ≡ said.lines ++ more)
         × Turn (n + 1) more
     go (ReadTo more at' stage') k = (more.lines, refl, rw (← h) k.0)
@@ -340,7 +342,7 @@ module _ (k : ℕ) where
     Ordered xs = Each (λ t. t.at ≤ 12 + length xs) (message_lines (message S header xs))
         × AreInLineOrder (LineClasses (message_lines (message S header xs)))
 
-    ordered_none : (m : Message) → Silent 12 m →
+    ordered_none : (m : MessageReading) → Silent 12 m →
         Each (λ t. t.at ≤ 12) (message_lines m) × AreInLineOrder (LineClasses (message_lines m))
     unfolding message_lines
     ordered_none (ReadTo said at stage) h = rw h.0 (tt, inl refl)

@@ -10,7 +10,7 @@ use Rattle.giop_sig.specs.Types.{Cases, Ty, Plain, Single, Struct, Union, Octets
 use Rattle.giop_sig.specs.Table.{Table, in_version}
 use Rattle.giop_message.specs.Phases.{Phase}
 use Rattle.giop_message.specs.Headers.{minor}
-use Rattle.giop_decode.specs.ReadResult.{Line, OpenPart, Leaf, Short}
+use Rattle.giop_decode.specs.ReadResult.{ValueAt, OpenPart, Leaf, Short}
 use Rattle.giop_decode.specs.Noted.{Noted}
 use Rattle.giop_message.specs.declared.message.Message.{Message as Struct_of}
 use Rattle.giop_message.specs.declared.part.Section.{Section}
@@ -59,7 +59,8 @@ lacks_none T other = refl
 
 -- ---- the part in which the message is
 
-short_stage : (S : Signatures) (header : List ℕ) (section : Section) (h : Noted) (lines : List Line)
+short_stage : (S : Signatures) (header : List ℕ) (section : Section) (h : Noted) (lines : List
+    ValueAt)
     (at : ℕ) (outer : List OpenPart) (leaf : Leaf) →
     close (stage_of (section_and_rest S header section h (Short lines at outer leaf)))
     ≡ ShortLine ∷ []

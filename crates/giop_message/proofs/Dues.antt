@@ -4,7 +4,7 @@ use Rattle.std.proofs.Math.Seq.{drop-append_seam}
 use Rattle.std.proofs.lemmas.List.{length-take-le, take-append-drop}
 use Rattle.std.proofs.lemmas.List.Concat.{flat_map-append}
 use Rattle.giop_message.specs.Signatures.{Signatures}
-use Rattle.giop_message.specs.Messages.{LineAt, Said, Over, Message, ReadTo, message, message_lines, stage_of}
+use Rattle.giop_message.specs.Messages.{LineAt, Said, Over, MessageReading, ReadTo, message, message_lines, stage_of}
 use Rattle.giop_message.specs.StageSteps.{goes_on}
 use Rattle.giop_message.specs.ReaderOfTable.{is_over}
 use Rattle.giop_message.specs.MessageState.{message_line_text, message_lines_text, due, due_text, FaultedAt}
@@ -71,7 +71,8 @@ over_goes : (S : Signatures) (header : List ℕ) (said : Said) (at : ℕ) (t : L
 over_goes S header said at [] = refl
 over_goes S header said at (b ∷ t) = search (arith, stays, over_goes S header said at t)
 
-over_same : (S : Signatures) (header t : List ℕ) (m : Message) → is_over (stage_of m) ≡ true →
+over_same : (S : Signatures) (header t : List ℕ) (m : MessageReading) →
+    is_over (stage_of m) ≡ true →
     goes_on S header m t ≡ m
 unfolding is_over stage_of
 over_same S header t (ReadTo said at Over) e = search (arith, over_goes)

@@ -4,19 +4,19 @@ use Rattle.std.specs.Prelude.{◌||◌}
 use Rattle.std.specs.List.{list_any}
 use Rattle.giop_print.specs.declared.path.Root.{Root}
 use Rattle.giop_sig.specs.Types.{Ty}
-use Rattle.giop_decode.specs.ReadResult.{Line, Read, Done, Short, Fault}
+use Rattle.giop_decode.specs.ReadResult.{ValueAt, Read, Done, Short, Fault}
 use Rattle.giop_decode.specs.Reading.{reading}
 use Rattle.giop_decode.specs.Noted.{Noted, nothing_noted, note, is_header_root}
 use Rattle.giop_message.specs.declared.part.Section.{Section}
 use Rattle.giop_message.specs.declared.part.Section.TheVariants as sections
 use Rattle.giop_message.specs.Headers.{minor, kind}
 use Rattle.giop_message.specs.Signatures.{Signatures}
-use Rattle.giop_message.specs.Messages.{coding_of, Calling, Said, LineAt, line_at, calls, section_lines, BodyType, Message, ReadTo, with_front, section_then, rest_in, rest, body, padded, of_header, message, message_lines, stage_of, root_of, after, section_and_rest}
+use Rattle.giop_message.specs.Messages.{coding_of, Calling, Said, LineAt, line_at, calls, section_lines, BodyType, MessageReading, ReadTo, with_front, section_then, rest_in, rest, body, padded, of_header, message, message_lines, stage_of, root_of, after, section_and_rest}
 use Rattle.giop_message.specs.ReaderOfTable.{line_class_of, is_over, is_wrong}
 use Rattle.giop_message.proofs.Going.{after_has, message_has}
 use Rattle.giop_message.proofs.Causal.{MayCall, calls_is}
 
-abbrev pub Tallies : Message → Type 0
+abbrev pub Tallies : MessageReading → Type 0
 Tallies (ReadTo said at stage) = is_over stage ≡ list_any is_wrong said.lines
 
 step_by : (a b c d : Bool) → (a || b) ≡ false → (b ≡ false → c ≡ d) → (a || c) ≡ d
@@ -34,7 +34,7 @@ unfolding is_wrong line_class_of line_at
 none_call n emitted (inl e) = rw e refl
 none_call n emitted (inr f) = rw f.3 refl
 
-none_told : (root : Root) (is : Calling) (h : Noted) (lines : List Line) →
+none_told : (root : Root) (is : Calling) (h : Noted) (lines : List ValueAt) →
     list_any is_wrong (section_lines root is h lines) ≡ false
 unfolding section_lines is_wrong line_class_of line_at
 none_told root is h [] = refl
@@ -43,12 +43,13 @@ none_told root is h (l ∷ ls) =
     any_append (calls is l now) (section_lines root is now ls)
     (none_call l.at (calls is l now) (calls_is is l now)) ∙ none_told root is now ls
 
-front_tallies : (front : Said) (m : Message) → list_any is_wrong front.lines ≡ false → Tallies m →
+front_tallies : (front : Said) (m : MessageReading) → list_any is_wrong front.lines ≡ false →
+    Tallies m →
     Tallies (with_front front m)
 unfolding with_front
 front_tallies front (ReadTo said at stage) h k = search (arith, any_append)
 
-module _ (section : Section) (is : Calling) (next : Noted → ℕ → List ℕ → Message)
+module _ (section : Section) (is : Calling) (next : Noted → ℕ → List ℕ → MessageReading)
     (tallies : (k : Noted) (at : ℕ) (s : List ℕ) → Tallies (next k at s)) where
   abbrev R : Root
   R = root_of section
@@ -72,7 +73,7 @@ rest_tallies (suc full) offset at s = search (
 )
 
 -- each message of a reader has the line of a fault exactly if it is over
-abbrev AllTally : (ℕ → List ℕ → Message) → Type 0
+abbrev AllTally : (ℕ → List ℕ → MessageReading) → Type 0
 AllTally reader = (at : ℕ) (s : List ℕ) → Tallies (reader at s)
 
 all_rest : AllTally rest
@@ -97,7 +98,8 @@ module _ (S : Signatures) (header : List ℕ) where
   message_tallies = message_has S header AllTally all_rest
       (λ section T past. reads_tally section T) padded_tallies (reads_tally sections.Header)
 
-over_of : (m : Message) → Tallies m → is_over (stage_of m) ≡ list_any is_wrong (message_lines m)
+over_of : (m : MessageReading) → Tallies m → is_over (stage_of m) ≡ list_any is_wrong
+    (message_lines m)
 unfolding stage_of message_lines
 over_of (ReadTo said at stage) h = h
 

@@ -10,7 +10,7 @@ use Rattle.giop_sig.specs.Types.{Octets, Plain, Text}
 use Rattle.giop_sig.specs.Table.{Table, seen}
 use Rattle.giop_decode.specs.declared.decoder.Decoder.{Decoder}
 use Rattle.giop_decode.specs.declared.leaf.Leaf.{Leaf as Innermost}
-use Rattle.giop_decode.specs.ReadResult.{PathSegment, Value, Number, Piece, Line, Read, Done, lines_of}
+use Rattle.giop_decode.specs.ReadResult.{PathSegment, Value, Number, Piece, ValueAt, Read, Done, lines_of}
 use Rattle.giop_decode.specs.Reading.{reading}
 use Rattle.giop_decode.specs.Noted.{is_key_path, Noted, nothing_noted, first_of, note, noted, noted_of, without_name_if, ends_in_string, is_header_root}
 use Rattle.giop_decode.specs.DecoderState as decoders
@@ -20,7 +20,7 @@ use Rattle.giop_message.specs.declared.part.Section.{Section}
 use Rattle.giop_message.specs.declared.part.Section.TheVariants as sections
 use Rattle.giop_message.specs.declared.part.Part.TheVariants as parts
 use Rattle.giop_message.specs.Signatures.{Signatures, Answers, signatures_of}
-use Rattle.giop_message.specs.Messages.{coding_of, Calling, ValueLine, LineAt, line_at, calls, section_lines, Message, ReadTo, section_then, message, message_lines, stage_of, root_of, calling, section_and_rest}
+use Rattle.giop_message.specs.Messages.{coding_of, Calling, ValueLine, LineAt, line_at, calls, section_lines, MessageReading, ReadTo, section_then, message, message_lines, stage_of, root_of, calling, section_and_rest}
 use Rattle.giop_message.specs.ReaderOfTable.{id_in, first_id, first_request_id, is_over}
 use Rattle.giop_message.specs.MessageState.{due, Decodes, Stands, is_header, in_header, Follows}
 use Rattle.giop_message.specs.MessageSteps.{IsAt}
@@ -31,12 +31,12 @@ use Rattle.giop_decode.proofs.NotedKeys.{same_but_key}
 
 -- ---- a message that follows isn't over
 
-none_over : (n : ℕ) (m : Message) → Silent n m → Tallies m → is_over (stage_of m) ≡ false
+none_over : (n : ℕ) (m : MessageReading) → Silent n m → Tallies m → is_over (stage_of m) ≡ false
 unfolding stage_of
 none_over n (ReadTo said at stage) silent tallies = rw silent.0 at tallies
 
 module _ (S : Signatures) (header : List ℕ) (section : Section) (C : Table) (d : Decoder)
-    (lines : List Line) (at : ℕ) where
+    (lines : List ValueAt) (at : ℕ) where
   -- if the decoder of a section goes on, the section isn't over, and the message has the decoder's
   -- lines
   standing_over : (leaf : Option Innermost) →
@@ -123,7 +123,7 @@ wrongs_no_id (Done lines at s) = refl
 wrongs_no_id r = refl
 
 -- the request id of one more line, with its call
-line_id : (section : Section) (is : Calling) (h : Noted) (l : Line) (ls : List Line) →
+line_id : (section : Section) (is : Calling) (h : Noted) (l : ValueAt) (ls : List ValueAt) →
     first_request_id (section_lines (root_of section) is h (l ∷ ls))
     ≡ first_id (id_in (ValueLine (root_of section) l.path l.value))
     (first_request_id (section_lines (root_of section) is
@@ -145,7 +145,7 @@ others_none sections.Header e path v = absurd (false≢true (sym e))
 others_none section e path v = refl
 
 no_id : (section : Section) → is_header section ≡ false →
-    (is : Calling) (h : Noted) (lines : List Line) →
+    (is : Calling) (h : Noted) (lines : List ValueAt) →
     first_request_id (section_lines (root_of section) is h lines) ≡ None
 unfolding section_lines first_request_id first_id
 no_id section other is h [] = refl
@@ -177,7 +177,7 @@ note_id h at path (Piece (Octets bound) offset octets more) =
     ∙ sym (first_none h.request_id)
 note_id h at path v = sym (first_none h.request_id)
 
-lines_noted : (is : Calling) (h : Noted) (lines : List Line) → (noted true h lines).request_id
+lines_noted : (is : Calling) (h : Noted) (lines : List ValueAt) → (noted true h lines).request_id
     ≡ first_id h.request_id (first_request_id (section_lines roots.Header is h lines))
 unfolding section_lines first_request_id
 lines_noted is h [] = sym (first_none h.request_id)

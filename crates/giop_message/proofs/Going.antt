@@ -8,7 +8,7 @@ use Rattle.giop_cdr.specs.Alignment.{padding}
 use Rattle.giop_print.specs.declared.path.Root.{Root}
 use Rattle.giop_sig.specs.Types.{Ty}
 use Rattle.giop_decode.specs.ReadResult
-use Rattle.giop_decode.specs.ReadResult.{Line, Read, Done, Short, Fault}
+use Rattle.giop_decode.specs.ReadResult.{ValueAt, Read, Done, Short, Fault}
 use Rattle.giop_decode.specs.Reading.{reading}
 use Rattle.giop_decode.specs.ReadingSteps as decoder
 use Rattle.giop_decode.specs.Noted.{Noted, nothing_noted, note, noted, is_header_root}
@@ -17,16 +17,16 @@ use Rattle.giop_message.specs.declared.part.Section.{Section}
 use Rattle.giop_message.specs.declared.part.Section.TheVariants as sections
 use Rattle.giop_message.specs.Headers.{minor, kind}
 use Rattle.giop_message.specs.Signatures.{Signatures}
-use Rattle.giop_message.specs.Messages.{coding_of, Calling, Said, only_lines, nothing_said, said_both, ValueLine, RestLine, line_at, calls, section_lines, BodyType, Untyped, Typed, UserException, SystemException, Stage, In_padding, In_rest, Over, Message, ReadTo, with_front, section_then, rest_in, rest, typed, option_typed, after_exception, body, body_of, is_aligned, padded, after_header, of_header, message, root_of, calling, after, section_and_rest}
+use Rattle.giop_message.specs.Messages.{coding_of, Calling, Said, only_lines, nothing_said, said_both, ValueLine, RestLine, line_at, calls, section_lines, BodyType, Untyped, Typed, UserException, SystemException, Stage, In_padding, In_rest, Over, MessageReading, ReadTo, with_front, section_then, rest_in, rest, typed, option_typed, after_exception, body, body_of, is_aligned, padded, after_header, of_header, message, root_of, calling, after, section_and_rest}
 use Rattle.giop_message.specs.MessageState.{is_header}
 use Rattle.giop_message.specs.StageSteps.{rest_step, message_step, advance, goes_on}
 
 -- a reader for which one more octet is one step
-abbrev pub Goes : Signatures → List ℕ → (ℕ → List ℕ → Message) → Type 0
+abbrev pub Goes : Signatures → List ℕ → (ℕ → List ℕ → MessageReading) → Type 0
 Goes S header reader = (at : ℕ) (s : List ℕ) (b : ℕ) →
     reader at (s ++ b ∷ []) ≡ advance S header (reader at s) b
 
-pub front_twice : (front mid : Said) (m : Message) →
+pub front_twice : (front mid : Said) (m : MessageReading) →
     with_front front (with_front mid m) ≡ with_front (said_both front mid) m
 unfolding with_front
 front_twice front mid (ReadTo said at stage) = rw (
@@ -34,7 +34,7 @@ front_twice front mid (ReadTo said at stage) = rw (
   append_assoc front.marks mid.marks said.marks,
 ) refl
 
-pub front_none : (m : Message) → with_front nothing_said m ≡ m
+pub front_none : (m : MessageReading) → with_front nothing_said m ≡ m
 unfolding with_front
 front_none (ReadTo said at stage) = refl
 
@@ -43,7 +43,7 @@ pub none_front : (front : Said) (at : ℕ) (stage : Stage) →
 unfolding with_front
 none_front front at stage = rw (append-nil front.lines, append-nil front.marks) refl
 
-pub front_advance : (S : Signatures) (header : List ℕ) (front : Said) (m : Message) (b : ℕ) →
+pub front_advance : (S : Signatures) (header : List ℕ) (front : Said) (m : MessageReading) (b : ℕ) →
     with_front front (advance S header m b) ≡ advance S header (with_front front m) b
 unfolding with_front advance
 front_advance S header front (ReadTo said at stage) b = search (arith, front_twice)
@@ -55,7 +55,7 @@ stays S header said at b = search (arith, none_front)
 
 -- ---- lines in two parts
 
-pub section_lines_append : (root : Root) (is : Calling) (h : Noted) (xs ys : List Line) →
+pub section_lines_append : (root : Root) (is : Calling) (h : Noted) (xs ys : List ValueAt) →
     section_lines root is h (xs ++ ys) ≡ section_lines root is h xs
     ++ section_lines root is (noted (is_header_root root) h xs) ys
 unfolding section_lines
@@ -67,11 +67,11 @@ section_lines_append root is h (x ∷ xs) ys =
     ∙ sym (append_assoc first (section_lines root is now xs)
     (section_lines root is (noted (is_header_root root) now xs) ys))
 
-module _ (section : Section) (is : Calling) (next : Noted → ℕ → List ℕ → Message) where
+module _ (section : Section) (is : Calling) (next : Noted → ℕ → List ℕ → MessageReading) where
   abbrev R : Root
   R = root_of section
 
-  pub passes_front : (h : Noted) (front : List Line) (r : Read) →
+  pub passes_front : (h : Noted) (front : List ValueAt) (r : Read) →
       section_then section is next h (ReadResult.with_front front r)
       ≡ with_front (only_lines (section_lines R is h front))
       (section_then section is next (noted (is_header_root R) h front) r)
@@ -201,7 +201,8 @@ padded_goes S header t goes at s b = go (cases_lt (length s) (padding at 8))
 
 -- P holds of each part after a header and of what follows it, if P holds of the rest; of a section,
 -- if it holds of what follows the section; and of a body after padding, if it holds of the body.
-module _ (S : Signatures) (header : List ℕ) (P : (ℕ → List ℕ → Message) → Type 0) (rests : P rest)
+module _ (S : Signatures) (header : List ℕ) (P : (ℕ → List ℕ → MessageReading) →
+    Type 0) (rests : P rest)
     (reads : (section : Section) (T : Ty) → is_header section ≡ false →
     ((h : Noted) → P (after S header section h)) →
     P (λ at s. section_and_rest S header section nothing_noted

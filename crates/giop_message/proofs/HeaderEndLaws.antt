@@ -14,7 +14,7 @@ use Rattle.giop_message.specs.Phases.{Phase}
 use Rattle.giop_message.specs.declared.part.Section.TheVariants as sections
 use Rattle.giop_message.specs.Headers.{kind}
 use Rattle.giop_message.specs.Signatures.{Signatures, Answer, Answers, signatures_of}
-use Rattle.giop_message.specs.Messages.{coding_of, Mark, Message, HeaderMark, NameMark, section_then, is_request, rest, body, body_of, is_aligned, after_header, of_header, message, message_marks, stage_of, section_and_rest}
+use Rattle.giop_message.specs.Messages.{coding_of, Mark, MessageReading, HeaderMark, NameMark, section_then, is_request, rest, body, body_of, is_aligned, after_header, of_header, message, message_marks, stage_of, section_and_rest}
 use Rattle.giop_message.specs.StageSteps.{advance}
 use Rattle.giop_message.specs.ReaderOfTable.{is_over, remarks_by, closes_by}
 use Rattle.giop_message.specs.DueOctets.{StaysUndue}
@@ -134,7 +134,7 @@ one_octet phase number header s x = go one.0 one.1 one.2
     S : Signatures
     S = signatures_of builtin_table (λ id. None) phase
 
-    now : Message
+    now : MessageReading
     now = message S header s
 
     one : (ms : List Mark) × (message_marks (advance S header now x) ≡ message_marks now ++ ms)

@@ -8,7 +8,7 @@ use Rattle.std.specs.Option.{option_map}
 use Rattle.std.specs.Str.{bytes_eq}
 use Rattle.std.proofs.lemmas.Bool.{false≢true, cases_lt}
 use Rattle.giop_sig.specs.Types.{Ty, Struct, Hearing, Told, Sequel, Then, Ends, Stops, part_of, sequel}
-use Rattle.giop_decode.specs.declared.progress.Kind.TheVariants as kinds
+use Rattle.giop_decode.specs.declared.progress.ValueFault.TheVariants as kinds
 use Rattle.giop_sig.specs.Fits.{IsFit}
 use Rattle.giop_sig.specs.Trees.{tree, tree_at}
 use Rattle.giop_sig.specs.Builtin.{builtin_types}
@@ -16,7 +16,7 @@ use Rattle.giop_sig.specs.AnyTypes.{first_table}
 use Rattle.giop_sig.specs.HeaderTypes.{header_type, header_number}
 use Rattle.giop_sig.proofs.Builtins.{builtin_is, builtin_fit, builtin_len, header_built_in}
 use Rattle.giop_decode.specs.ReadResult
-use Rattle.giop_decode.specs.ReadResult.{Coding, PathSegment, Name, Switch, Held, Line, OpenPart, Part, Member, Inside, Leaf, LeadingNumber, Opening, Content, Read, Done, Short, Fault, lines_of, with_front, followed, within, Telling}
+use Rattle.giop_decode.specs.ReadResult.{Coding, PathSegment, Name, Switch, Held, ValueAt, OpenPart, Part, Member, Inside, Leaf, LeadingNumber, Opening, Content, Read, Done, Short, Fault, lines_of, with_front, followed, within, Telling}
 use Rattle.giop_decode.specs.Reading.{parts_from, following, led, told_after, none_left, rooted}
 use Rattle.giop_decode.specs.ReadingSteps.{IsOctetResult, part_at, path_in, segment_of, segment_in, step, resumed, IsEmptyResult, after_told, root_step, leaf_step}
 use Rattle.giop_sig.specs.Hearings.{hearing_in}
@@ -86,11 +86,12 @@ both_false : (a b c : Bool) → b ≡ false → (a && (b && c)) ≡ false
 both_false true b c e = rw e refl
 both_false false b c e = refl
 
-no_end : (is : Bool) (path : List PathSegment) (l : Line) → IsOf path l →
+no_end : (is : Bool) (path : List PathSegment) (l : ValueAt) → IsOf path l →
     is_member (codes "operation") path ≡ false → ends_operation is l ≡ false
 no_end is path l of e = search (arith, both_false, switch_member)
 
-pub no_ends : (is : Bool) (path : List PathSegment) (lines : List Line) → Each (IsOf path) lines →
+pub no_ends : (is : Bool) (path : List PathSegment) (lines : List ValueAt) →
+    Each (IsOf path) lines →
     is_member (codes "operation") path ≡ false → Each (λ l. ends_operation is l ≡ false) lines
 no_ends is path [] each e = tt
 no_ends is path (l ∷ ls) each e = search (arith, no_end, no_ends is path ls each.1 e)
@@ -100,7 +101,7 @@ abbrev pub done_test : Read → Bool
 done_test (Done lines at rest) = true
 done_test r = false
 
-short_front : (front : List Line) (r : Read) (at : ℕ) (outer : List OpenPart) (leaf : Leaf) →
+short_front : (front : List ValueAt) (r : Read) (at : ℕ) (outer : List OpenPart) (leaf : Leaf) →
     with_front [] r ≡ Short [] at outer leaf → done_test (with_front front r) ≡ false
 short_front front (Done lines at rest) at' outer leaf e = search (arith, false≢true)
 short_front front r at' outer' leaf' e = refl
@@ -186,7 +187,7 @@ and_false true true c e = e
 and_false true false c e = refl
 and_false false b c e = refl
 
-ends_none : (is : Bool) (lines : List Line) → Each (λ l. ends_text l.value ≡ false) lines →
+ends_none : (is : Bool) (lines : List ValueAt) → Each (λ l. ends_text l.value ≡ false) lines →
     Each (λ l. ends_operation is l ≡ false) lines
 ends_none is [] h = tt
 ends_none is (l ∷ ls) h = search (arith, and_false, ends_none is ls h.1)

@@ -6,14 +6,14 @@ use Rattle.std.proofs.lemmas.Bool.{false≢true}
 use Rattle.std.specs.Prelude.{if◌then◌else◌}
 use Rattle.std.proofs.Math.Seq.{drop-append_seam}
 use Rattle.giop_print.specs.declared.path.Root.{Root}
-use Rattle.giop_decode.specs.ReadResult.{Line, Read, Done, Short, Fault as Faulted}
+use Rattle.giop_decode.specs.ReadResult.{ValueAt, Read, Done, Short, Fault as Faulted}
 use Rattle.giop_decode.specs.ReadingSteps as decoder
 use Rattle.giop_decode.specs.ReadingSteps.{IsOctetResult, root_step}
 use Rattle.giop_decode.specs.Noted.{Noted, note, noted, is_header_root}
 use Rattle.giop_decode.proofs.ReadingLaws.{root_now}
 use Rattle.giop_message.specs.declared.part.Section.{Section}
 use Rattle.giop_message.specs.MessageState.{due}
-use Rattle.giop_message.specs.Messages.{coding_of, Calling, Said, only_lines, nothing_said, RestLine, LineAt, line_at, calls, section_lines, Stage, In_typed, In_padding, In_rest, Over, Message, ReadTo, with_front, section_then, message, message_lines, stage_of, root_of, calling, after}
+use Rattle.giop_message.specs.Messages.{coding_of, Calling, Said, only_lines, nothing_said, RestLine, LineAt, line_at, calls, section_lines, Stage, In_typed, In_padding, In_rest, Over, MessageReading, ReadTo, with_front, section_then, message, message_lines, stage_of, root_of, calling, after}
 use Rattle.giop_message.specs.ReaderOfTable.{line_class_of, timed_line_of, due_by}
 use Rattle.giop_message.specs.MessageReader.{LineClass, Rest, is_fault}
 use Rattle.giop_message.specs.Signatures.{Signatures}
@@ -31,14 +31,14 @@ abbrev pub Leaves : List LineClass → Stage → Type 0
 Leaves line_classes stage = (line_classes ≡ Rest ∷ [] → (offset : ℕ) × (stage ≡ In_rest offset []))
     × (list_any is_fault line_classes ≡ true → stage ≡ Over)
 
-abbrev Settles : Message → Type 0
+abbrev Settles : MessageReading → Type 0
 Settles (ReadTo said at stage) = Leaves (LineClasses said.lines) stage
 
-silent_settles : (n : ℕ) (m : Message) → Silent n m → Settles m
+silent_settles : (n : ℕ) (m : MessageReading) → Silent n m → Settles m
 silent_settles n (ReadTo said at stage) h = search (arith, false≢true)
 
 -- the lines of a typed part are no faults
-section_lines_faultless : (root : Root) (is : Calling) (h : Noted) (lines : List Line) →
+section_lines_faultless : (root : Root) (is : Calling) (h : Noted) (lines : List ValueAt) →
     list_any is_fault (LineClasses (section_lines root is h lines)) ≡ false
 unfolding section_lines line_at line_class_of
 section_lines_faultless root is h [] = refl
@@ -54,7 +54,8 @@ section_lines_faultless root is h (l ∷ ls) =
     behind called emitted (inr f) h = rw f.3 h
 
 -- the lines of a typed part begin with a value
-section_lines_leave : (root : Root) (is : Calling) (h : Noted) (lines : List Line) (stage : Stage) →
+section_lines_leave : (root : Root) (is : Calling) (h : Noted) (lines : List ValueAt) (stage :
+    Stage) →
     Leaves (LineClasses (section_lines root is h lines)) stage
 unfolding section_lines line_at line_class_of
 section_lines_leave root is h [] stage = search (arith, false≢true)
@@ -64,13 +65,13 @@ section_lines_leave root is h (l ∷ ls) stage = (
       (sym (section_lines_faultless root is h (l ∷ ls)) ∙ e)),
 )
 
-front_settles : (n : ℕ) (front : Said) (m : Message) →
+front_settles : (n : ℕ) (front : Said) (m : MessageReading) →
     ((stage : Stage) → Leaves (LineClasses front.lines) stage) → Silent n m →
     Settles (with_front front m)
 unfolding with_front
 front_settles n front (ReadTo said at stage) h k = rw (k.0, append-nil front.lines) (h stage)
 
-module _ (section : Section) (is : Calling) (next : Noted → ℕ → List ℕ → Message) (n : ℕ)
+module _ (section : Section) (is : Calling) (next : Noted → ℕ → List ℕ → MessageReading) (n : ℕ)
     (silent : (k : Noted) → Silent n (next k n [])) where
   abbrev R : Root
   R = root_of section
@@ -107,7 +108,7 @@ step_settles S header at (In_rest offset held) b = search (arith, rest_settles)
 step_settles S header at Over b = search (arith, false≢true)
 
 -- the lines of an octet, and the stage of the message after it
-advance_settles : (S : Signatures) (header : List ℕ) (m : Message) (b : ℕ) →
+advance_settles : (S : Signatures) (header : List ℕ) (m : MessageReading) (b : ℕ) →
     Leaves (LineClasses (drop (length (message_lines m)) (message_lines (advance S header m b))))
     (stage_of (advance S header m b))
 unfolding advance with_front message_lines stage_of

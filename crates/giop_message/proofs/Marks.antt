@@ -21,7 +21,7 @@ use Rattle.giop_message.specs.declared.part.Section.{Section}
 use Rattle.giop_message.specs.declared.part.Section.TheVariants as sections
 use Rattle.giop_message.specs.Headers.{minor, kind, order}
 use Rattle.giop_message.specs.Signatures.{Signatures, Answer, signatures_of}
-use Rattle.giop_message.specs.Messages.{coding_of, no_calls, Mark, HeaderMark, NameMark, RestLine, line_at, Said, only_lines, nothing_said, BodyType, Untyped, Typed, UserException, SystemException, Stage, In_typed, In_padding, In_rest, Over, Message, ReadTo, with_front, name_mark, end_mark, section_then, rest_in, rest, typed, option_typed, after_exception, type_if, request_body, result_body, reply_body, locate_body, body, body_of, padded, after_header, of_header, message, message_marks, stage_of, root_of, after, section_and_rest}
+use Rattle.giop_message.specs.Messages.{coding_of, no_calls, Mark, HeaderMark, NameMark, RestLine, line_at, Said, only_lines, nothing_said, BodyType, Untyped, Typed, UserException, SystemException, Stage, In_typed, In_padding, In_rest, Over, MessageReading, ReadTo, with_front, name_mark, end_mark, section_then, rest_in, rest, typed, option_typed, after_exception, type_if, request_body, result_body, reply_body, locate_body, body, body_of, padded, after_header, of_header, message, message_marks, stage_of, root_of, after, section_and_rest}
 use Rattle.giop_message.specs.StageSteps.{rest_step, message_step, advance, goes_on}
 use Rattle.giop_message.specs.HeaderEnds.{marks, end_of, header_ends}
 use Rattle.giop_message.specs.MessageState.{is_header}
@@ -31,7 +31,7 @@ use Rattle.giop_message.proofs.Going.{message_resumes, after_has, body_has}
 use Rattle.giop_message.proofs.Octets.{stage_front}
 use Rattle.giop_message.proofs.Parts.{ReadsAll, now_all}
 
-pub marks_front : (front : Said) (m : Message) →
+pub marks_front : (front : Said) (m : MessageReading) →
     message_marks (with_front front m) ≡ front.marks ++ message_marks m
 unfolding message_marks with_front
 marks_front front (ReadTo said at stage) = refl
@@ -55,7 +55,7 @@ ended section h (Done lines at s) =
 ended section h (Short lines at outer leaf) = []
 ended section h (Fault lines at why T) = []
 
-section_marks : (section : Section) (next : Noted → ℕ → List ℕ → Message) →
+section_marks : (section : Section) (next : Noted → ℕ → List ℕ → MessageReading) →
     ((h : Noted) (at : ℕ) (s : List ℕ) → message_marks (next h at s) ≡ []) → (r : Read) →
     message_marks (section_then section no_calls next nothing_noted r)
     ≡ ended section nothing_noted r
@@ -254,7 +254,7 @@ ends_alike C answer phase number header s more =
 -- ---- more octets
 
 -- More octets add marks after those that were there.
-goes_marks : (S : Signatures) (header t : List ℕ) (m : Message) →
+goes_marks : (S : Signatures) (header t : List ℕ) (m : MessageReading) →
     (later : List Mark) × (message_marks (goes_on S header m t) ≡ message_marks m ++ later)
 unfolding advance message_marks
 goes_marks S header [] m = ([], sym (append-nil (message_marks m)))
@@ -306,7 +306,7 @@ heads (In_rest offset held) = false
 heads Over = false
 
 -- A part after the header has no mark before its first octet, and it is in no header.
-record IsPast (reader : ℕ → List ℕ → Message) : Type 0 where
+record IsPast (reader : ℕ → List ℕ → MessageReading) : Type 0 where
   quiet : (n : ℕ) → message_marks (reader n []) ≡ []
   past : (at : ℕ) (s : List ℕ) → heads (stage_of (reader at s)) ≡ false
 
@@ -459,7 +459,7 @@ module _ (S : Signatures) (header : List ℕ) where
   step_one at Over b = inl refl
 
   -- the marks that one octet adds
-  pub marks_of_octet : (m : Message) (b : ℕ) → (ms : List Mark)
+  pub marks_of_octet : (m : MessageReading) (b : ℕ) → (ms : List Mark)
       × (message_marks (advance S header m b) ≡ message_marks m ++ ms) × OneMark (stage_of m) ms
   unfolding advance message_marks stage_of
   marks_of_octet (ReadTo said at stage) b =

@@ -13,7 +13,7 @@ use Rattle.giop_sig.specs.Table.{Table}
 use Rattle.giop_sig.specs.HeaderTypes.{BeginsWithId, IdStandsFirst, header_type}
 use Rattle.giop_sig.proofs.HeaderLaws.{id_first}
 use Rattle.giop_decode.specs.ReadResult as spine
-use Rattle.giop_decode.specs.ReadResult.{Coding, PathSegment, Name, Line, Number, line, Part, Read, Done, Short, followed, within, Fault}
+use Rattle.giop_decode.specs.ReadResult.{Coding, PathSegment, Name, ValueAt, Number, line, Part, Read, Done, Short, followed, within, Fault}
 use Rattle.giop_decode.specs.Pieces.{block, number}
 use Rattle.giop_decode.specs.Reading.{read, left_after, parts_from, reading, rooted}
 use Rattle.giop_decode.specs.ReadingSteps.{IsEmptyResult, part_at}
@@ -24,7 +24,7 @@ use Rattle.giop_message.specs.declared.part.Section.TheVariants as sections
 use Rattle.giop_message.specs.Headers.{minor, kind, order, is_opener, is_fragment, is_cancel, has_name}
 use Rattle.giop_message.specs.MessageReader.{Value, IsEnding, HasOnlyValuesInId}
 use Rattle.giop_message.specs.Signatures.{Signatures, Answer, signatures_of}
-use Rattle.giop_message.specs.Messages.{coding_of, calling_of, Calling, ValueLine, LineAt, line_at, calls, section_lines, Message, section_then, rest_in, rest, after_header, of_header, message, message_lines, close}
+use Rattle.giop_message.specs.Messages.{coding_of, calling_of, Calling, ValueLine, LineAt, line_at, calls, section_lines, MessageReading, section_then, rest_in, rest, after_header, of_header, message, message_lines, close}
 use Rattle.giop_message.specs.ReaderOfTable.{line_class_of, timed_line_of, remarks_by, closes_by, reader_by, HasIds, id_in, first_id, first_request_id}
 use Rattle.giop_message.proofs.Going.{passes_front}
 use Rattle.giop_message.proofs.Octets.{told_front, told_silent}
@@ -78,14 +78,14 @@ module _ (coding : Coding) (even : coding.phase 12 % 4 ≡ 0) (n : ℕ) (of : �
   unfolding next in_first
   first_part xs = search (arith, next, in_first)
 
-  id_line : List ℕ → Line
+  id_line : List ℕ → ValueAt
   id_line xs = line 16 (Name (of 0) ∷ []) (Number (Plain prims.ULong) (num coding.order xs))
 
   next_quiet : IsEmptyResult 16 (next 16 [])
   unfolding next
   next_quiet = search (arith, quiet_parts, part_quiet)
 
-  rooted_quiet : (left : ℕ → List ℕ) (front : List Line) (q : Read) → IsEmptyResult 16 q →
+  rooted_quiet : (left : ℕ → List ℕ) (front : List ValueAt) (q : Read) → IsEmptyResult 16 q →
       rooted left (spine.with_front front q) ≡ spine.with_front front q
   rooted_quiet left front (Done lines at rest) h = refl
   rooted_quiet left front (Short lines at outer leaf) h = refl
@@ -97,7 +97,7 @@ module _ (coding : Coding) (even : coding.phase 12 % 4 ≡ 0) (n : ℕ) (of : �
   unfolding id_line in_first
   first_four a b c d = search (arith, first_part, in_first, read_four, rooted_quiet, next_quiet)
 
-  module _ (is_req : Calling) (onward : Noted → ℕ → List ℕ → Message)
+  module _ (is_req : Calling) (onward : Noted → ℕ → List ℕ → MessageReading)
       (silent : (h : Noted) → Silent 16 (onward h 16 [])) where
     told_few : (xs : List ℕ) → length xs < 4 →
         message_lines (section_then sections.Header is_req onward nothing_noted

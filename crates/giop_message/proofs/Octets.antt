@@ -4,12 +4,12 @@ use Rattle.std.specs.List.{AllByRecursion as Each}
 use Rattle.std.proofs.Math.Seq.{drop-append_seam}
 use Rattle.std.proofs.lemmas.List.Concat.{flat_map-append}
 use Rattle.giop_print.specs.declared.path.Root.{Root}
-use Rattle.giop_decode.specs.ReadResult.{Line, Read, Done, Short, Fault, lines_of}
+use Rattle.giop_decode.specs.ReadResult.{ValueAt, Read, Done, Short, Fault, lines_of}
 use Rattle.giop_decode.specs.ReadingSteps.{IsOctetResult, OneAt}
 use Rattle.giop_decode.specs.Noted.{Noted, note, ends_operation, is_header_root}
 use Rattle.giop_decode.specs.Spelling.{line_text, lines_text}
 use Rattle.giop_message.specs.Signatures.{Signatures}
-use Rattle.giop_message.specs.Messages.{Calling, Said, ValueLine, FaultLine, LineAt, line_at, calls, section_lines, Message, ReadTo, with_front, message, message_lines, stage_of}
+use Rattle.giop_message.specs.Messages.{Calling, Said, ValueLine, FaultLine, LineAt, line_at, calls, section_lines, MessageReading, ReadTo, with_front, message, message_lines, stage_of}
 use Rattle.giop_message.specs.ReaderOfTable.{line_class_of, text_of}
 use Rattle.giop_message.specs.MessageState.{message_line_text, message_lines_text, due}
 use Rattle.giop_message.specs.MessageSteps.{fault_text}
@@ -18,21 +18,21 @@ use Rattle.giop_message.proofs.LastParts.{CallsNone}
 use Rattle.giop_message.proofs.StepLines.{one_of}
 use Rattle.giop_message.proofs.Spelling.{said_is_line}
 
-pub told_front : (front : Said) (m : Message) →
+pub told_front : (front : Said) (m : MessageReading) →
     message_lines (with_front front m) ≡ front.lines ++ message_lines m
 unfolding message_lines with_front
 told_front front (ReadTo said at stage) = refl
 
-pub stage_front : (front : Said) (m : Message) → stage_of (with_front front m) ≡ stage_of m
+pub stage_front : (front : Said) (m : MessageReading) → stage_of (with_front front m) ≡ stage_of m
 unfolding stage_of with_front
 stage_front front (ReadTo said at stage) = refl
 
-pub told_silent : (n : ℕ) (m : Message) → Silent n m → message_lines m ≡ []
+pub told_silent : (n : ℕ) (m : MessageReading) → Silent n m → message_lines m ≡ []
 unfolding message_lines
 told_silent n (ReadTo said at stage) h = h.0
 
 -- the lines of more octets are those after the lines so far
-pub due_is : (S : Signatures) (header s more : List ℕ) (before : Said) (m n : Message) →
+pub due_is : (S : Signatures) (header s more : List ℕ) (before : Said) (m n : MessageReading) →
     message S header s ≡ m →
     message S header (s ++ more) ≡ with_front before n → message_lines m ≡ before.lines →
     due S header s more ≡ message_lines n
@@ -53,18 +53,18 @@ unfolding message_lines_text
 text_both number place offset xs ys = search (arith, flat_map-append)
 
 -- the call line of the first of these lines
-abbrev pub first_call : Root → Calling → Noted → List Line → List LineAt
+abbrev pub first_call : Root → Calling → Noted → List ValueAt → List LineAt
 first_call root is h [] = []
 first_call root is h (l ∷ ls) = calls is l (note (is_header_root root) h l)
 
-numbered_lines : (number place offset at : ℕ) (root : Root) (l : Line) →
+numbered_lines : (number place offset at : ℕ) (root : Root) (l : ValueAt) →
     message_lines_text number place offset (line_at at (ValueLine root l.path l.value) ∷ [])
     ≡ line_text number root l
 unfolding message_lines_text message_line_text line_class_of line_at
 numbered_lines number place offset at root l = search (arith, append-nil, said_is_line)
 
 section_lines_text : (number place offset n : ℕ) (root : Root) (is : Calling) (h : Noted)
-    (lines : List Line) →
+    (lines : List ValueAt) →
     OneAt n lines → message_lines_text number place offset (section_lines root is h lines)
     ≡ lines_text number root lines ++ message_lines_text number place offset
     (first_call root is h lines)
@@ -87,7 +87,7 @@ wrongs_text number place n (Fault lines at why T) now = search (arith, append-ni
 wrongs_text number place n _ now = refl
 
 -- if no line ends an operation, there is no call
-pub no_first : (root : Root) (is : Calling) (h : Noted) (lines : List Line) →
+pub no_first : (root : Root) (is : Calling) (h : Noted) (lines : List ValueAt) →
     Each (λ l. ends_operation is.is_request l ≡ false) lines → first_call root is h lines ≡ []
 unfolding calls
 no_first root is h [] each = refl

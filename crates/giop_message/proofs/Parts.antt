@@ -5,7 +5,7 @@ use Rattle.std.proofs.Math.Seq.{drop-append_seam}
 use Rattle.giop_print.specs.declared.path.Root.{Root}
 use Rattle.giop_decode.specs.declared.progress.Progress.TheVariants as progress
 use Rattle.giop_decode.specs.ReadResult
-use Rattle.giop_decode.specs.ReadResult.{Coding, Line, OpenPart, Leaf, Read, Done, Short, Fault, lines_of}
+use Rattle.giop_decode.specs.ReadResult.{Coding, ValueAt, OpenPart, Leaf, Read, Done, Short, Fault, lines_of}
 use Rattle.giop_decode.specs.Reading.{reading as whole_of}
 use Rattle.giop_decode.specs.ReadingSteps as decoder
 use Rattle.giop_decode.specs.ReadingSteps.{IsOctetResult}
@@ -17,7 +17,7 @@ use Rattle.giop_decode.proofs.ReadingLaws.{length_one_more, lines_front, reading
 use Rattle.giop_sig.specs.Types.{Ty}
 use Rattle.giop_message.specs.declared.part.Section.{Section}
 use Rattle.giop_message.specs.Signatures.{Signatures}
-use Rattle.giop_message.specs.Messages.{coding_of, Calling, Said, section_lines, Message, with_front, section_then, message, message_lines, root_of, calling, section_and_rest}
+use Rattle.giop_message.specs.Messages.{coding_of, Calling, Said, section_lines, MessageReading, with_front, section_then, message, message_lines, root_of, calling, section_and_rest}
 use Rattle.giop_message.specs.MessageState.{message_lines_text, due, due_text, IsFirst}
 use Rattle.giop_message.specs.MessageSteps.{fault_text}
 use Rattle.giop_message.proofs.Going.{front_twice, front_advance, passes_front, through_goes, after_goes, message_goes}
@@ -54,7 +54,7 @@ module _ (w : Begun) where
       (decoders.added_lines (coding_of S header) T start octets b)
 
   -- the message, from this reading of the section
-  abbrev pub comes : Read → Message
+  abbrev pub comes : Read → MessageReading
   comes r = with_front before (section_and_rest S header section nothing_noted r)
 
   -- A message that is in the section after these octets of it: what the reading of the octets has
@@ -63,7 +63,7 @@ module _ (w : Begun) where
     pub since : s ≡ front ++ octets
     pub is : message S header s ≡ comes (reading octets)
     pub first : IsFirst version header section T before front
-    pub lines : List Line
+    pub lines : List ValueAt
     pub outer : List OpenPart
     pub leaf : Leaf
     pub was_short : reading octets ≡ Short lines (start + length octets) outer leaf
@@ -96,14 +96,14 @@ passed_section_lines S header section h (Short lines at outer leaf) all = search
 passed_section_lines S header section h (Fault lines at why T) all = refl
 
 short_told : (S : Signatures) (header : List ℕ) (section : Section) (before : Said)
-    (lines : List Line) (at : ℕ) (outer : List OpenPart) (leaf : Leaf) →
+    (lines : List ValueAt) (at : ℕ) (outer : List OpenPart) (leaf : Leaf) →
     message_lines (with_front before (section_and_rest S header section nothing_noted
     (Short lines at outer leaf)))
     ≡ before.lines ++ section_lines (root_of section) (calling S header section) nothing_noted lines
 unfolding section_then with_front message_lines
 short_told S header section before lines at outer leaf = refl
 
-fault_front : (number place : ℕ) (front : List Line) (r : Read) →
+fault_front : (number place : ℕ) (front : List ValueAt) (r : Read) →
     fault_text number place (ReadResult.with_front front r) ≡ fault_text number place r
 fault_front number place front (Done lines at rest) = refl
 fault_front number place front r = refl
@@ -113,17 +113,17 @@ abbrev pub EndsAt : ℕ → Read → Type 0
 EndsAt n (Done lines at rest) = at ≡ n
 EndsAt n r = Unit {0}
 
-offset_is : (n : ℕ) (r st : Read) (lines : List Line) → r ≡ ReadResult.with_front lines st →
+offset_is : (n : ℕ) (r st : Read) (lines : List ValueAt) → r ≡ ReadResult.with_front lines st →
     IsOctetResult n st →
     EndsAt n r
 offset_is n r (Done ls at rest) lines e now = search (arith)
 offset_is n r q lines e now = subst (EndsAt n) (sym e) tt
 
 -- what a reading that goes on has begun and not ended at this offset
-short_by : (n end : ℕ) (named : Bool) (r st : Read) (lines : List Line) →
+short_by : (n end : ℕ) (named : Bool) (r st : Read) (lines : List ValueAt) →
     r ≡ ReadResult.with_front lines st → IsOctetResult n st →
     decoders.IsAnswer end named progress.More r →
-    (ls : List Line) × (outer : List OpenPart) × (leaf : Leaf) × (r ≡ Short ls n outer leaf)
+    (ls : List ValueAt) × (outer : List OpenPart) × (leaf : Leaf) × (r ≡ Short ls n outer leaf)
 short_by n end named r (Short ls at outer leaf) lines e now answer = search (arith)
 short_by n end named r _ lines e now answer = search (arith)
 

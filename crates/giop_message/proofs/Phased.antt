@@ -7,7 +7,7 @@ use Rattle.giop_sig.specs.Types.{Ty}
 use Rattle.giop_sig.specs.Table.{Table}
 use Rattle.giop_sig.specs.Builtin.{builtin_table}
 use Rattle.giop_decode.specs.ReadResult as readings
-use Rattle.giop_decode.specs.ReadResult.{Coding, Line, Read, Done, Short, Fault}
+use Rattle.giop_decode.specs.ReadResult.{Coding, ValueAt, Read, Done, Short, Fault}
 use Rattle.giop_decode.specs.Reading.{reading}
 use Rattle.giop_decode.specs.ReadingSteps.{IsEmptyResult, IsOctetResult, root_advance, root_step}
 use Rattle.giop_decode.specs.Noted.{Noted, nothing_noted}
@@ -18,7 +18,7 @@ use Rattle.giop_message.specs.Headers.{minor, kind}
 use Rattle.giop_message.specs.Phases.{Phase, AgreeBefore}
 use Rattle.giop_message.specs.MessageReader.{IsPhased}
 use Rattle.giop_message.specs.Signatures.{Signatures, Answer, Answers, signatures_of}
-use Rattle.giop_message.specs.Messages.{coding_of, no_calls, calling, Calling, BodyType, Untyped, Typed, UserException, SystemException, Message, with_front, section_then, request_body, result_body, reply_body, locate_body, rest, typed, option_typed, members_of, after_exception, body, body_of, padded, is_aligned, after_header, of_header, message, after, section_and_rest}
+use Rattle.giop_message.specs.Messages.{coding_of, no_calls, calling, Calling, BodyType, Untyped, Typed, UserException, SystemException, MessageReading, with_front, section_then, request_body, result_body, reply_body, locate_body, rest, typed, option_typed, members_of, after_exception, body, body_of, padded, is_aligned, after_header, of_header, message, after, section_and_rest}
 use Rattle.giop_message.specs.HeaderEnds.{marks, header_ends}
 use Rattle.giop_message.specs.ReaderOfTable.{message_reader, remarks_by, closes_by}
 use Rattle.giop_message.proofs.Causal.{grown}
@@ -37,7 +37,7 @@ none_ends n (Done lines at rest) h = rw (h.1, h.2, add-zero) refl
 none_ends n (Short lines at outer leaf) h = h.1
 none_ends n (Fault lines at why T) h = tt
 
-now_ends : (n : ℕ) (front : List Line) (r : Read) → IsOctetResult n r →
+now_ends : (n : ℕ) (front : List ValueAt) (r : Read) → IsOctetResult n r →
     Ends n (readings.with_front front r)
 now_ends n front (Done lines at rest) h = rw (h.1, h.2, add-zero) refl
 now_ends n front (Short lines at outer leaf) h = h.1
@@ -71,7 +71,7 @@ module _ (S : Signatures) (other : Phase) (header : List ℕ) where
 
   module _ (end : ℕ) (agree : AgreeBefore end S.phase other) where
     -- octets that end there are read so by both phases
-    abbrev Alike : (ℕ → List ℕ → Message) → (ℕ → List ℕ → Message) → Type 0
+    abbrev Alike : (ℕ → List ℕ → MessageReading) → (ℕ → List ℕ → MessageReading) → Type 0
     Alike f g = (at : ℕ) (s : List ℕ) → at + length s ≡ end → f at s ≡ g at s
 
     same_reading : (T : Ty) (at : ℕ) (s : List ℕ) → at + length s ≡ end →
@@ -79,7 +79,8 @@ module _ (S : Signatures) (other : Phase) (header : List ℕ) where
     same_reading T at s e = reading_phased (coding_of S header) (coding_of Other header) [] T at s
         refl (rw e agree)
 
-    section_same : (section : Section) (is : Calling) (next onward : Noted → ℕ → List ℕ → Message) →
+    section_same : (section : Section) (is : Calling) (next onward : Noted → ℕ → List ℕ →
+        MessageReading) →
         ((h : Noted) → Alike (next h) (onward h)) → (r : Read) → Ends end r →
         section_then section is next nothing_noted r
         ≡ section_then section is onward nothing_noted r
@@ -90,7 +91,7 @@ module _ (S : Signatures) (other : Phase) (header : List ℕ) where
     section_same section is next onward each (Fault lines at why T) e = refl
 
     section_alike : (section : Section) (is : Calling)
-        (next onward : Noted → ℕ → List ℕ → Message) →
+        (next onward : Noted → ℕ → List ℕ → MessageReading) →
         ((h : Noted) → Alike (next h) (onward h)) → (T : Ty) →
         Alike (λ at s. section_then section is next nothing_noted
         (reading (coding_of S header) [] T at s))

@@ -13,7 +13,7 @@ use Rattle.giop_message.specs.declared.part.Part.TheVariants as parts
 use Rattle.giop_message.specs.declared.part.Rest.{Rest}
 use Rattle.giop_message.specs.declared.body_type.BodyTypeId.{BodyTypeId}
 use Rattle.giop_message.specs.Signatures.{Signatures, Answers, signatures_of}
-use Rattle.giop_message.specs.Messages.{LineAt, Said, only_lines, nothing_said, said_both, line_at, BodyType, Stage, In_padding, In_rest, Message, ReadTo, with_front, body, message, message_lines, stage_of}
+use Rattle.giop_message.specs.Messages.{LineAt, Said, only_lines, nothing_said, said_both, line_at, BodyType, Stage, In_padding, In_rest, MessageReading, ReadTo, with_front, body, message, message_lines, stage_of}
 use Rattle.giop_message.specs.StageSteps.{rest_step, message_step, advance, goes_on}
 use Rattle.giop_message.specs.ReaderOfTable.{line_class_of, text_of, id_in, first_id, first_request_id}
 use Rattle.giop_message.specs.MessageState.{message_line_text, message_lines_text, due, due_text, body_type, Stands, in_header, Follows}
@@ -32,7 +32,7 @@ unfolding advance
 comes_more S header s b said at stage e = search (arith, message_goes)
 
 pub comes_due : (S : Signatures) (header s : List ℕ) (b : ℕ) (said : Said) (at : ℕ)
-    (stage : Stage) (m : Message) → message S header s ≡ ReadTo said at stage →
+    (stage : Stage) (m : MessageReading) → message S header s ≡ ReadTo said at stage →
     message_step S header at stage b ≡ m → due S header s (b ∷ []) ≡ message_lines m
 unfolding message_lines
 comes_due S header s b said at stage m e f =
@@ -89,11 +89,11 @@ module _ {C : Table} {answers : Answers} {phase : Phase} {number : ℕ} {header 
     padded : (said : Said) × (message S header s ≡ ReadTo said Here (In_padding T))
     padded = search (arith)
 
-    one_due : (x : Message) → message_step S header Here (In_padding T) b ≡ x →
+    one_due : (x : MessageReading) → message_step S header Here (In_padding T) b ≡ x →
         due S header s (b ∷ []) ≡ message_lines x
     one_due x e = search (arith, comes_due, padded)
 
-    one_comes : (x : Message) → message_step S header Here (In_padding T) b ≡ x →
+    one_comes : (x : MessageReading) → message_step S header Here (In_padding T) b ≡ x →
         message S header further ≡ with_front padded.0 x
     one_comes x e = search (arith, comes_more, padded)
 
@@ -134,7 +134,7 @@ module _ {C : Table} {answers : Answers} {phase : Phase} {number : ℕ} {header 
 -- ---- in the rest
 
 -- a message after a step in the rest; none of its lines has a request id
-pub record Rested (m : Message) (at : ℕ) : Type 0 where
+pub record Rested (m : MessageReading) (at : ℕ) : Type 0 where
   pub comes : m ≡ ReadTo (only_lines (message_lines m)) at (stage_of m)
   pub no_id : first_request_id (message_lines m) ≡ None
 
@@ -177,10 +177,10 @@ module _ {C : Table} {answers : Answers} {phase : Phase} {number : ℕ} {header 
   abbrev At : ℕ
   At = 12 + length s
 
-  abbrev Step : Message
+  abbrev Step : MessageReading
   Step = rest_step r.offset (r.held.items ++ xs) (At + length xs)
 
-  abbrev Stood : Said → Message
+  abbrev Stood : Said → MessageReading
   Stood said = ReadTo said At (In_rest r.offset r.held.items)
 
   stood : (said : Said) × (message (signatures_of C (answers number) phase) header s ≡ Stood said)

@@ -5,7 +5,7 @@ use Rattle.std.specs.Fmt.{digits}
 use Rattle.giop_cdr.specs.Alignment.{padding}
 use Rattle.giop_cdr.specs.Numbers.{num, twos_complement}
 use Rattle.giop_print.specs.Text.{hex, hex_number, escaped}
-use Rattle.giop_sig.specs.Types.{places_of, Enum, Ty, Single, Struct, Union, Sequence, Array, Encapsulation, part_of, name_in}
+use Rattle.giop_sig.specs.Types.{case_count, Enum, Ty, Single, Struct, Union, Sequence, Array, Encapsulation, part_of, name_in}
 use Rattle.giop_sig.specs.HeaderTypes.{header_type}
 use Rattle.giop_decode.specs.Noted.{is_text}
 use Rattle.giop_sig.specs.Heard.{first_fronts}
@@ -347,7 +347,7 @@ has_type : (Ty → Bool) → Ty → Bool
 unfolding any_below
 has_type test (Struct count names parts) = any_below count (λ i. has_type test (parts i))
 has_type test (Union choice scalar select names cases) =
-    test (Single scalar) || any_below (places_of choice) (λ i. has_type test (cases i))
+    test (Single scalar) || any_below (case_count choice) (λ i. has_type test (cases i))
 has_type test (Encapsulation T) = has_type test T
 has_type test (Sequence bound T) = has_type test T
 has_type test (Array count T) = has_type test T

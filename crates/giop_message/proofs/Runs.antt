@@ -9,7 +9,7 @@ use Rattle.giop_print.specs.declared.path.Root.{Root}
 use Rattle.giop_sig.specs.Types.{Ty}
 use Rattle.giop_sig.specs.Table.{Table}
 use Rattle.giop_decode.specs.declared.decoder.Decoder.{Decoder}
-use Rattle.giop_decode.specs.declared.progress.Kind.{Kind}
+use Rattle.giop_decode.specs.declared.progress.ValueFault.{ValueFault}
 use Rattle.giop_decode.specs.declared.progress.Progress.{Progress}
 use Rattle.giop_decode.specs.declared.progress.Progress.TheVariants as progress
 use Rattle.giop_decode.specs.ReadResult.{Coding, Read, Done, Fault}
@@ -172,7 +172,7 @@ done_by S header section end named n (Done lines at rest) answer e = (
 done_by S header section end named n r answer e = absurd answer
 
 fault_by : (S : Signatures) (header : List ℕ) (section : Section) (end : ℕ) (named : Bool)
-    (kind : Kind) (r : Read) → decoders.IsAnswer end named (progress.Fault kind) r →
+    (kind : ValueFault) (r : Read) → decoders.IsAnswer end named (progress.Fault kind) r →
     is_over (stage_of (section_and_rest S header section nothing_noted r)) ≡ true
 unfolding section_then stage_of is_over
 fault_by S header section end named kind (Fault lines at why U) answer = refl
@@ -269,7 +269,7 @@ module _ (w : Begun) (s octets : List ℕ) (i : Inside w s octets) where
       (last_octets xs l.front l.octet l.all))
 
   -- the last octet breaks a rule
-  pub run_wrong : (xs : List ℕ) (place end : ℕ) (why : Kind) → end ≡ place + length xs →
+  pub run_wrong : (xs : List ℕ) (place end : ℕ) (why : ValueFault) → end ≡ place + length xs →
       Last w octets xs (progress.Fault why) →
       due_text S number place header s xs ≡ Lines xs ++ fault_line number (fault_word why) end
   run_wrong xs place end why e l =
@@ -337,7 +337,7 @@ module _ (w : Begun) (s octets : List ℕ) (i : Inside w s octets) where
       let g = done_by S header section a.0 a.1 (12 + length (s ++ xs)) (With xs) a.2 ends in
       (said_both before g.0, behind xs ∙ (ap (with_front before) g.1 ∙ front_twice before g.0 _))
 
-  pub fault_comes : (ys : List ℕ) (n : ℕ) (why : Kind) → n ≤ length ys →
+  pub fault_comes : (ys : List ℕ) (n : ℕ) (why : ValueFault) → n ≤ length ys →
       Last w octets (take n ys) (progress.Fault why) → FaultedAt S header s ys n
   fault_comes ys n why within l =
       let xs = take n ys in

@@ -12,7 +12,7 @@ use Rattle.giop_print.specs.declared.path.Root.TheVariants as roots
 use Rattle.giop_sig.specs.Types.{Ty}
 use Rattle.giop_sig.specs.Table.{Table, seen, in_version}
 use Rattle.giop_decode.specs.declared.decoder.Decoder.{Decoder}
-use Rattle.giop_decode.specs.declared.progress.Kind.{Kind}
+use Rattle.giop_decode.specs.declared.progress.ValueFault.{ValueFault}
 use Rattle.giop_decode.specs.declared.progress.Progress.{Progress}
 use Rattle.giop_decode.specs.declared.progress.Progress.TheVariants as progress
 use Rattle.giop_decode.specs.ReadResult.{Coding, Read, Done, Short, Fault}
@@ -240,7 +240,7 @@ module _ {t : Standing} {octets : List ℕ} {n : ℕ} {d' : Decoder} where
       ∙ ap (λ x. ValueLine t octets n ++ request_call (S t) m.number x heard)
       (sym follows.same_header))
 
-  pub text_wrong : (why : Kind) → Took t octets n d' (progress.Fault why) → (place : ℕ) →
+  pub text_wrong : (why : ValueFault) → Took t octets n d' (progress.Fault why) → (place : ℕ) →
       Text t octets n place ≡ ValueLine t octets n
       ++ fault_line m.number (fault_word why) (place + n)
   text_wrong why k place =
@@ -287,7 +287,7 @@ module _ {t : Standing} {octets : List ℕ} {n : ℕ} {d' : Decoder} where
       follows_on follows (take n octets) (moved progress.Done k m2 move_2) (rw past id)
       (arrives at g.0 g.1)
 
-  pub went_wrong : (why : Kind) → Took t octets n d' (progress.Fault why) →
+  pub went_wrong : (why : ValueFault) → Took t octets n d' (progress.Fault why) →
       FaultedAt (S t) header s octets n
   went_wrong why k = fault_comes (begun t) s (octets_of t) (inside t) octets n why k.within
       (last (progress.Fault why) k)

@@ -6,11 +6,11 @@ use Rattle.std.proofs.lemmas.Bool.{false≢true, eqb-true}
 use Rattle.giop_print.specs.Lines.{fault_line}
 use Rattle.giop_print.specs.declared.path.Root.{Root}
 use Rattle.giop_sig.specs.HeaderTypes.{header_type}
-use Rattle.giop_decode.specs.declared.progress.Kind.{Kind}
+use Rattle.giop_decode.specs.declared.progress.ValueFault.{ValueFault}
 use Rattle.giop_decode.specs.declared.progress.Progress.{Progress}
 use Rattle.giop_decode.specs.declared.progress.Progress.TheVariants as progress
 use Rattle.giop_decode.specs.ReadResult
-use Rattle.giop_decode.specs.ReadResult.{Line, Read, Done, Short, Fault, lines_of}
+use Rattle.giop_decode.specs.ReadResult.{ValueAt, Read, Done, Short, Fault, lines_of}
 use Rattle.giop_decode.specs.Fits.{FitsIn, Sound}
 use Rattle.giop_decode.specs.ReadingSteps.{OneAt}
 use Rattle.giop_decode.specs.Noted.{Noted, nothing_noted, note, noted, noted_of, ends_in_string, ends_text, is_member, is_header_root, ends_operation, names_operation}
@@ -35,7 +35,7 @@ use Rattle.giop_message.proofs.Parts.{Begun, start, is_named, Inside, Next, Adde
 use Rattle.giop_decode.specs.DecoderState.{IsAnswer, IsFault}
 use Rattle.giop_message.specs.Signatures.{Signatures}
 
-pub fault_is : (number place end : ℕ) (named : Bool) (kind : Kind) (r : Read) →
+pub fault_is : (number place end : ℕ) (named : Bool) (kind : ValueFault) (r : Read) →
     IsAnswer end named (progress.Fault kind) r →
     fault_text number place r ≡ fault_line number (fault_word kind) place
 fault_is number place end named kind (Fault lines at why T) answer = search (arith)
@@ -61,7 +61,7 @@ or_both : (a b : Bool) → (a || b) ≡ false → (a ≡ false) × (b ≡ false)
 or_both true b e = absurd cc
 or_both false b e = (refl, e)
 
-unnamed : (is : Bool) (lines : List Line) → names_operation true lines ≡ false →
+unnamed : (is : Bool) (lines : List ValueAt) → names_operation true lines ≡ false →
     Each (λ l. ends_operation is l ≡ false) lines
 unnamed is [] e = tt
 unnamed is (l ∷ ls) e =
@@ -93,7 +93,7 @@ called_is number place offset at (Some id) None interface = refl
 called_is number place offset at (Some id) (Some name) interface = search (arith, call_shown)
 
 -- the call of the line that ends an operation
-call_by : (is : Calling) (number place offset : ℕ) (l : Line) (h : Noted) →
+call_by : (is : Calling) (number place offset : ℕ) (l : ValueAt) (h : Noted) →
     ends_operation true l ≡ true → message_lines_text number place offset (calls is l h)
     ≡ (if is.is_request then called_text number h.request_id h.name (is.interface h.key) else [])
 unfolding calls message_lines_text
@@ -107,8 +107,8 @@ call_by is number place offset l h e = by is.is_request
     by false = refl
 
 -- if the lines end an operation and are at most one, there is one line, and it ends the operation
-named_line : (n : ℕ) (lines : List Line) → OneAt n lines → names_operation true lines ≡ true →
-    (l : Line) × (lines ≡ l ∷ []) × (ends_operation true l ≡ true)
+named_line : (n : ℕ) (lines : List ValueAt) → OneAt n lines → names_operation true lines ≡ true →
+    (l : ValueAt) × (lines ≡ l ∷ []) × (ends_operation true l ≡ true)
 named_line n [] one e = absurd (false≢true e)
 named_line n (l ∷ []) one e = search (arith, false≢true)
 named_line n (l ∷ l' ∷ ls) one e = absurd one
@@ -118,7 +118,7 @@ and_last true b e = e
 and_last false b e = absurd (false≢true e)
 
 -- if a line ends an operation, the notes after it are those after the whole step
-muted : (lines : List Line) (st : Read) (l : Line) → NoEnds st ⊎ (ends_in_string st ≡ false) →
+muted : (lines : List ValueAt) (st : Read) (l : ValueAt) → NoEnds st ⊎ (ends_in_string st ≡ false) →
     lines_of st ≡ l ∷ [] → ends_operation true l ≡ true →
     noted_of true (ReadResult.with_front lines st) ≡ note true (noted true nothing_noted lines) l
 muted lines st l closed e ends = search (
@@ -130,11 +130,11 @@ muted lines st l closed e ends = search (
   and_last,
 )
 
-never : (lines : List Line) → Each (λ l. ends_operation false l ≡ false) lines
+never : (lines : List ValueAt) → Each (λ l. ends_operation false l ≡ false) lines
 never [] = tt
 never (l ∷ ls) = (refl, never ls)
 
-none_named : (lines : List Line) → names_operation false lines ≡ false
+none_named : (lines : List ValueAt) → names_operation false lines ≡ false
 none_named [] = refl
 none_named (l ∷ ls) = none_named ls
 
@@ -143,20 +143,20 @@ unfolding is_request
 request_kind header e = eqb-true (kind header) 0 e
 
 -- Only a line below a header's root ends an operation; in other sections no line does.
-unnamed_by : (S : Signatures) (header : List ℕ) (section : Section) (lines : List Line) →
+unnamed_by : (S : Signatures) (header : List ℕ) (section : Section) (lines : List ValueAt) →
     names_operation (is_header_root (root_of section)) lines ≡ false →
     Each (λ l. ends_operation (calling S header section).is_request l ≡ false) lines
 unnamed_by S header sections.Header lines e = search (arith, unnamed)
 unnamed_by S header section lines e = never lines
 
-named_header : (section : Section) (lines : List Line) →
+named_header : (section : Section) (lines : List ValueAt) →
     names_operation (is_header_root (root_of section)) lines ≡ true → section ≡ sections.Header
 named_header sections.Header lines e = refl
 named_header section lines e = search (arith, false≢true, none_named)
 
 -- the call of a step's line
 call_here : (S : Signatures) (number place offset : ℕ) (header : List ℕ) (section : Section)
-    (before : List Line) (st : Read) (n : ℕ) → OneAt n (lines_of st) →
+    (before : List ValueAt) (st : Read) (n : ℕ) → OneAt n (lines_of st) →
     NoEnds st ⊎ (ends_in_string st ≡ false) →
     names_operation (is_header_root (root_of section)) (lines_of st) ≡ true →
     message_lines_text number place offset (first_call (root_of section) (calling S header section)
@@ -176,12 +176,13 @@ call_here S number place offset header section before st n one closed named = se
   none_named,
 )
 
-done_is : (end : ℕ) (named : Bool) (st : Read) (lines : List Line) →
+done_is : (end : ℕ) (named : Bool) (st : Read) (lines : List ValueAt) →
     decoders.IsAnswer end named progress.Done (ReadResult.with_front lines st) → done_test st ≡ true
 done_is end named (Done ls at rest) lines answer = refl
 done_is end named r lines answer = absurd answer
 
-none_faulted : (is : Bool) (end : ℕ) (named : Bool) (kind : Kind) (st : Read) (lines : List Line) →
+none_faulted : (is : Bool) (end : ℕ) (named : Bool) (kind : ValueFault) (st : Read) (lines : List
+    ValueAt) →
     decoders.IsAnswer end named (progress.Fault kind) (ReadResult.with_front lines st) →
     CallsNone is st → Each (λ l. ends_operation is l ≡ false) (lines_of st)
 none_faulted is end named kind (Fault ls at why U) lines answer none = none
@@ -310,7 +311,7 @@ module _ (w : Begun) (s octets : List ℕ) (i : Inside w s octets) (b : ℕ) whe
       (uncalled place (ends_by (done_is End Names St i.lines is)))
 
   -- the text of an octet that breaks a rule
-  pub wrong_text : (why : Kind) → Is (progress.Fault why) → (place : ℕ) →
+  pub wrong_text : (why : ValueFault) → Is (progress.Fault why) → (place : ℕ) →
       Due place ≡ Lines ++ fault_line number (fault_word why) (place + 1)
   wrong_text why answer place =
       let is = subst (decoders.IsAnswer End Names (progress.Fault why)) (next_is w s octets i b)

@@ -4,10 +4,10 @@ use Rattle.std.proofs.Common.{arith, ◌≡◌, ℕ, zero, suc, ◌+◌, ◌-◌
 use Rattle.std.specs.List.{AllByRecursion as Each}
 use Rattle.giop_cdr.specs.Numbers.{num}
 use Rattle.giop_sig.specs.Types.{Encapsulation, Recursive, Ty, Single, Text, Octets, Struct, Union, Sequence, Array, Led, Hearing, Told, Sequel, Then, Ends, Stops, part_of}
-use Rattle.giop_decode.specs.declared.progress.Kind.{Kind}
-use Rattle.giop_decode.specs.declared.progress.Kind.TheVariants as kinds
+use Rattle.giop_decode.specs.declared.progress.ValueFault.{ValueFault}
+use Rattle.giop_decode.specs.declared.progress.ValueFault.TheVariants as kinds
 use Rattle.giop_decode.specs.ReadResult
-use Rattle.giop_decode.specs.ReadResult.{Coding, PathSegment, Switch, Held, Line, Piece, line, OpenPart, Part, Member, Inside, Leaf, LeadingNumber, Opening, Content, Read, Done, Short, Fault, lines_of, with_front, followed, within, Telling}
+use Rattle.giop_decode.specs.ReadResult.{Coding, PathSegment, Switch, Held, ValueAt, Piece, line, OpenPart, Part, Member, Inside, Leaf, LeadingNumber, Opening, Content, Read, Done, Short, Fault, lines_of, with_front, followed, within, Telling}
 use Rattle.giop_decode.specs.Pieces.{Block, Partial, Complete, unless, content, full_piece, last_piece}
 use Rattle.giop_decode.specs.Reading.{after_leading_number, parts_from, enclosed, opening, following, led, none_left}
 use Rattle.giop_decode.specs.ReadingSteps.{coding_in, held, Faulted, OneAt, IsEmptyResult, IsOctetResult, after, leaf_step, part_at, path_in, segment_of, step, after_told}
@@ -16,7 +16,7 @@ use Rattle.giop_decode.specs.Noted.{ends_text, ends_in_string}
 use Rattle.giop_decode.proofs.ReadingLaws.{quiet_within, read_quiet, now_within, rest_quiet, parts_quiet, step_now, lines_front}
 
 -- a line of the part with this path
-pub record IsOf (path : List PathSegment) (l : Line) : Type 0 where
+pub record IsOf (path : List PathSegment) (l : ValueAt) : Type 0 where
   pub stands : (l.path ≡ path) ⊎ ((tag : Option (List ℕ)) × (l.path ≡ path ++ Switch tag ∷ []))
 
 abbrev pub AreOf : List PathSegment → Read → Type 0
@@ -36,7 +36,8 @@ abbrev pub Firm : Read → Type 0
 Firm r = NoEnds r ⊎ ((ends_in_string r ≡ false) × (is_faulted r ≡ false))
 
 -- there is at most one line before a fault
-pub one_faulted : (n : ℕ) (why : Kind) (lines : List Line) → Faulted n why lines → OneAt n lines
+pub one_faulted : (n : ℕ) (why : ValueFault) (lines : List ValueAt) → Faulted n why lines →
+    OneAt n lines
 one_faulted n kinds.EncapShort lines h = h
 one_faulted n kinds.Untyped lines h = h
 one_faulted n why lines h = rw h tt
@@ -71,11 +72,11 @@ module _ (n : ℕ) (path : List PathSegment) where
   done_says v at rest one = search (arith, at_path)
 
   -- a line that ends no string, and what comes after it
-  front_says : (l : Line) (r : Read) → IsOf path l → ends_text l.value ≡ false →
+  front_says : (l : ValueAt) (r : Read) → IsOf path l → ends_text l.value ≡ false →
       OneSays (with_front (l ∷ []) r)
   front_says l r of no_end one = search (arith, lines_front)
 
-  unless_says : (T : Ty) (why : Option Kind) (at : ℕ) (r : Read) → OneSays r →
+  unless_says : (T : Ty) (why : Option ValueFault) (at : ℕ) (r : Read) → OneSays r →
       OneSays (unless T why at r)
   unless_says T None at r h = h
   unless_says T (Some kind) at r h = search (arith, bare)
@@ -153,7 +154,7 @@ quiet_bare n (Fault lines at why S) k = absurd k
 quiet_bare n _ k = k.0
 
 -- the lines before a reading that has none are all lines
-lines_alone : (n : ℕ) (lines : List Line) (r : Read) → IsEmptyResult n r →
+lines_alone : (n : ℕ) (lines : List ValueAt) (r : Read) → IsEmptyResult n r →
     lines_of (with_front lines r) ≡ lines
 lines_alone n lines r k = search (arith, lines_front, quiet_bare, append-nil)
 
@@ -177,7 +178,7 @@ lines_enclosed n path T inner end (Fault lines at why S) h = refl
 
 -- if a part tells what follows it, what follows has no line yet
 lines_following : (n : ℕ) (T : Ty) (what : Sequel) (part : ℕ → ℕ → List ℕ → Read)
-    (lines : List Line) → ((i : ℕ) → IsEmptyResult n (part i n [])) →
+    (lines : List ValueAt) → ((i : ℕ) → IsEmptyResult n (part i n [])) →
     lines_of (with_front lines (following T what part n [])) ≡ lines
 lines_following n T (Then i) part lines each = lines_alone n lines (part i n []) (each i)
 lines_following n T Ends part lines each = append-nil lines

@@ -71,7 +71,7 @@ pub record IsAt (phase : Phase) (number : ℕ) (header : List ℕ) (m : Message)
 
 -- if a message has said what came before and then reads as `m`, the new part fits `m`
 abbrev pub Arrives : Table → Answers → Phase → ℕ → List ℕ → Message → Message → List ℕ →
-    Messages.Message → Type 0
+    Messages.MessageReading → Type 0
 Arrives C answers phase number header old new s m =
     IsAt phase number header old s → (before : Said) →
     message (signatures_of C (answers number) phase) header s ≡ with_front before m →

@@ -7,8 +7,8 @@ use Rattle.giop_cdr.specs.Alignment.{padding}
 use Rattle.giop_print.specs.declared.path.Root.{Root}
 use Rattle.giop_print.specs.declared.path.Root.TheVariants as roots
 use Rattle.giop_sig.specs.Types.{Ty, Struct}
-use Rattle.giop_decode.specs.declared.progress.Kind.{Kind}
-use Rattle.giop_decode.specs.ReadResult.{Coding, PathSegment, Value, Line, OpenPart, Leaf, Read, Done, Short, Fault}
+use Rattle.giop_decode.specs.declared.progress.ValueFault.{ValueFault}
+use Rattle.giop_decode.specs.ReadResult.{Coding, PathSegment, Value, ValueAt, OpenPart, Leaf, Read, Done, Short, Fault}
 use Rattle.giop_decode.specs.Reading.{reading}
 use Rattle.giop_decode.specs.Noted.{Noted, nothing_noted, note, noted, ends_operation, is_header_root}
 use Rattle.giop_message.specs.declared.part.Section.{Section}
@@ -26,7 +26,7 @@ pub data MessageLine : Type 0 where
   -- octets of the rest, and their offset in the rest
   RestLine : ℕ → List ℕ → MessageLine
   -- the fault of a value
-  FaultLine : Kind → MessageLine
+  FaultLine : ValueFault → MessageLine
   -- the line of a close: the header or the typed body is incomplete, or the message ends
   ShortLine : MessageLine
   EndLine : MessageLine
@@ -81,13 +81,13 @@ abbrev pub no_calls : Calling
 no_calls = record { is_request = false; interface = λ key. None }
 
 -- The call line comes after the line that ends the operation of a Request.
-unfoldable pub calls : Calling → Line → Noted → List LineAt
+unfoldable pub calls : Calling → ValueAt → Noted → List LineAt
 calls calling l h =
     if ends_operation calling.is_request l
     then call_of l.at h.request_id h.name (calling.interface h.key) else []
 
 -- The lines of a reading below a root, if this was noted before them.
-unfoldable pub section_lines : Root → Calling → Noted → List Line → List LineAt
+unfoldable pub section_lines : Root → Calling → Noted → List ValueAt → List LineAt
 section_lines root calling h [] = []
 section_lines root calling h (l ∷ ls) =
     let now = note (is_header_root root) h l in
@@ -121,8 +121,8 @@ pub data Stage : Type 0 where
   Over : Stage
 
 -- The result of reading a message: what it has said, the offset at its end, and its stage there.
-pub data Message : Type 0 where
-  ReadTo : Said → ℕ → Stage → Message
+pub data MessageReading : Type 0 where
+  ReadTo : Said → ℕ → Stage → MessageReading
 
 -- what was said first, and then what was said after it
 abbrev pub said_both : Said → Said → Said
@@ -131,7 +131,7 @@ said_both front said = record {
   marks = front.marks ++ said.marks;
 }
 
-unfoldable pub with_front : Said → Message → Message
+unfoldable pub with_front : Said → MessageReading → MessageReading
 with_front front (ReadTo said at stage) = ReadTo (said_both front said) at stage
 
 abbrev pub name_mark : Option (List ℕ) → List Mark
@@ -148,8 +148,9 @@ end_mark sections.Body h = []
 
 -- A section, and what follows it, from what is noted of the section. A fault has its own line in
 -- the place of the value's line, and ends the message.
-unfoldable pub section_then : Section → Calling → (Noted → ℕ → List ℕ → Message) → Noted → Read →
-    Message
+unfoldable pub section_then : Section → Calling → (Noted → ℕ → List ℕ → MessageReading) → Noted →
+    Read →
+    MessageReading
 section_then section calling next h (Done lines at s) =
     let root = root_of section in
     let now = noted (is_header_root root) h lines in
@@ -167,13 +168,13 @@ section_then section calling next h (Fault lines at why T) =
 -- ---- the rest
 
 -- the rest in parts of 32 octets; this many parts are full
-unfoldable pub rest_in : ℕ → ℕ → ℕ → List ℕ → Message
+unfoldable pub rest_in : ℕ → ℕ → ℕ → List ℕ → MessageReading
 rest_in zero offset at s = ReadTo nothing_said (at + length s) (In_rest offset s)
 rest_in (suc full) offset at s =
     with_front (only_lines (line_at (at + 32) (RestLine offset (take 32 s)) ∷ []))
     (rest_in full (offset + 32) (at + 32) (drop 32 s))
 
-unfoldable pub rest : ℕ → List ℕ → Message
+unfoldable pub rest : ℕ → List ℕ → MessageReading
 rest at s = rest_in (length s / 32) 0 at s
 
 -- ---- bodies
@@ -182,11 +183,11 @@ rest at s = rest_in (length s / 32) 0 at s
 abbrev pub coding_of : Signatures → List ℕ → Coding
 coding_of S header = record { order = order header; phase = S.phase }
 
-unfoldable pub typed : Coding → Ty → ℕ → List ℕ → Message
+unfoldable pub typed : Coding → Ty → ℕ → List ℕ → MessageReading
 typed coding T at s = section_then sections.Body no_calls (λ h. rest) nothing_noted
     (reading coding [] T at s)
 
-unfoldable pub option_typed : Coding → Option Ty → ℕ → List ℕ → Message
+unfoldable pub option_typed : Coding → Option Ty → ℕ → List ℕ → MessageReading
 option_typed coding None at s = rest at s
 option_typed coding (Some T) at s = typed coding T at s
 
@@ -195,10 +196,10 @@ members_of S header None = None
 members_of S header (Some repository) = S.members (minor header) repository
 
 -- the members of the exception whose repository id has come
-unfoldable pub after_exception : Signatures → List ℕ → Noted → ℕ → List ℕ → Message
+unfoldable pub after_exception : Signatures → List ℕ → Noted → ℕ → List ℕ → MessageReading
 after_exception S header h = option_typed (coding_of S header) (members_of S header h.name)
 
-unfoldable pub body : Signatures → List ℕ → BodyType → ℕ → List ℕ → Message
+unfoldable pub body : Signatures → List ℕ → BodyType → ℕ → List ℕ → MessageReading
 body S header Untyped at s = rest at s
 body S header (Typed T) at s = typed (coding_of S header) T at s
 body S header UserException at s =
@@ -266,12 +267,12 @@ is_aligned header = nat_lt (kind header) 2 && (minor header == 2)
 -- ---- a message
 
 -- a body after the padding up to the next multiple of 8
-unfoldable pub padded : Signatures → List ℕ → BodyType → ℕ → List ℕ → Message
+unfoldable pub padded : Signatures → List ℕ → BodyType → ℕ → List ℕ → MessageReading
 padded S header b at s =
     if nat_lt (length s) (padding at 8) then ReadTo nothing_said (at + length s) (In_padding b)
     else body S header b (at + padding at 8) (drop (padding at 8) s)
 
-unfoldable pub after_header : Signatures → List ℕ → Noted → ℕ → List ℕ → Message
+unfoldable pub after_header : Signatures → List ℕ → Noted → ℕ → List ℕ → MessageReading
 after_header S header h at s =
     if is_aligned header then padded S header (body_of S header h) at s
     else body S header (body_of S header h) at s
@@ -280,14 +281,14 @@ after_header S header h at s =
 abbrev pub calling_of : Signatures → List ℕ → Calling
 calling_of S header = record { is_request = is_request header; interface = S.interface }
 
-unfoldable pub of_header : Signatures → List ℕ → Option Ty → ℕ → List ℕ → Message
+unfoldable pub of_header : Signatures → List ℕ → Option Ty → ℕ → List ℕ → MessageReading
 of_header S header None at s = rest at s
 of_header S header (Some T) at s =
     section_then sections.Header (calling_of S header) (after_header S header) nothing_noted
     (reading (coding_of S header) [] T at s)
 
 -- a message with this header of 12 octets, and these octets after it
-unfoldable pub message : Signatures → List ℕ → List ℕ → Message
+unfoldable pub message : Signatures → List ℕ → List ℕ → MessageReading
 message S header s = of_header S header (S.header (minor header) (kind header)) 12 s
 
 -- what the call lines of a section are made from
@@ -298,14 +299,14 @@ calling S header sections.SystemException = no_calls
 calling S header sections.Body = no_calls
 
 -- what follows a section, from what is noted of the section
-abbrev pub after : Signatures → List ℕ → Section → Noted → ℕ → List ℕ → Message
+abbrev pub after : Signatures → List ℕ → Section → Noted → ℕ → List ℕ → MessageReading
 after S header sections.Header = after_header S header
 after S header sections.Exception = after_exception S header
 after S header sections.SystemException = λ h. rest
 after S header sections.Body = λ h. rest
 
 -- a section that goes on after this was noted of it, and what follows the section
-abbrev pub section_and_rest : Signatures → List ℕ → Section → Noted → Read → Message
+abbrev pub section_and_rest : Signatures → List ℕ → Section → Noted → Read → MessageReading
 section_and_rest S header section = section_then section (calling S header section)
     (after S header section)
 
@@ -324,11 +325,11 @@ close (In_rest offset []) = EndLine ∷ []
 close (In_rest offset (x ∷ held)) = RestLine offset (x ∷ held) ∷ EndLine ∷ []
 close Over = EndLine ∷ []
 
-unfoldable pub message_lines : Message → List LineAt
+unfoldable pub message_lines : MessageReading → List LineAt
 message_lines (ReadTo said at stage) = said.lines
 
-unfoldable pub message_marks : Message → List Mark
+unfoldable pub message_marks : MessageReading → List Mark
 message_marks (ReadTo said at stage) = said.marks
 
-unfoldable pub stage_of : Message → Stage
+unfoldable pub stage_of : MessageReading → Stage
 stage_of (ReadTo said at stage) = stage

@@ -5,8 +5,8 @@ use Rattle.giop_print.specs.Text.{joined, hex}
 use Rattle.giop_print.specs.Lines.{fault_line}
 use Rattle.giop_decode.specs.ReadResult as spine
 use Rattle.giop_decode.specs.Spelling.{value_words}
-use Rattle.giop_decode.specs.declared.progress.Kind.{Kind}
-use Rattle.giop_decode.specs.declared.progress.Kind.TheVariants as kinds
+use Rattle.giop_decode.specs.declared.progress.ValueFault.{ValueFault}
+use Rattle.giop_decode.specs.declared.progress.ValueFault.TheVariants as kinds
 use Rattle.giop_message.specs.MessageReader.{LineClass, Value, Call, Rest, Fault, End, TimedLine}
 
 -- ---- lines without the number
@@ -25,7 +25,7 @@ unfoldable pub rest_text : ℕ → List ℕ → List ℕ
 rest_text offset octets = joined (codes "rest @" ∷ decimal offset ∷ codes " " ∷ hex octets ∷ [])
 
 -- the word of a fault
-abbrev pub fault_word : Kind → List ℕ
+abbrev pub fault_word : ValueFault → List ℕ
 fault_word kinds.Boolean = codes "boolean"
 fault_word kinds.StringEnd = codes "string-end"
 fault_word kinds.Enum = codes "enum"

@@ -195,7 +195,8 @@ fn has_locate_bodies(catalogue: &Catalogue) -> bool
     catalogue.version() >= 3
 }
 
-/// The type of a LocateReply's body, from its status.
+/// The type of a LocateReply's body, from its status. It has none if the status says so, or if the
+/// version of the signature file is below 3.
 #[tactic(auto, unfolding(crate::specs::Messages::locate_body, crate::specs::Signatures::signatures_of))]
 fn locate_body(catalogue: &Catalogue, header: &[u8], status: Option<u32>) -> BodyTypeId
     requires { length header.now ≡ 12 }

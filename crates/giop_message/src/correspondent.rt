@@ -38,7 +38,7 @@ pub trait Correspondent {
     /// The header of a Request has ended. The correspondent is told the message's number in its
     /// stream, from 1; the request id; the name of the operation, if a call line can show it; the
     /// operation, if it is known; and whether a reply is expected.
-    fn called(
+    fn on_call(
         &mut self,
         number: u64,
         id: u32,
@@ -51,7 +51,7 @@ pub trait Correspondent {
 
     /// The header of a Reply has ended. The correspondent is told the message's number in its
     /// stream, from 1, and the id of the request that the Reply answers.
-    fn answered(&mut self, number: u64, id: u32)
+    fn on_answer(&mut self, number: u64, id: u32)
         ensures { state self.new ≡ notified (state self.old) (Replied number id) };
 
     /// A Reply raises an exception. The correspondent is told the message's number in its stream,
@@ -59,7 +59,7 @@ pub trait Correspondent {
     /// USER_EXCEPTION, the name is the repository id, and it is told when the id has ended; for a
     /// SYSTEM_EXCEPTION, it is the exception_id, and it is told when the body has ended. If the
     /// name is another one, nothing is told (GIOP Message Formats, Reply Body).
-    fn raised(&mut self, number: u64, name: &[u8])
+    fn on_exception(&mut self, number: u64, name: &[u8])
         ensures { state self.new ≡ notified (state self.old) (Raised number name.now) };
 
     /// Whether the correspondent has something to write after the octet that was read last. If it
@@ -98,7 +98,7 @@ impl<'a> Correspondent for &'a Requests {
         (**self).operation(id)
     }
 
-    fn called(
+    fn on_call(
         &mut self,
         _number: u64,
         _id: u32,
@@ -107,9 +107,9 @@ impl<'a> Correspondent for &'a Requests {
         _expects_reply: bool,
     ) {}
 
-    fn answered(&mut self, _number: u64, _id: u32) {}
+    fn on_answer(&mut self, _number: u64, _id: u32) {}
 
-    fn raised(&mut self, _number: u64, _name: &[u8]) {}
+    fn on_exception(&mut self, _number: u64, _name: &[u8]) {}
 
     fn is_due(&self) -> bool {
         false

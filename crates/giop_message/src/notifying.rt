@@ -144,7 +144,7 @@ fn notify_of_request<Q: Correspondent>(
         return;
     };
     let expects_reply = expects_reply(decoder);
-    correspondent.called(number, id, shown(decoder.name()), operation, expects_reply);
+    correspondent.on_call(number, id, shown(decoder.name()), operation, expects_reply);
 }
 
 /// Tells the correspondent of a Reply: the id that it answers.
@@ -156,7 +156,7 @@ fn notify_of_reply<Q: Correspondent>(correspondent: &mut Q, number: u64, decoder
         (reply_event number (noted_of true r).request_id) }
 {
     if let Some(id) = decoder.request_id() {
-        correspondent.answered(number, id);
+        correspondent.on_answer(number, id);
     }
 }
 
@@ -170,7 +170,7 @@ fn notify_of_exception<Q: Correspondent>(correspondent: &mut Q, number: u64, dec
         (raise_event number (noted_of (is_header_root root) r).name) }
 {
     if let Some(name) = shown(decoder.name()) {
-        correspondent.raised(number, name);
+        correspondent.on_exception(number, name);
     }
 }
 

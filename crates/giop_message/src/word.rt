@@ -4,21 +4,21 @@ ghost use Rattle.std.specs.Prelude.{◌≡◌};
 ghost use Rattle.giop_message.specs.Text.{fault_word};
 ghost use Rattle.giop_message.specs.Messages.{is_shown};
 
-use giop_decode::Kind;
+use giop_decode::ValueFault;
 
 /// The word of a value's fault.
-pub fn fault_word(kind: Kind) -> &'static str
+pub fn fault_word(kind: ValueFault) -> &'static str
     ensures { result.now ≡ fault_word kind }
 {
     match kind {
-        Kind::Boolean => "boolean",
-        Kind::StringEnd => "string-end",
-        Kind::Enum => "enum",
-        Kind::Bound => "bound",
-        Kind::Disposition => "disposition",
-        Kind::EncapShort => "encap-short",
-        Kind::EncapOrder => "encap-order",
-        Kind::Untyped => "untyped",
+        ValueFault::Boolean => "boolean",
+        ValueFault::StringEnd => "string-end",
+        ValueFault::Enum => "enum",
+        ValueFault::Bound => "bound",
+        ValueFault::Disposition => "disposition",
+        ValueFault::EncapShort => "encap-short",
+        ValueFault::EncapOrder => "encap-order",
+        ValueFault::Untyped => "untyped",
     }
 }
 

@@ -34,7 +34,7 @@ impl Correspondent for Listener {
         None
     }
 
-    fn called(
+    fn on_call(
         &mut self,
         _number: u64,
         _id: u32,
@@ -43,9 +43,9 @@ impl Correspondent for Listener {
         _expects_reply: bool,
     ) {}
 
-    fn answered(&mut self, _number: u64, _id: u32) {}
+    fn on_answer(&mut self, _number: u64, _id: u32) {}
 
-    fn raised(&mut self, number: u64, name: &[u8]) {
+    fn on_exception(&mut self, number: u64, name: &[u8]) {
         self.raised = Some((number, name.len()));
     }
 

@@ -30,7 +30,7 @@ impl Correspondent for Waiter {
         None
     }
 
-    fn called(
+    fn on_call(
         &mut self,
         _number: u64,
         _id: u32,
@@ -39,11 +39,11 @@ impl Correspondent for Waiter {
         _expects_reply: bool,
     ) {}
 
-    fn answered(&mut self, _number: u64, _id: u32) {
+    fn on_answer(&mut self, _number: u64, _id: u32) {
         self.is_due = true;
     }
 
-    fn raised(&mut self, _number: u64, _name: &[u8]) {
+    fn on_exception(&mut self, _number: u64, _name: &[u8]) {
         self.is_due = true;
     }
 

@@ -36,7 +36,7 @@ impl Model for Head {
         × (drop (32 - head.count) head.octets ≡ headed head.message (root_word head.root) []) };
 }
 
-/// The octets of a head without the number of its message, and the place at which that number ends.
+/// The octets of a head without the number of its message, and the index at which that number ends.
 #[inline(always)]
 fn behind_number(root: Root) -> ([u8; SIZE], usize)
     ensures text { drop result.1 result.0 ≡ codes " " ++ root_word root }

@@ -12,8 +12,8 @@ use Rattle.giop_run.specs.Performing.{Task, Performed, FailedBy, Did, Kept}
 use Rattle.giop_run.specs.declared.running.Report.{Report}
 use Rattle.giop_run.specs.declared.fault.RunFault.{RunFault}
 use Rattle.giop_run.specs.declared.fault.RunFault.TheVariants as fault
-use Rattle.giop_run.specs.declared.fault.ProgramFault.{ProgramFault}
-use Rattle.giop_run.specs.declared.fault.ProgramFault.TheVariants as faults
+use Rattle.giop_run.specs.declared.fault.ProgramError.{ProgramError}
+use Rattle.giop_run.specs.declared.fault.ProgramError.TheVariants as faults
 
 -- no step before the run fails with these two faults
 not_unwritable : (held : Folder) (refuses : Refusals) (asked : Asked) (name : _) →
@@ -30,7 +30,7 @@ not_words held refuses asked (inr (inl (C, c, q))) = q
 not_words held refuses asked (inr (inr (C, l, r, inl q))) = q
 not_words held refuses asked (inr (inr (C, l, r, inr q))) = q
 
-failed_by : (t : Task) (why : ProgramFault) (x y : _)
+failed_by : (t : Task) (why : ProgramError) (x y : _)
     → IfSome (run_of (Err why)) (λ ran. Performed t ran x y)
     → (run_of (Err why) ≡ None → Refused t.held t.refuses t.asked why)
     → (run_of (Err why) ≡ None → y ≡ x)
@@ -68,8 +68,8 @@ perform_run t C l r x y of by d = record {
 
 -- what the program did, by what the run did with a catalogue and a request list, and by what the
 -- save after it did
-pub did_by : (t : Task) (C : Table) (l : RequestTable) (ran : Result Report ProgramFault)
-    (result : Result Totals ProgramFault)
+pub did_by : (t : Task) (C : Table) (l : RequestTable) (ran : Result Report ProgramError)
+    (result : Result Totals ProgramError)
     (x y : _) (a b : Option (List Saved)) → AreOf C l → ReadsBy t.held t.asked C l
     → IfSome (run_of ran) (λ r. GoesOn t.held t.asked.resume t.asked.most C l
     (λ n p. Dumped (setup_by C l n t.asked) r p (stream_of t.held t.given t.asked.stream) x y))
@@ -111,8 +111,8 @@ did_by t C l (Err why) result x y a b of by d r u s k =
     performed_by (Some r) d = perform_run t C l r x y of by d
 
 -- the last step succeeds only if the run did
-pub kept_ok : (asked : Option (List ℕ)) (ran : Result Report ProgramFault)
-    (result : Result Totals ProgramFault)
+pub kept_ok : (asked : Option (List ℕ)) (ran : Result Report ProgramError)
+    (result : Result Totals ProgramError)
     (a b : Option (List Saved)) (P : Type 0) → Kept asked ran result a b → OnOk ran P →
     OnOk result P
 kept_ok asked (Ok report) (Ok totals) a b P k p = p

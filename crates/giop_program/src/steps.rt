@@ -13,8 +13,8 @@ ghost use Rattle.giop_program.specs.Words.{asked_of};
 
 use super::arguments::Arguments;
 use giop_run::{
-    Disk, Ending, Flush, Inputs, Lines, ProgramFault, Report, Retrying, RunFault, Saves, Source,
-    catalogue, dump, failed, opened, refused, requests, resumed, status, words,
+    Disk, Ending, Flush, Inputs, Lines, ProgramError, Report, Retrying, RunFault, Saves, Source,
+    catalogue, dump, failed, open_file, refused, requests, resume, status, words,
 };
 use giop_sig::{Catalogue, Requests};
 use giop_stream::{Engine, Totals};
@@ -41,7 +41,7 @@ fn print_run(rt: &HostRuntime, asked: Arguments) -> u8
     ensures { result ≤ 5 }
 {
     let Ok(mut lines) = Lines::new(rt.alloc(), Retrying::new(rt.stdout())) else {
-        return failed(rt, PROGRAM, &ProgramFault::OutOfMemory);
+        return failed(rt, PROGRAM, &ProgramError::OutOfMemory);
     };
     let mut files = Disk::new(rt, [asked.signatures, asked.requests, asked.stream]);
     report_outcome(rt, &perform_run(rt, asked, &mut lines, &mut files))
@@ -53,7 +53,7 @@ pub fn perform_run<'a, R: Inputs + AllocGlobal, O: Flush, F: Saves>(
     asked: Arguments<'a>,
     out: &mut O,
     files: &mut F,
-) -> Result<Totals, ProgramFault<'a>>
+) -> Result<Totals, ProgramError<'a>>
     ensures did { Did (task_of (R.held rt.now) (R.refuses rt.now) (R.given rt.now)
         (asked_of asked.entry)) result (O.log out.old) (O.log out.new) (F.saved files.old)
         (F.saved files.new) }
@@ -70,7 +70,7 @@ fn run_by_catalogue<'a, R: Inputs + AllocGlobal, O: Flush, F: Saves>(
     out: &mut O,
     files: &mut F,
     catalogue: &Catalogue,
-) -> Result<Totals, ProgramFault<'a>>
+) -> Result<Totals, ProgramError<'a>>
     requires read { CatalogueOf (R.held rt.now) (asked_of asked).latest
         (asked_of asked).signatures catalogue.now }
     ensures did { Did (task_of (R.held rt.now) (R.refuses rt.now) (R.given rt.now)
@@ -90,7 +90,7 @@ fn run_and_save<'a, R: Inputs + AllocGlobal, O: Flush, F: Saves>(
     files: &mut F,
     catalogue: &Catalogue,
     requests: &Requests,
-) -> Result<Totals, ProgramFault<'a>>
+) -> Result<Totals, ProgramError<'a>>
     requires of { AreOf catalogue.now requests.now }
     requires read { ReadsBy (R.held rt.now) (asked_of asked) catalogue.now requests.now }
     ensures did { Did (task_of (R.held rt.now) (R.refuses rt.now) (R.given rt.now)
@@ -99,7 +99,7 @@ fn run_and_save<'a, R: Inputs + AllocGlobal, O: Flush, F: Saves>(
     ensures flushed { OnOk result (O.kept out.new ≡ []) }
 {
     let report = begin_run(rt, asked, out, catalogue, requests)?;
-    kept(files, asked.save, &report)
+    keep(files, asked.save, &report)
 }
 
 /// Loads the checkpoint, opens the stream, and runs.
@@ -109,7 +109,7 @@ fn begin_run<'a, 'c, R: Inputs + AllocGlobal, O: Flush>(
     out: &mut O,
     catalogue: &'c Catalogue,
     requests: &'c Requests,
-) -> Result<Report<'c>, ProgramFault<'a>>
+) -> Result<Report<'c>, ProgramError<'a>>
     requires of { AreOf catalogue.now requests.now }
     ensures dumped { let asked = asked_of asked.entry in let held = R.held rt.now in
         IfSome (run_of result) (λ ran.
@@ -127,10 +127,10 @@ fn begin_run<'a, 'c, R: Inputs + AllocGlobal, O: Flush>(
         HasKept (ending_of (asked_of asked.entry).save) report.kept) }
     ensures flushed { OnOk result (O.kept out.new ≡ []) }
 {
-    let engine = resumed(rt, asked.resume, asked.most, catalogue, requests)?;
+    let engine = resume(rt, asked.resume, asked.most, catalogue, requests)?;
     let ending = ending_for(asked.save);
     match asked.stream {
-        None => dumped(rt.standard_input(), out, engine, ending),
+        None => dump_source(rt.standard_input(), out, engine, ending),
         Some(name) => open_stream(rt, name, out, engine, ending),
     }
 }
@@ -152,7 +152,7 @@ fn open_stream<'a, 'c, R: Inputs, O: Flush>(
     out: &mut O,
     engine: Engine<'c>,
     ending: Ending,
-) -> Result<Report<'c>, ProgramFault<'a>>
+) -> Result<Report<'c>, ProgramError<'a>>
     requires sound { engine.failed ≡ false }
     ensures dumped { IfSome (run_of result) (λ ran. (p : List ℕ) → Holds engine.entry p
         → Dumped (setup_of engine.entry ending) ran p
@@ -164,19 +164,19 @@ fn open_stream<'a, 'c, R: Inputs, O: Flush>(
     ensures kept { IfOk result (λ report. HasKept ending report.kept) }
     ensures flushed { OnOk result (O.kept out.new ≡ []) }
 {
-    match opened(rt, name) {
-        Ok(file) => dumped(file, out, engine, ending),
+    match open_file(rt, name) {
+        Ok(file) => dump_source(file, out, engine, ending),
         Err(fault) => Err(fault),
     }
 }
 
 /// Runs the engine on the octets of a source, from the source's beginning.
-fn dumped<'a, 'c, S: Source + Drop, O: Flush>(
+fn dump_source<'a, 'c, S: Source + Drop, O: Flush>(
     source: S,
     out: &mut O,
     engine: Engine<'c>,
     ending: Ending,
-) -> Result<Report<'c>, ProgramFault<'a>>
+) -> Result<Report<'c>, ProgramError<'a>>
     requires sound { engine.failed ≡ false }
     ensures dumped { (told : Option (List ℕ)) → S.log source ≡ unread told
         → IfSome (run_of result) (λ ran. (p : List ℕ) → Holds engine.entry p
@@ -189,16 +189,16 @@ fn dumped<'a, 'c, S: Source + Drop, O: Flush>(
     let mut source = source;
     match dump(&mut source, out, engine, ending) {
         Ok(report) => Ok(report),
-        Err(fault) => Err(ProgramFault::Run(fault)),
+        Err(fault) => Err(ProgramError::Run(fault)),
     }
 }
 
 /// Saves the checkpoint of the engine that a run has kept, in the file that the arguments name.
-fn kept<'a, F: Saves>(
+fn keep<'a, F: Saves>(
     files: &mut F,
     save: Option<&'a str>,
     report: &Report,
-) -> Result<Totals, ProgramFault<'a>>
+) -> Result<Totals, ProgramError<'a>>
     requires kept { HasKept (ending_of (option_map (λ n. n.now) save)) report.now.kept }
     ensures { Kept (option_map (λ n. n.now) save.entry) (Ok report.now) result
         (F.saved files.old) (F.saved files.new) }
@@ -208,12 +208,12 @@ fn kept<'a, F: Saves>(
     };
     match files.save(name, engine) {
         Ok(()) => Ok(report.totals),
-        Err(_) => Err(ProgramFault::Unwritable { name }),
+        Err(_) => Err(ProgramError::Unwritable { name }),
     }
 }
 
 /// Prints why the program failed, if it did, and returns its status.
-fn report_outcome(rt: &HostRuntime, ended: &Result<Totals, ProgramFault>) -> u8
+fn report_outcome(rt: &HostRuntime, ended: &Result<Totals, ProgramError>) -> u8
     ensures { result ≡ exit_status ended.now }
 {
     if let Err(fault) = ended {

@@ -4,3 +4,4 @@ mod FlushLemmas
 mod TurnLemmas
 mod ResumeLemmas
 mod MarkedLemmas
+mod PutLemmas

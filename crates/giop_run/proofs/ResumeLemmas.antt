@@ -10,11 +10,11 @@ use Rattle.giop_stream.specs.EngineView.{EngineView}
 use Rattle.giop_stream.specs.EngineHolds.{Holds}
 use Rattle.giop_stream.specs.Checkpoint.{counts_of, IsRefused, Spells}
 use Rattle.giop_run.specs.Files.{Folder, Refusals, GoesOn, IsFront, NoCheckpoint, checkpoint_most}
-use Rattle.giop_run.specs.declared.fault.ProgramFault.{ProgramFault}
-use Rattle.giop_run.specs.declared.fault.ProgramFault.TheVariants as faults
+use Rattle.giop_run.specs.declared.fault.ProgramError.{ProgramError}
+use Rattle.giop_run.specs.declared.fault.ProgramError.TheVariants as faults
 
 -- the octets of the file are refused, so no engine is loaded
-pub not_resumed : {A : Type 0} → (r : Result A ProgramFault) (held : Folder) (refuses : Refusals)
+pub not_resumed : {A : Type 0} → (r : Result A ProgramError) (held : Folder) (refuses : Refusals)
     (name : Bor (List ℕ)) (counts : Counts) (octets : List ℕ)
     → IsFront checkpoint_most (held name.now) octets
     → IfErr r (λ why. (fault : LoadFault) ×

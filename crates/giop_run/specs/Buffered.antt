@@ -1,6 +1,6 @@
 -- The octets in a buffer; and the log of lines that a buffer keeps back for a writer, as an out has
 -- a log (state).
-use Rattle.std.specs.Prelude.{ℕ, List, take, Option}
+use Rattle.std.specs.Prelude.{ℕ, ◌+◌, ◌-◌, ◌^◌, List, take, min, Option}
 use Rattle.std.specs.Io.KnownBytes.{append_known}
 use Rattle.giop_print.specs.Output.{OutLog}
 use Rattle.giop_run.specs.declared.buffer.Buffer.{Buffer}
@@ -14,11 +14,11 @@ buffered b = take b.kept b.octets.items
 abbrev pub lines_kept : {W : Type 0} → Lines W → List ℕ
 lines_kept l = buffered l.buffer
 
--- the log of lines: what the writer has, and after it the octets that are kept back; `contents` is
--- the writer's log
+-- the log of lines: what the writer has, and after it the octets that are kept back; and all puts,
+-- of which a count of 2^64 - 1 stays. `contents` is the writer's log
 abbrev pub lines_log : {W : Type 0} → (W → Option (List ℕ)) → Lines W → OutLog
 lines_log contents l = record {
   written = append_known (contents l.writer) (lines_kept l);
-  puts = l.puts;
+  puts = min (l.puts + l.buffer.recent) (2 ^ 64 - 1);
   failures = l.failures;
 }

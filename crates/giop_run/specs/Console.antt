@@ -7,8 +7,8 @@ use Rattle.giop_run.specs.Looks.{look_words, reason_words}
 use Rattle.giop_run.specs.Running.{RunSetup, Ran}
 use Rattle.giop_run.specs.declared.running.Report.{Report}
 use Rattle.giop_run.specs.declared.fault.RunFault.{RunFault}
-use Rattle.giop_run.specs.declared.fault.ProgramFault.{ProgramFault}
-use Rattle.giop_run.specs.declared.fault.ProgramFault.TheVariants as faults
+use Rattle.giop_run.specs.declared.fault.ProgramError.{ProgramError}
+use Rattle.giop_run.specs.declared.fault.ProgramError.TheVariants as faults
 
 -- a run whose engine held p did this with a source of these octets and an out
 pub record Dumped (w : RunSetup) (ran : Result Report RunFault) (p : List ℕ)
@@ -19,7 +19,7 @@ pub record Dumped (w : RunSetup) (ran : Result Report RunFault) (p : List ℕ)
 
 -- the status of a failure: 2 if the words of the command line are no text, 3 if a file is refused,
 -- 4 if a file can't be read or written or a run failed, 5 if there is no memory
-abbrev pub fault_status : ProgramFault → ℕ
+abbrev pub fault_status : ProgramError → ℕ
 fault_status faults.Words = 2
 fault_status (faults.Signatures name fault look) = 3
 fault_status (faults.Requests name fault) = 3
@@ -30,7 +30,7 @@ fault_status (faults.Run fault) = 4
 fault_status faults.OutOfMemory = 5
 
 -- the words that giopcap prints after a fault
-abbrev pub fault_words : ProgramFault → List ℕ
+abbrev pub fault_words : ProgramError → List ℕ
 fault_words (faults.Signatures name fault look) = look_words look
 fault_words (faults.Unreadable name why) = reason_words why
 fault_words faults.Words = []
@@ -41,7 +41,7 @@ fault_words (faults.Run fault) = []
 fault_words faults.OutOfMemory = []
 
 -- the fault of the run, if it is a run that failed
-abbrev pub run_fault : ProgramFault → Option RunFault
+abbrev pub run_fault : ProgramError → Option RunFault
 run_fault (faults.Run fault) = Some fault
 run_fault faults.Words = None
 run_fault (faults.Signatures name fault look) = None
@@ -57,11 +57,11 @@ ran_as (Some fault) = Some (Err fault)
 ran_as None = None
 
 -- the result of the run, by the result of the program; None if a step before the run failed
-abbrev pub run_of : Result Report ProgramFault → Option (Result Report RunFault)
+abbrev pub run_of : Result Report ProgramError → Option (Result Report RunFault)
 run_of (Ok report) = Some (Ok report)
 run_of (Err fault) = ran_as (run_fault fault)
 
 -- the program's status: 0 if no fault was counted, 1 if one was, or the status of the failure
-abbrev pub exit_status : Result Totals ProgramFault → ℕ
+abbrev pub exit_status : Result Totals ProgramError → ℕ
 exit_status (Ok totals) = if totals.faults == 0 then 0 else 1
 exit_status (Err fault) = fault_status fault

@@ -19,8 +19,8 @@ use Rattle.giop_run.specs.declared.running.Ending.{Ending}
 use Rattle.giop_run.specs.declared.running.Ending.TheVariants as endings
 use Rattle.giop_run.specs.declared.reason.Reason.{Reason}
 use Rattle.std.specs.declared.io.ErrorKind.{ErrorKind}
-use Rattle.giop_run.specs.declared.fault.ProgramFault.{ProgramFault}
-use Rattle.giop_run.specs.declared.fault.ProgramFault.TheVariants as faults
+use Rattle.giop_run.specs.declared.fault.ProgramError.{ProgramError}
+use Rattle.giop_run.specs.declared.fault.ProgramError.TheVariants as faults
 
 -- what the file of a name holds, if that is known
 abbrev pub Folder : Type 0
@@ -97,7 +97,7 @@ stream_of held given (Some name) = held name
 
 -- why there is no catalogue: there is no memory, or the signature file can't be read, or it is
 -- refused; the fault has the file's name, and tells what its text looks like
-abbrev pub NoCatalogue : Folder → Refusals → ℕ → Option (List ℕ) → ProgramFault → Type 0
+abbrev pub NoCatalogue : Folder → Refusals → ℕ → Option (List ℕ) → ProgramError → Type 0
 NoCatalogue held refuses latest asked (faults.Signatures name why look) =
     (asked ≡ Some name.now)
     × ((text : List ℕ) × IsFront signatures_most (held name.now) text × (look ≡ looks_of text)
@@ -114,7 +114,7 @@ NoCatalogue held refuses latest asked (faults.Run why) = ⊥
 
 -- why there is no request list for a catalogue: there is no memory, or the request file can't be
 -- read, or it is refused; the fault has the file's name
-abbrev pub NoRequests : Folder → Refusals → Table → Option (List ℕ) → ProgramFault → Type 0
+abbrev pub NoRequests : Folder → Refusals → Table → Option (List ℕ) → ProgramError → Type 0
 NoRequests held refuses C asked (faults.Requests name why) =
     (asked ≡ Some name.now)
     × ((text : List ℕ) × IsFront requests_most (held name.now) text
@@ -130,7 +130,7 @@ NoRequests held refuses C asked (faults.Run why) = ⊥
 
 -- why no checkpoint is loaded: there is no memory, or its file can't be read, or it is refused; the
 -- fault has the file's name
-abbrev pub NoCheckpoint : Folder → Refusals → Option (List ℕ) → Counts → ProgramFault → Type 0
+abbrev pub NoCheckpoint : Folder → Refusals → Option (List ℕ) → Counts → ProgramError → Type 0
 NoCheckpoint held refuses asked counts (faults.Checkpoint name why) =
     (asked ≡ Some name.now)
     × ((octets : List ℕ) × IsFront checkpoint_most (held name.now) octets
@@ -146,7 +146,7 @@ NoCheckpoint held refuses asked counts (faults.Run why) = ⊥
 
 -- why the stream isn't opened: there is no memory, or its file can't be opened; the fault has the
 -- file's name
-abbrev pub NoStream : Refusals → Option (List ℕ) → ProgramFault → Type 0
+abbrev pub NoStream : Refusals → Option (List ℕ) → ProgramError → Type 0
 NoStream refuses asked (faults.Unreadable name why) =
     (asked ≡ Some name.now) × CannotRead refuses name.now why
 NoStream refuses asked faults.OutOfMemory = Unit {0}
@@ -184,7 +184,7 @@ pub record ReadsBy (held : Folder) (asked : Asked) (C : Table) (kept : RequestTa
   pub requests : RequestsOf held asked.requests C kept
 
 -- a step before the run failed for this reason; the steps before it succeeded
-abbrev pub Refused : Folder → Refusals → Asked → ProgramFault → Type 0
+abbrev pub Refused : Folder → Refusals → Asked → ProgramError → Type 0
 Refused held refuses asked fault =
     NoCatalogue held refuses asked.latest asked.signatures fault
     ⊎ ((C : Table) × CatalogueOf held asked.latest asked.signatures C

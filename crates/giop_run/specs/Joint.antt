@@ -14,8 +14,8 @@ use Rattle.giop_run.specs.Looks.{looks_of}
 use Rattle.giop_run.specs.Files.{Folder, Refusals, CannotRead, signatures_most, IsFront, Declares}
 use Rattle.giop_run.specs.declared.reason.Look.{Look}
 use Rattle.giop_run.specs.declared.reason.Look.TheVariants as looks
-use Rattle.giop_run.specs.declared.fault.ProgramFault.{ProgramFault}
-use Rattle.giop_run.specs.declared.fault.ProgramFault.TheVariants as faults
+use Rattle.giop_run.specs.declared.fault.ProgramError.{ProgramError}
+use Rattle.giop_run.specs.declared.fault.ProgramError.TheVariants as faults
 
 -- these are the files of these names, each with the text that is read of it
 pub record AreRead (held : Folder) (names : List (List ℕ)) (files : List SignatureText) : Type 0
@@ -56,20 +56,20 @@ pub record IsRefusal (first : SignatureText) (others : List SignatureText) (faul
       → IsFirstRefusalUpTo 3 (text_of (first ∷ others)) fault
 
 -- the text of these files together is refused
-abbrev pub IsRefused : List SignatureText → ProgramFault → Type 0
+abbrev pub IsRefused : List SignatureText → ProgramError → Type 0
 IsRefused (first ∷ others) (faults.Signatures name why look) =
     (fault : SigFault) × IsRefusal first others fault why name.now look
 IsRefused files fault = ⊥
 
 -- one of the files of these names can't be read
-abbrev pub IsUnreadable : Refusals → List (List ℕ) → ProgramFault → Type 0
+abbrev pub IsUnreadable : Refusals → List (List ℕ) → ProgramError → Type 0
 IsUnreadable refuses names (faults.Unreadable name why) =
     Contains names name.now × CannotRead refuses name.now why
 IsUnreadable refuses names fault = ⊥
 
 -- why there is no catalogue: there is no memory, or one of the files can't be read, or their text
 -- is refused
-abbrev pub NoCatalogues : Folder → Refusals → List (List ℕ) → ProgramFault → Type 0
+abbrev pub NoCatalogues : Folder → Refusals → List (List ℕ) → ProgramError → Type 0
 NoCatalogues held refuses names fault =
     (fault ≡ faults.OutOfMemory) ⊎ IsUnreadable refuses names fault
     ⊎ ((files : List SignatureText) × AreRead held names files × IsRefused files fault)

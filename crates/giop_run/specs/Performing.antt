@@ -13,8 +13,8 @@ use Rattle.giop_run.specs.Saving.{Saved, SavedMore}
 use Rattle.giop_run.specs.declared.running.Report.{Report}
 use Rattle.giop_run.specs.declared.fault.RunFault.{RunFault}
 use Rattle.giop_run.specs.declared.fault.RunFault.TheVariants as fault
-use Rattle.giop_run.specs.declared.fault.ProgramFault.{ProgramFault}
-use Rattle.giop_run.specs.declared.fault.ProgramFault.TheVariants as faults
+use Rattle.giop_run.specs.declared.fault.ProgramError.{ProgramError}
+use Rattle.giop_run.specs.declared.fault.ProgramError.TheVariants as faults
 
 -- what the arguments ask for, and what can be read, if it is known: the files by their names, the
 -- errors for which they can't be read, and standard input
@@ -66,13 +66,13 @@ pub record Unsaved (t : Task) (name : List ℕ) (x y : OutLog) : Type 0 where
   pub run : Performed t (Ok report) x y
 
 -- A step before the run failed, and nothing is written.
-pub record NotRun (t : Task) (why : ProgramFault) (x y : OutLog) : Type 0 where
+pub record NotRun (t : Task) (why : ProgramError) (x y : OutLog) : Type 0 where
   pub refused : Refused t.held t.refuses t.asked why
   pub unwritten : y ≡ x
 
 -- what the program did, by the fault with which it failed; the engine of its run is never one that
 -- had failed
-abbrev pub FailedBy : Task → ProgramFault → OutLog → OutLog → Type 0
+abbrev pub FailedBy : Task → ProgramError → OutLog → OutLog → Type 0
 FailedBy t (faults.Run fault.Failed) x y = ⊥
 FailedBy t (faults.Run fault.Read) x y = Broken t fault.Read x y
 FailedBy t (faults.Run fault.Turns) x y = Broken t fault.Turns x y
@@ -86,14 +86,14 @@ FailedBy t (faults.Unreadable name why) x y = NotRun t (faults.Unreadable name w
 FailedBy t faults.OutOfMemory x y = NotRun t faults.OutOfMemory x y
 
 -- what the program did, by its result; if it failed, nothing is saved
-abbrev pub Did : Task → Result Totals ProgramFault → OutLog → OutLog → Option (List Saved)
+abbrev pub Did : Task → Result Totals ProgramError → OutLog → OutLog → Option (List Saved)
     → Option (List Saved) → Type 0
 Did t (Ok totals) x y a b = Completed t totals x y a b
 Did t (Err why) x y a b = FailedBy t why x y × (b ≡ a)
 
 -- what the last step did: its result is the run's, or the fault that the file which the arguments
 -- name can't be written
-abbrev pub Kept : Option (List ℕ) → Result Report ProgramFault → Result Totals ProgramFault
+abbrev pub Kept : Option (List ℕ) → Result Report ProgramError → Result Totals ProgramError
     → Option (List Saved) → Option (List Saved) → Type 0
 Kept asked (Ok report) (Ok totals) a b =
     (totals ≡ report.totals) × SavedIn asked report.kept a b

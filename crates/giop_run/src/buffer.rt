@@ -1,6 +1,6 @@
 //! A buffer of a fixed size. The octets that wait to be written stand at its start.
 
-ghost use Rattle.std.specs.Prelude.{◌≡◌, ◌+◌, ◌≤◌, [], ◌++◌, length, take, drop, IfOk};
+ghost use Rattle.std.specs.Prelude.{◌≡◌, ◌+◌, ◌≤◌, ◌<◌, [], ◌++◌, length, take, drop, IfOk};
 
 use std::alloc::{AllocError, Global};
 use std::simd::prelude::*;
@@ -14,8 +14,11 @@ pub(crate) struct Buffer {
     octets: Vec<u8>,
     // How many octets wait. They are the first ones of `octets`.
     kept: usize,
+    // How many puts have added octets since octets were last removed. Each of them added at least one.
+    recent: usize,
     ghost room: { length octets.items ≡ 65536 },
     ghost within: { kept ≤ 65536 },
+    ghost few: { recent ≤ kept },
 }
 
 impl Buffer {
@@ -23,11 +26,13 @@ impl Buffer {
 
     /// Makes an empty buffer. Its memory is taken here.
     pub(crate) fn new(alloc: Global) -> Result<Buffer, AllocError>
-        ensures { IfOk result (λ buffer. buffered buffer ≡ []) }
+        ensures octets { IfOk result (λ buffer. buffered buffer ≡ []) }
+        ensures recent { IfOk result (λ buffer. buffer.recent ≡ 0) }
     {
         Ok(Buffer {
             octets: vec![in alloc; 0; ROOM]?,
             kept: 0,
+            recent: 0,
         })
     }
 
@@ -50,16 +55,43 @@ impl Buffer {
     #[inline(always)]
     pub(crate) fn add(&mut self, octets: &[u8])
         requires { length (buffered self.old) + length octets.now ≤ 65536 }
-        ensures { buffered self.new ≡ buffered self.old ++ octets.now }
+        ensures octets { buffered self.new ≡ buffered self.old ++ octets.now }
+        ensures kept { self.new.kept ≡ self.old.kept + length octets.now }
+        ensures recent { self.new.recent ≡ self.old.recent }
     {
         copy(octets, &mut self.octets[self.kept..]);
         self.kept += octets.len();
     }
 
-    /// Removes the first octets, as many as `count` says.
+    /// Adds the octets of a put, at least one, and counts the put. The buffer must have room for them.
+    #[inline(always)]
+    pub(crate) fn add_put(&mut self, octets: &[u8])
+        requires some { 0 < length octets.now }
+        requires room { length (buffered self.old) + length octets.now ≤ 65536 }
+        ensures octets { buffered self.new ≡ buffered self.old ++ octets.now }
+        ensures recent { self.new.recent ≡ self.old.recent + 1 }
+    {
+        self.add(octets);
+        self.recent += 1;
+    }
+
+    /// How many puts were counted since this was last called.
+    pub(crate) fn take_recent(&mut self) -> usize
+        ensures value { result ≡ self.old.recent }
+        ensures octets { buffered self.new ≡ buffered self.old }
+        ensures recent { self.new.recent ≡ 0 }
+    {
+        let recent = self.recent;
+        self.recent = 0;
+        recent
+    }
+
+    /// Removes the first octets, as many as `count` says. All puts must have been taken.
     pub(crate) fn remove(&mut self, count: usize)
-        requires { count ≤ length (buffered self.old) }
-        ensures { buffered self.new ≡ drop count (buffered self.old) }
+        requires within { count ≤ length (buffered self.old) }
+        requires taken { self.old.recent ≡ 0 }
+        ensures octets { buffered self.new ≡ drop count (buffered self.old) }
+        ensures recent { self.new.recent ≡ 0 }
     {
         self.octets.copy_within(count..self.kept, 0);
         self.kept -= count;

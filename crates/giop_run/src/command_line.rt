@@ -5,7 +5,7 @@ ghost use Rattle.std.specs.Prelude.{◌≡◌, ◌≢◌, ◌⊎◌, IfErr};
 ghost use Rattle.clap.specs.Values.{kind_of};
 ghost use Rattle.giop_run.specs.Console.{fault_status};
 
-use super::fault::ProgramFault;
+use super::fault::ProgramError;
 use super::reason::Look;
 use super::shown::{ShownName, ShownText};
 use clap::Error;
@@ -19,22 +19,22 @@ const USAGE: u8 = 2;
 const FAILED: u8 = 4;
 
 /// The words of the command line. The first one is the program's name.
-pub fn words<'a>(rt: &HostRuntime) -> Result<Vec<String>, ProgramFault<'a>>
+pub fn words<'a>(rt: &HostRuntime) -> Result<Vec<String>, ProgramError<'a>>
     ensures { IfErr result (λ fault.
-        (fault ≡ ProgramFault.Words) ⊎ (fault ≡ ProgramFault.OutOfMemory)) }
+        (fault ≡ ProgramError.Words) ⊎ (fault ≡ ProgramError.OutOfMemory)) }
 {
     let words = match env::args(rt) {
         Ok(words) => words,
-        Err(error) => return Err(ProgramFault::of_words(&error)),
+        Err(error) => return Err(ProgramError::of_words(&error)),
     };
     match words.collect::<Vec<String>>(rt.alloc()) {
         Ok(words) => Ok(words),
-        Err(_) => Err(ProgramFault::OutOfMemory),
+        Err(_) => Err(ProgramError::OutOfMemory),
     }
 }
 
 /// Prints why the program of this name failed, and returns its status.
-pub fn failed(rt: &HostRuntime, program: &str, fault: &ProgramFault) -> u8
+pub fn failed(rt: &HostRuntime, program: &str, fault: &ProgramError) -> u8
     ensures { result ≡ fault_status fault.now }
 {
     let _ = eprintln!(rt; "{program}: {fault}");
@@ -43,11 +43,11 @@ pub fn failed(rt: &HostRuntime, program: &str, fault: &ProgramFault) -> u8
 
 /// Prints why the program of this name failed, and returns its status. It also prints why a file can't be read, what a
 /// refused signature file looks like, or where the name of a refused line is declared before.
-pub fn explained(rt: &HostRuntime, program: &str, fault: &ProgramFault) -> u8
+pub fn explained(rt: &HostRuntime, program: &str, fault: &ProgramError) -> u8
     ensures { result ≡ fault_status fault.now }
 {
     let _ = match fault {
-        ProgramFault::Signatures {
+        ProgramError::Signatures {
             look: Look::Declared { name, line },
             ..
         } => eprintln!(rt; "{program}: {fault}: {}:{line}", ShownName(name)),
@@ -67,7 +67,7 @@ pub fn refused(rt: &HostRuntime, program: &str, error: &Error) -> u8
         → (result ≡ 2) ⊎ (result ≡ 4) }
 {
     if error.kind() == ErrorKind::OutOfMemory {
-        return failed(rt, program, &ProgramFault::OutOfMemory);
+        return failed(rt, program, &ProgramError::OutOfMemory);
     }
     let printed = if error.use_stderr() {
         rt.eprint(ShownText(error))

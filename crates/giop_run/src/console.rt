@@ -5,7 +5,7 @@ ghost use Rattle.giop_stream.specs.EngineHolds.{Holds};
 ghost use Rattle.giop_run.specs.Running.{HasKept, Ran, Refused, setup_of};
 ghost use Rattle.giop_run.specs.Console.{exit_status};
 
-use super::fault::{ProgramFault, RunFault};
+use super::fault::{ProgramError, RunFault};
 use super::flush::{Flush, Flushed};
 use super::running::{Ending, Report, run_by};
 use super::source::Source;
@@ -37,7 +37,7 @@ pub fn dump<'a, S: Source, O: Flush>(
 }
 
 /// The status that the program ends with: 0, or 1 if a fault was counted, or the status of the failure.
-pub fn status(ended: &Result<Totals, ProgramFault>) -> u8
+pub fn status(ended: &Result<Totals, ProgramError>) -> u8
     ensures { result ≡ exit_status ended.now }
 {
     match ended {

@@ -39,7 +39,7 @@ pub enum RunFault {
 
 /// Why the program failed. `Display` is what it prints after its name (docs/FORMATS.md, The program).
 #[derive(Clone, Copy, Debug, Drop, PartialEq, Eq, Error)]
-pub enum ProgramFault<'a> {
+pub enum ProgramError<'a> {
     /// A word of the command line is no text.
     #[error("a word of the command line is not UTF-8")]
     Words,
@@ -81,30 +81,30 @@ pub enum ProgramFault<'a> {
     OutOfMemory,
 }
 
-impl<'a> ProgramFault<'a> {
+impl<'a> ProgramError<'a> {
     /// The fault for words of the command line that can't be read.
-    pub fn of_words(error: &io::Error) -> ProgramFault<'a>
-        ensures text { error_kind error.now ≡ ErrorKind.InvalidData → result ≡ ProgramFault.Words }
+    pub fn of_words(error: &io::Error) -> ProgramError<'a>
+        ensures text { error_kind error.now ≡ ErrorKind.InvalidData → result ≡ ProgramError.Words }
         ensures memory { error_kind error.now ≢ ErrorKind.InvalidData
-            → result ≡ ProgramFault.OutOfMemory }
+            → result ≡ ProgramError.OutOfMemory }
     {
         if error.kind() == ErrorKind::InvalidData {
-            ProgramFault::Words
+            ProgramError::Words
         } else {
-            ProgramFault::OutOfMemory
+            ProgramError::OutOfMemory
         }
     }
 
     /// The fault for a signature file of this name, with this text, that is refused.
-    pub fn of_signatures(name: &'a str, fault: SigFault, text: &[u8]) -> ProgramFault<'a>
-        ensures memory { fault.kind ≡ SigFaultKind.OutOfMemory → result ≡ ProgramFault.OutOfMemory }
+    pub fn of_signatures(name: &'a str, fault: SigFault, text: &[u8]) -> ProgramError<'a>
+        ensures memory { fault.kind ≡ SigFaultKind.OutOfMemory → result ≡ ProgramError.OutOfMemory }
         ensures refused { fault.kind ≢ SigFaultKind.OutOfMemory
-            → result ≡ ProgramFault.Signatures name.entry fault (looks_of text.now) }
+            → result ≡ ProgramError.Signatures name.entry fault (looks_of text.now) }
     {
         if fault.kind == SigFaultKind::OutOfMemory {
-            return ProgramFault::OutOfMemory;
+            return ProgramError::OutOfMemory;
         }
-        ProgramFault::Signatures {
+        ProgramError::Signatures {
             name,
             fault,
             look: Look::of(text),
@@ -112,28 +112,28 @@ impl<'a> ProgramFault<'a> {
     }
 
     /// The fault for a request list of this name that is refused.
-    pub fn of_requests(name: &'a str, fault: ListFault) -> ProgramFault<'a>
+    pub fn of_requests(name: &'a str, fault: ListFault) -> ProgramError<'a>
         ensures memory { fault.kind ≡ ListFaultKind.OutOfMemory →
-            result ≡ ProgramFault.OutOfMemory }
+            result ≡ ProgramError.OutOfMemory }
         ensures refused { fault.kind ≢ ListFaultKind.OutOfMemory
-            → result ≡ ProgramFault.Requests name.entry fault }
+            → result ≡ ProgramError.Requests name.entry fault }
     {
         if fault.kind == ListFaultKind::OutOfMemory {
-            return ProgramFault::OutOfMemory;
+            return ProgramError::OutOfMemory;
         }
-        ProgramFault::Requests { name, fault }
+        ProgramError::Requests { name, fault }
     }
 
     /// The fault for a checkpoint of this name that is refused.
-    pub fn of_checkpoint(name: &'a str, fault: LoadFault) -> ProgramFault<'a>
-        ensures memory { fault ≡ LoadFault.OutOfMemory → result ≡ ProgramFault.OutOfMemory }
+    pub fn of_checkpoint(name: &'a str, fault: LoadFault) -> ProgramError<'a>
+        ensures memory { fault ≡ LoadFault.OutOfMemory → result ≡ ProgramError.OutOfMemory }
         ensures refused { fault ≢ LoadFault.OutOfMemory
-            → result ≡ ProgramFault.Checkpoint name.entry fault }
+            → result ≡ ProgramError.Checkpoint name.entry fault }
     {
         if fault == LoadFault::OutOfMemory {
-            return ProgramFault::OutOfMemory;
+            return ProgramError::OutOfMemory;
         }
-        ProgramFault::Checkpoint { name, fault }
+        ProgramError::Checkpoint { name, fault }
     }
 
     /// What `giopcap` prints after the fault: why a file can't be read, or what a refused signature file looks like.
@@ -141,8 +141,8 @@ impl<'a> ProgramFault<'a> {
         ensures { result.now ≡ fault_words self.now }
     {
         match self {
-            ProgramFault::Unreadable { why, .. } => why.words(),
-            ProgramFault::Signatures { look, .. } => look.words(),
+            ProgramError::Unreadable { why, .. } => why.words(),
+            ProgramError::Signatures { look, .. } => look.words(),
             _ => "",
         }
     }
@@ -152,14 +152,14 @@ impl<'a> ProgramFault<'a> {
         ensures { result ≡ fault_status self.now }
     {
         match self {
-            ProgramFault::Words => 2,
-            ProgramFault::Signatures { .. }
-            | ProgramFault::Requests { .. }
-            | ProgramFault::Checkpoint { .. } => 3,
-            ProgramFault::Unreadable { .. }
-            | ProgramFault::Unwritable { .. }
-            | ProgramFault::Run(_) => 4,
-            ProgramFault::OutOfMemory => 5,
+            ProgramError::Words => 2,
+            ProgramError::Signatures { .. }
+            | ProgramError::Requests { .. }
+            | ProgramError::Checkpoint { .. } => 3,
+            ProgramError::Unreadable { .. }
+            | ProgramError::Unwritable { .. }
+            | ProgramError::Run(_) => 4,
+            ProgramError::OutOfMemory => 5,
         }
     }
 }

@@ -12,7 +12,7 @@ ghost use Rattle.giop_run.specs.Fronts.{Appended};
 ghost use Rattle.giop_run.specs.Files.{signatures_most, latest, CannotRead, IsFront, Declares, Requests as Requested, CatalogueOf, RequestsOf, NoCatalogue, NoRequests, NoStream};
 ghost use Rattle.giop_run.specs.SourceLog.{unread};
 
-use super::fault::ProgramFault;
+use super::fault::ProgramError;
 use super::inputs::Inputs;
 use super::reason::Reason;
 use super::source::{Source, one_more};
@@ -71,20 +71,20 @@ pub fn front<S: Source>(alloc: Global, source: &mut S, most: u64) -> io::Result<
 }
 
 /// The fault for a file of this name that can't be read.
-fn unreadable<'a>(name: &'a str, error: &io::Error) -> ProgramFault<'a>
+fn unreadable<'a>(name: &'a str, error: &io::Error) -> ProgramError<'a>
     ensures memory { error_kind error.now ≡ ErrorKind.OutOfMemory →
-        result ≡ ProgramFault.OutOfMemory }
+        result ≡ ProgramError.OutOfMemory }
     ensures named { error_kind error.now ≢ ErrorKind.OutOfMemory
-        → (why : Reason) × (result ≡ ProgramFault.Unreadable name.entry why)
+        → (why : Reason) × (result ≡ ProgramError.Unreadable name.entry why)
         × HasReason (error_kind error.now) why }
-    ensures either { (result ≡ ProgramFault.OutOfMemory)
-        ⊎ ((why : Reason) × (result ≡ ProgramFault.Unreadable name.entry why)
+    ensures either { (result ≡ ProgramError.OutOfMemory)
+        ⊎ ((why : Reason) × (result ≡ ProgramError.Unreadable name.entry why)
         × HasReason (error_kind error.now) why) }
 {
     if error.kind() == ErrorKind::OutOfMemory {
-        ProgramFault::OutOfMemory
+        ProgramError::OutOfMemory
     } else {
-        ProgramFault::Unreadable {
+        ProgramError::Unreadable {
             name,
             why: Reason::of(error.kind()),
         }
@@ -92,7 +92,7 @@ fn unreadable<'a>(name: &'a str, error: &io::Error) -> ProgramFault<'a>
 }
 
 /// Opens a file. Nothing of it has been read.
-pub fn opened<'a, R: Inputs>(rt: &R, name: &'a str) -> Result<R::File, ProgramFault<'a>>
+pub fn open_file<'a, R: Inputs>(rt: &R, name: &'a str) -> Result<R::File, ProgramError<'a>>
     ensures ok { IfOk result (λ file. R.File.log file ≡ unread (R.held rt.now name.entry.now)) }
     ensures err { IfErr result (NoStream (R.refuses rt.now) (Some name.entry.now)) }
 {
@@ -119,11 +119,11 @@ pub(crate) fn contents<'a, R: Inputs + AllocGlobal>(
     rt: &R,
     name: &'a str,
     most: u64,
-) -> Result<Vec<u8>, ProgramFault<'a>>
+) -> Result<Vec<u8>, ProgramError<'a>>
     ensures ok { IfOk result (λ octets. IsFront most (R.held rt.now name.entry.now) octets.items) }
     ensures err { IfErr result (λ fault.
-        (fault ≡ ProgramFault.OutOfMemory)
-        ⊎ ((why : Reason) × (fault ≡ ProgramFault.Unreadable name.entry why)
+        (fault ≡ ProgramError.OutOfMemory)
+        ⊎ ((why : Reason) × (fault ≡ ProgramError.Unreadable name.entry why)
         × CannotRead (R.refuses rt.now) name.entry.now why)) }
 {
     match opened_front(rt, name, most) {
@@ -153,18 +153,18 @@ fn catalogue_of<'a>(
     name: &'a str,
     text: &[u8],
     third: bool,
-) -> Result<Catalogue, ProgramFault<'a>>
+) -> Result<Catalogue, ProgramError<'a>>
     ensures ok { IfOk result (Declares (latest third) text.now) }
     // If the file is refused, the fault has its name, and the refusal is the refusal of the text.
-    ensures err { IfErr result (λ fault. (fault ≡ ProgramFault.OutOfMemory)
+    ensures err { IfErr result (λ fault. (fault ≡ ProgramError.OutOfMemory)
         ⊎ ((why : SigFault)
-        × (fault ≡ ProgramFault.Signatures name.entry why (looks_of text.now))
+        × (fault ≡ ProgramError.Signatures name.entry why (looks_of text.now))
         × (signatures_most < length text.now → why ≡ text_too_long)
         × (length text.now ≤ signatures_most → IsFirstRefusalUpTo (latest third) text.now why))) }
 {
     match parsed(alloc, text, third) {
         Ok(catalogue) => Ok(catalogue),
-        Err(fault) => Err(ProgramFault::of_signatures(name, fault, text)),
+        Err(fault) => Err(ProgramError::of_signatures(name, fault, text)),
     }
 }
 
@@ -174,7 +174,7 @@ pub fn catalogue<'a, R: Inputs + AllocGlobal>(
     rt: &R,
     name: Option<&'a str>,
     third: bool,
-) -> Result<Catalogue, ProgramFault<'a>>
+) -> Result<Catalogue, ProgramError<'a>>
     ensures ok { IfOk result
         (CatalogueOf (R.held rt.now) (latest third) (option_map (λ n. n.now) name.entry)) }
     ensures err { IfErr result (NoCatalogue (R.held rt.now) (R.refuses rt.now) (latest third)
@@ -185,7 +185,7 @@ pub fn catalogue<'a, R: Inputs + AllocGlobal>(
     let Some(name) = name else {
         return match Catalogue::builtin(alloc) {
             Ok(catalogue) => Ok(catalogue),
-            Err(_) => Err(ProgramFault::OutOfMemory),
+            Err(_) => Err(ProgramError::OutOfMemory),
         };
     };
     let text = contents(rt, name, SIGNATURES_MOST)?;
@@ -198,16 +198,16 @@ fn requests_of<'a>(
     name: &'a str,
     text: &[u8],
     catalogue: &Catalogue,
-) -> Result<Requests, ProgramFault<'a>>
+) -> Result<Requests, ProgramError<'a>>
     ensures ok { IfOk result (λ kept. Requested text.now catalogue.now kept) }
     // If the file is refused, the fault has its name, and the refusal is the refusal of the text.
-    ensures err { IfErr result (λ fault. (fault ≡ ProgramFault.OutOfMemory)
-        ⊎ ((why : ListFault) × (fault ≡ ProgramFault.Requests name.entry why)
+    ensures err { IfErr result (λ fault. (fault ≡ ProgramError.OutOfMemory)
+        ⊎ ((why : ListFault) × (fault ≡ ProgramError.Requests name.entry why)
         × IsRefusedAs (third_in catalogue.now) text.now why.line why.kind)) }
 {
     match Requests::parse(alloc, text, catalogue) {
         Ok(requests) => Ok(requests),
-        Err(fault) => Err(ProgramFault::of_requests(name, fault)),
+        Err(fault) => Err(ProgramError::of_requests(name, fault)),
     }
 }
 
@@ -216,7 +216,7 @@ pub fn requests<'a, R: Inputs + AllocGlobal>(
     rt: &R,
     name: Option<&'a str>,
     catalogue: &Catalogue,
-) -> Result<Requests, ProgramFault<'a>>
+) -> Result<Requests, ProgramError<'a>>
     ensures of { IfOk result (λ kept. AreOf catalogue.now kept) }
     ensures ok { IfOk result
         (RequestsOf (R.held rt.now) (option_map (λ n. n.now) name.entry) catalogue.now) }
@@ -228,7 +228,7 @@ pub fn requests<'a, R: Inputs + AllocGlobal>(
     let Some(name) = name else {
         return match Requests::parse(alloc, &[], catalogue) {
             Ok(requests) => Ok(requests),
-            Err(_) => Err(ProgramFault::OutOfMemory),
+            Err(_) => Err(ProgramError::OutOfMemory),
         };
     };
     let text = contents(rt, name, REQUESTS_MOST)?;

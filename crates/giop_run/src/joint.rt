@@ -8,7 +8,7 @@ ghost use Rattle.giop_run.specs.Console.{run_fault};
 ghost use Rattle.giop_run.specs.Files.{signatures_most, Declares};
 ghost use Rattle.giop_run.specs.Joint.{AreRead, text_of, CataloguesOf, IsLook, IsRefusal, IsRefused, IsUnreadable, NoCatalogues};
 
-use super::fault::ProgramFault;
+use super::fault::ProgramError;
 use super::files::{SIGNATURES_MOST, contents};
 use super::inputs::Inputs;
 use super::reason::Look;
@@ -21,17 +21,17 @@ use std::alloc::Global;
 fn signature_texts<'a, R: Inputs + AllocGlobal>(
     rt: &R,
     names: &[&'a str],
-) -> Result<Vec<SignatureText<'a>>, ProgramFault<'a>>
+) -> Result<Vec<SignatureText<'a>>, ProgramError<'a>>
     ensures ok { IfOk result (λ files.
         AreRead (R.held rt.now) (map (λ name. name.now) names.now) files.items) }
-    ensures err { IfErr result (λ fault. (fault ≡ ProgramFault.OutOfMemory)
+    ensures err { IfErr result (λ fault. (fault ≡ ProgramError.OutOfMemory)
         ⊎ IsUnreadable (R.refuses rt.now) (map (λ name. name.now) names.now) fault) }
 {
     let mut files = Vec::new(rt.alloc());
     for name in names {
         let text = contents(rt, name, SIGNATURES_MOST)?;
         if files.push(SignatureText { name, text }).is_err() {
-            return Err(ProgramFault::OutOfMemory);
+            return Err(ProgramError::OutOfMemory);
         }
     }
     Ok(files)
@@ -65,17 +65,17 @@ fn refusal<'a>(
     others: &[SignatureText<'a>],
     text: &[u8],
     fault: SigFault,
-) -> ProgramFault<'a>
+) -> ProgramError<'a>
     requires text { text.now ≡ text_of (first.now ∷ others.now) }
     requires long { signatures_most < length text.now → fault ≡ text_too_long }
     requires refused { length text.now ≤ signatures_most → IsFirstRefusalUpTo 3 text.now fault }
-    ensures { (result ≡ ProgramFault.OutOfMemory) ⊎ IsRefused (first.now ∷ others.now) result }
+    ensures { (result ≡ ProgramError.OutOfMemory) ⊎ IsRefused (first.now ∷ others.now) result }
 {
     if fault.kind == SigFaultKind::OutOfMemory {
-        return ProgramFault::OutOfMemory;
+        return ProgramError::OutOfMemory;
     }
     let (file, line) = place(first, others, fault.line);
-    ProgramFault::Signatures {
+    ProgramError::Signatures {
         name: file.name,
         fault: SigFault {
             line,
@@ -89,20 +89,20 @@ fn refusal<'a>(
 fn catalogue_of_files<'a>(
     alloc: Global,
     files: &[SignatureText<'a>],
-) -> Result<Catalogue, ProgramFault<'a>>
+) -> Result<Catalogue, ProgramError<'a>>
     ensures builtin { files.now ≡ [] → IfOk result (λ C. C ≡ builtin_table) }
     ensures ok { files.now ≢ [] → IfOk result (Declares 3 (text_of files.now)) }
-    ensures err { IfErr result (λ fault. (fault ≡ ProgramFault.OutOfMemory)
+    ensures err { IfErr result (λ fault. (fault ≡ ProgramError.OutOfMemory)
         ⊎ IsRefused files.now fault) }
 {
     let Some((first, others)) = files.split_first() else {
         return match Catalogue::builtin(alloc) {
             Ok(catalogue) => Ok(catalogue),
-            Err(_) => Err(ProgramFault::OutOfMemory),
+            Err(_) => Err(ProgramError::OutOfMemory),
         };
     };
     let Ok(text) = joined(alloc, files) else {
-        return Err(ProgramFault::OutOfMemory);
+        return Err(ProgramError::OutOfMemory);
     };
     match Catalogue::parse_types(alloc, text.as_slice()) {
         Ok(catalogue) => Ok(catalogue),
@@ -115,7 +115,7 @@ fn catalogue_of_files<'a>(
 pub fn joint_catalogue<'a, R: Inputs + AllocGlobal>(
     rt: &R,
     names: &[&'a str],
-) -> Result<Catalogue, ProgramFault<'a>>
+) -> Result<Catalogue, ProgramError<'a>>
     ensures ok { IfOk result (CataloguesOf (R.held rt.now) (map (λ name. name.now) names.now)) }
     ensures err { IfErr result (NoCatalogues (R.held rt.now) (R.refuses rt.now)
         (map (λ name. name.now) names.now)) }

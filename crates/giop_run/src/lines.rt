@@ -17,6 +17,7 @@ use std::io::Write;
 pub struct Lines<W: Write + Drop> {
     writer: W,
     buffer: Buffer,
+    // How many puts there were, without those that the buffer counts.
     puts: u64,
     failures: u64,
 }
@@ -46,14 +47,25 @@ impl<W: Write + Drop> Lines<W> {
         &self.writer
     }
 
+    /// Counts the puts that the buffer counts with those before them.
+    fn settle(&mut self)
+        ensures log { lines_log W.contents self.new ≡ lines_log W.contents self.old }
+        ensures kept { lines_kept self.new ≡ lines_kept self.old }
+        ensures none { self.new.buffer.recent ≡ 0 }
+    {
+        self.puts = self.puts.saturating_add(self.buffer.take_recent() as u64);
+    }
+
     /// Gives the octets that are kept back to the writer. Those that the writer doesn't take stay.
     fn hand_on(&mut self) -> Result<(), OutFault>
         ensures written { Keeps (lines_log W.contents self.old).written
             (lines_log W.contents self.new).written }
-        ensures puts { self.new.puts ≡ self.old.puts }
+        ensures puts { (lines_log W.contents self.new).puts ≡ (lines_log W.contents self.old).puts }
         ensures fails { self.new.failures ≡ self.old.failures }
         ensures none { OnOk result (lines_kept self.new ≡ []) }
+        ensures recent { self.new.buffer.recent ≡ 0 }
     {
+        self.settle();
         let octets = self.buffer.octets();
         let taken = hand_over(&mut self.writer, octets);
         let is_all = taken == octets.len();
@@ -61,7 +73,7 @@ impl<W: Write + Drop> Lines<W> {
         if is_all { Ok(()) } else { Err(OutFault) }
     }
 
-    /// Puts octets for which there is no room: first gives the octets that are kept back to the writer.
+    /// Puts octets for which there is no room, or none: first gives the octets that are kept back to the writer.
     #[cold]
     #[inline(never)]
     fn put_behind(&mut self, octets: &[u8]) -> Result<usize, OutFault>
@@ -69,6 +81,7 @@ impl<W: Write + Drop> Lines<W> {
             (λ n. Took (lines_log W.contents self.old) (lines_log W.contents self.new) octets.now n)
             (λ _. Failed (lines_log W.contents self.old) (lines_log W.contents self.new)) }
     {
+        self.settle();
         self.puts = one_more(self.puts);
         if self.hand_on().is_err() {
             self.failures = one_more(self.failures);
@@ -98,13 +111,12 @@ impl<W: Write + Drop> Out for Lines<W> {
 
     #[inline]
     fn put(&mut self, octets: &[u8]) -> Result<usize, OutFault> {
-        if octets.len() > self.buffer.left() {
+        if octets.is_empty() || octets.len() > self.buffer.left() {
             // An answer that is handed on whole is tested by the caller after the usual put too.
             let taken = self.put_behind(octets)?;
             return Ok(taken);
         }
-        self.puts = one_more(self.puts);
-        self.buffer.add(octets);
+        self.buffer.add_put(octets);
         Ok(octets.len())
     }
 

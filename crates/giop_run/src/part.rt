@@ -59,7 +59,7 @@ impl Rights {
 }
 
 /// Writes the checkpoint to a part, and renames the part to the name of this file.
-pub(crate) fn replaced(rt: &HostRuntime, name: &str, engine: &Engine) -> io::Result<()> {
+pub(crate) fn replace_file(rt: &HostRuntime, name: &str, engine: &Engine) -> io::Result<()> {
     for attempt in 0..TRIES {
         let mut room = [0; NAME_ROOM];
         let Some(part) = part_name(name, process::id(rt.process()), attempt, &mut room) else {
@@ -68,7 +68,7 @@ pub(crate) fn replaced(rt: &HostRuntime, name: &str, engine: &Engine) -> io::Res
         match new_part(rt, part) {
             Err(error) if error.kind() == ErrorKind::AlreadyExists => {}
             Err(error) => return Err(error),
-            Ok(file) => return renamed(rt, part, name, written(rt, name, &file, engine)),
+            Ok(file) => return rename_part(rt, part, name, write_part(rt, name, &file, engine)),
         }
     }
     Err(io::Error::from(ErrorKind::AlreadyExists))
@@ -82,7 +82,12 @@ fn new_part(rt: &HostRuntime, part: &str) -> io::Result<File> {
 }
 
 /// Renames a part to the name of the file if it was written. If the writing or the renaming failed, removes the part.
-fn renamed(rt: &HostRuntime, part: &str, name: &str, written: io::Result<()>) -> io::Result<()> {
+fn rename_part(
+    rt: &HostRuntime,
+    part: &str,
+    name: &str,
+    written: io::Result<()>,
+) -> io::Result<()> {
     let renamed = match written {
         Ok(()) => fs::rename(rt, part, name),
         Err(error) => Err(error),
@@ -95,7 +100,7 @@ fn renamed(rt: &HostRuntime, part: &str, name: &str, written: io::Result<()>) ->
 
 /// Writes the checkpoint to a part. After that the part gets the rights of the file that it will replace, if it may have
 /// them.
-fn written(rt: &HostRuntime, name: &str, part: &File, engine: &Engine) -> io::Result<()> {
+fn write_part(rt: &HostRuntime, name: &str, part: &File, engine: &Engine) -> io::Result<()> {
     put_into(part, engine)?;
     let own = Rights::of(&part.metadata()?);
     if let Some(mode) = kept_mode(own, Rights::of_name(rt, name)) {

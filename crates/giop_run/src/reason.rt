@@ -93,7 +93,7 @@ impl<'a> Look<'a> {
 
 /// Whether a text begins with these octets.
 #[tactic(auto, unfolding(crate::specs::Looks::begins))]
-fn begins(text: &[u8], octets: &[u8]) -> bool
+fn begins_with(text: &[u8], octets: &[u8]) -> bool
     ensures { result ≡ begins octets.now text.now }
 {
     text.starts_with(octets)
@@ -103,25 +103,25 @@ fn begins(text: &[u8], octets: &[u8]) -> bool
 fn begins_capture(text: &[u8]) -> bool
     ensures { result ≡ begins_capture text.now }
 {
-    begins(text, &[0xa1, 0xb2, 0xc3, 0xd4])
-        || begins(text, &[0xd4, 0xc3, 0xb2, 0xa1])
-        || begins(text, &[0xa1, 0xb2, 0x3c, 0x4d])
-        || begins(text, &[0x4d, 0x3c, 0xb2, 0xa1])
-        || begins(text, &[0x0a, 0x0d, 0x0d, 0x0a])
+    begins_with(text, &[0xa1, 0xb2, 0xc3, 0xd4])
+        || begins_with(text, &[0xd4, 0xc3, 0xb2, 0xa1])
+        || begins_with(text, &[0xa1, 0xb2, 0x3c, 0x4d])
+        || begins_with(text, &[0x4d, 0x3c, 0xb2, 0xa1])
+        || begins_with(text, &[0x0a, 0x0d, 0x0d, 0x0a])
 }
 
 /// Whether a text begins with a word or sign that IDL has there and no signature file has.
 fn begins_idl(text: &[u8]) -> bool
     ensures { result ≡ begins_idl text.now }
 {
-    begins(text, b"#")
-        || begins(text, b"/*")
-        || begins(text, b"module")
-        || begins(text, b"interface")
-        || begins(text, b"typedef")
-        || begins(text, b"const")
-        || begins(text, b"abstract")
-        || begins(text, b"local")
-        || begins(text, b"valuetype")
-        || begins(text, b"native")
+    begins_with(text, b"#")
+        || begins_with(text, b"/*")
+        || begins_with(text, b"module")
+        || begins_with(text, b"interface")
+        || begins_with(text, b"typedef")
+        || begins_with(text, b"const")
+        || begins_with(text, b"abstract")
+        || begins_with(text, b"local")
+        || begins_with(text, b"valuetype")
+        || begins_with(text, b"native")
 }

@@ -8,32 +8,32 @@ ghost use Rattle.giop_stream.specs.EngineHolds.{AreOf, Holds};
 ghost use Rattle.giop_run.specs.Console.{run_fault};
 ghost use Rattle.giop_run.specs.Files.{NoCheckpoint, GoesOn, checkpoint_most, IsFront};
 
-use super::fault::ProgramFault;
+use super::fault::ProgramError;
 use super::files::contents;
 use super::inputs::Inputs;
 use giop_checkpoint::LoadFault;
 use giop_sig::{Catalogue, Requests};
-use giop_stream::{Engine, NewFault};
+use giop_stream::{Engine, NewError};
 use std::alloc::Global;
 
 /// The greatest size of a checkpoint, in octets. A longer one is refused when it is loaded.
 const CHECKPOINT_MOST: u64 = 3_408_800;
 
 /// Loads an engine from the octets of a checkpoint.
-fn loaded<'a, 'c>(
+fn load_checkpoint<'a, 'c>(
     alloc: Global,
     name: &'a str,
     octets: &[u8],
     catalogue: &'c Catalogue,
     requests: &'c Requests,
-) -> Result<Engine<'c>, ProgramFault<'a>>
+) -> Result<Engine<'c>, ProgramError<'a>>
     requires of { AreOf catalogue.now requests.now }
     ensures again { IfOk result (λ e. (n : ℕ) (p : List ℕ)
         → Spells octets.now catalogue.now requests.now n p → (e.most ≡ n) × Holds e p) }
     ensures ours { IfOk result (λ e. IsOurs (counts_of catalogue.now requests.now) octets.now) }
     ensures err { IfErr result (λ fault. (why : LoadFault)
-        × (why ≡ LoadFault.OutOfMemory → fault ≡ ProgramFault.OutOfMemory)
-        × (why ≢ LoadFault.OutOfMemory → fault ≡ ProgramFault.Checkpoint name.entry why)
+        × (why ≡ LoadFault.OutOfMemory → fault ≡ ProgramError.OutOfMemory)
+        × (why ≢ LoadFault.OutOfMemory → fault ≡ ProgramError.Checkpoint name.entry why)
         × IsRefused (counts_of catalogue.now requests.now) octets.now why) }
     ensures sound { IfOk result (λ e. e.failed ≡ false) }
     ensures table { IfOk result (λ e. e.table ≡ catalogue.now) }
@@ -41,18 +41,18 @@ fn loaded<'a, 'c>(
 {
     match Engine::load(alloc, catalogue, requests, octets) {
         Ok(engine) => Ok(engine),
-        Err(fault) => Err(ProgramFault::of_checkpoint(name, fault)),
+        Err(fault) => Err(ProgramError::of_checkpoint(name, fault)),
     }
 }
 
 /// Loads the engine from a checkpoint file. If there is no file, makes a new engine for `most` open messages.
-pub fn resumed<'a, 'c, R: Inputs + AllocGlobal>(
+pub fn resume<'a, 'c, R: Inputs + AllocGlobal>(
     rt: &R,
     name: Option<&'a str>,
     most: u32,
     catalogue: &'c Catalogue,
     requests: &'c Requests,
-) -> Result<Engine<'c>, ProgramFault<'a>>
+) -> Result<Engine<'c>, ProgramError<'a>>
     requires of { AreOf catalogue.now requests.now }
     requires range { (1 ≤ most) × (most ≤ most_open) }
     ensures ok { let asked = option_map (λ n. n.now) name.entry in
@@ -69,9 +69,9 @@ pub fn resumed<'a, 'c, R: Inputs + AllocGlobal>(
     let Some(name) = name else {
         return match Engine::new(rt.alloc(), catalogue, requests, most) {
             Ok(engine) => Ok(engine),
-            Err(NewFault::OutOfMemory) => Err(ProgramFault::OutOfMemory),
+            Err(NewError::OutOfMemory) => Err(ProgramError::OutOfMemory),
         };
     };
     let octets = contents(rt, name, CHECKPOINT_MOST)?;
-    loaded(rt.alloc(), name, &octets, catalogue, requests)
+    load_checkpoint(rt.alloc(), name, &octets, catalogue, requests)
 }

@@ -210,13 +210,13 @@ fn close<'a, O: Out, F: Between<O>>(
     ensures causes { IfErr result IsOfWriting }
 {
     match ending {
-        Ending::Finish => finished::<O, F>(engine, out),
-        Ending::Keep => kept::<O, F>(engine, out),
+        Ending::Finish => finish_report::<O, F>(engine, out),
+        Ending::Keep => keep::<O, F>(engine, out),
     }
 }
 
 /// Ends the stream, flushes the out, and returns the totals.
-fn finished<'a, O: Out, F: Between<O>>(
+fn finish_report<'a, O: Out, F: Between<O>>(
     engine: Engine<'a>,
     out: &mut O,
 ) -> Result<Report<'a>, RunFault>
@@ -233,7 +233,7 @@ fn finished<'a, O: Out, F: Between<O>>(
 }
 
 /// Flushes the out, and returns the engine.
-fn kept<'a, O: Out, F: Between<O>>(engine: Engine<'a>, out: &mut O) -> Result<Report<'a>, RunFault>
+fn keep<'a, O: Out, F: Between<O>>(engine: Engine<'a>, out: &mut O) -> Result<Report<'a>, RunFault>
     ensures closed { (p : List ℕ) → Holds engine.entry p
         → Closed (setup_of engine.entry Ending.Keep) result p (O.log out.old) (O.log out.new) }
     ensures sound { result ≡ Err RunFault.Failed → engine.entry.failed ≡ true }

@@ -3,7 +3,7 @@
 ghost use Rattle.std.specs.Prelude.{List, Option, None};
 ghost use Rattle.giop_run.specs.Saving.{Saved, SavesOne};
 
-use super::part::{PRIVATE, put_into, replaced};
+use super::part::{PRIVATE, put_into, replace_file};
 use giop_stream::Engine;
 use std::fs::{File, Metadata, OpenOptions};
 use std::io::ErrorKind;
@@ -95,7 +95,7 @@ impl Saves for Disk<'_> {
             Ok(found) if self.is_in_use(&found) => Err(io::Error::from(ErrorKind::InvalidInput)),
             // A device or a pipe holds no old octets, and another file can't replace it.
             Ok(found) if !found.is_file() => put_into(&open_in_place(self.rt, name)?, engine),
-            _ => replaced(self.rt, name, engine),
+            _ => replace_file(self.rt, name, engine),
         }
     }
 }

@@ -3,11 +3,11 @@
 use super::shown_tests::shows;
 use crate::expecting::expect;
 use giop_cdr::CdrFault;
-use giop_decode::Kind;
+use giop_decode::ValueFault;
 use giop_print::OutFault;
 use giop_run::{RunFault, SourceFault};
 use giop_sig::{ListFaultKind, SigFaultKind};
-use giop_stream::{LoadFault, NewFault, Stop, StreamFault};
+use giop_stream::{LoadFault, NewError, Stop, StreamFault};
 use std::fmt::Display;
 use std::io::ErrorKind;
 use std::process::Abort;
@@ -48,8 +48,8 @@ const REQUESTS: [Row<ListFaultKind>; 3] = numbered! {
     OutOfMemory 3 "out-of-memory",
 };
 
-const VALUE: [Row<Kind>; 7] = numbered! {
-    Kind:
+const VALUE: [Row<ValueFault>; 7] = numbered! {
+    ValueFault:
     Boolean 1 "boolean",
     StringEnd 2 "string-end",
     Enum 3 "enum",
@@ -67,8 +67,8 @@ const STREAM: [Row<StreamFault>; 4] = numbered! {
     StreamLimit 5 "stream-limit",
 };
 
-const NEW: [Row<NewFault>; 1] = numbered! {
-    NewFault:
+const NEW: [Row<NewError>; 1] = numbered! {
+    NewError:
     OutOfMemory 1 "out of memory",
 };
 

@@ -3,7 +3,7 @@
 
 use super::shown_tests::shows;
 use crate::expecting::expect;
-use giop_run::{Look, ProgramFault, Reason, RunFault, Watched, status};
+use giop_run::{Look, ProgramError, Reason, RunFault, Watched, status};
 use giop_sig::{SigFault, SigFaultKind};
 use giop_stream::Totals;
 use std::io;
@@ -49,17 +49,17 @@ const LOOKS: [(&[u8], &str); 22] = [
 const IDL: &str = ": IDL: omniidl -bgiopdump_signatures";
 
 /// Faults of a run, what is told of each, and the status.
-const FAULTS: [(ProgramFault<'static>, &str, u8); 4] = [
-    (ProgramFault::Run(RunFault::Read), "read failed", 4),
-    (ProgramFault::Run(RunFault::Turns), "too many reads", 4),
-    (ProgramFault::Run(RunFault::Out), "write failed", 4),
-    (ProgramFault::OutOfMemory, "out of memory", 5),
+const FAULTS: [(ProgramError<'static>, &str, u8); 4] = [
+    (ProgramError::Run(RunFault::Read), "read failed", 4),
+    (ProgramError::Run(RunFault::Turns), "too many reads", 4),
+    (ProgramError::Run(RunFault::Out), "write failed", 4),
+    (ProgramError::OutOfMemory, "out of memory", 5),
 ];
 
 /// Checks the text of a fault, its words, and its status.
 fn says(
     rt: &(impl Abort + AllocGlobal),
-    fault: ProgramFault,
+    fault: ProgramError,
     wanted: &str,
     words: &str,
     code: u8,
@@ -92,7 +92,7 @@ fn a_fault_and_a_file_that_cannot_be_read_are_told(rt: HostRuntime) -> Result<()
     }
     for (kind, words) in REASONS {
         let why = Reason::of(kind);
-        let fault = ProgramFault::Unreadable { name: "a\n", why };
+        let fault = ProgramError::Unreadable { name: "a\n", why };
         says(&rt, fault, "a\\x0a: cannot read", words, 4)?;
     }
     Ok(())
@@ -106,7 +106,7 @@ fn what_is_no_signature_file_is_named(rt: HostRuntime) -> Result<(), Fail> {
     };
     for (text, words) in LOOKS {
         let look = Look::of(text);
-        let refused = ProgramFault::Signatures {
+        let refused = ProgramError::Signatures {
             name: "a.idl",
             fault,
             look,

@@ -64,7 +64,7 @@ wide_stays types n _ are is = tt
 
 -- a node that a declaration may add has no parts that need much room
 addable_wide : (version : ℕ) (types : List Node) (n : Node) → IsAddable version n → IsWide types n
-addable_wide version types (nodes.announced place) addable = tt
+addable_wide version types (nodes.announced index) addable = tt
 addable_wide version types (nodes.recursive bound element) addable = tt
 addable_wide version types (nodes.any code) addable = tt
 addable_wide version types (nodes.typecode wide kind cases) addable = absurd addable
@@ -72,7 +72,7 @@ addable_wide version types _ addable = tt
 
 -- a node that a declaration may add isn't plain in version 3 alone
 addable_plain : (version : ℕ) (n : Node) → (version ≡ 3 → ⊥) → IsAddable version n → IsPlain n
-addable_plain version (nodes.announced place) other addable = absurd (other addable)
+addable_plain version (nodes.announced index) other addable = absurd (other addable)
 addable_plain version (nodes.recursive bound element) other addable = absurd (other addable)
 addable_plain version _ other addable = addable
 

@@ -3,7 +3,7 @@
 use Rattle.std.proofs.Common.{◌≡◌, ℕ, Bool, true, false, cond, List, ◌∷◌, length, Option, Some, None, Result, Ok, Err, refl, sym, ◌∙◌}
 use Rattle.std.specs.Option.{is_some}
 use Rattle.std.proofs.lemmas.Bool.{false≢true}
-use Rattle.giop_tokens.specs.declared.fault.Refusal.{Refusal}
+use Rattle.giop_tokens.specs.declared.fault.TokenError.{TokenError}
 use Rattle.giop_tokens.specs.declared.fault.SigFaultKind.TheVariants as kinds
 use Rattle.giop_tokens.specs.declared.marks.Mark.TheVariants as marks
 use Rattle.giop_tokens.specs.Tokens.{Token, word, mark, left_of, AreTokens}
@@ -15,10 +15,10 @@ use Rattle.giop_sig.specs.Table.{Node}
 use Rattle.giop_sig.specs.Table as nodes
 use Rattle.giop_sig.specs.Grammar.{Announcement, spell_identity, type_word}
 use Rattle.giop_sig.specs.Scopes.{Names, Scope, add_announced_type, announced_as, declare, is_third, with_announced}
-use Rattle.giop_sig.specs.Validity.{Kind, OfAnnounced, OfDeclaration}
+use Rattle.giop_sig.specs.Validity.{FaultKind, OfAnnounced, OfDeclaration}
 use Rattle.giop_sig.specs.Outcomes.{refused}
 use Rattle.giop_sig.specs.ItemReading.{announces_at, announces_by, announcement_at, declared_at, end_of, Declared}
-use Rattle.giop_sig.proofs.PlaceLaws.{node_more}
+use Rattle.giop_sig.proofs.AddTypeLaws.{node_more}
 use Rattle.giop_sig.proofs.ReadingLaws.{Out, broken, out_bind, Apart, if_apart}
 use Rattle.giop_sig.proofs.TypeLaws.{third_keeps}
 use Rattle.giop_sig.proofs.ItemTaken.{DeclaredTaken, declared_takes, end_takes, TakenDeclaration}
@@ -52,17 +52,17 @@ is_announced s text more third h = rw (third, mark_if_again marks.Semicolon text
 -- ---- a text that is spelled so
 
 announced_keeps : (names : Names) (w : List ℕ) → is_some (announced_as names w) ≡ false
-    → (k : Kind) → OfAnnounced k names w
+    → (k : FaultKind) → OfAnnounced k names w
 announced_keeps names w new kinds.Duplicate = new
 announced_keeps names w new _ = tt
 
-abbrev announced_rule : Scope → TypeWord → List ℕ → Kind → Type 0
+abbrev announced_rule : Scope → TypeWord → List ℕ → FaultKind → Type 0
 announced_rule s kind w k = OfDeclaration k s (Announcement kind w)
 
 announced_by : (s : Scope) (kind : TypeWord) (text w rest : List ℕ) (more : List Token) (v : Bool)
     → is_some (announced_as s.names w) ≡ v → AreTokens rest (mark marks.Semicolon ∷ more)
     → (announced_rule s kind w kinds.Duplicate → is_some (announced_as s.names w) ≡ false)
-    → (is_some (announced_as s.names w) ≡ false → (k : Kind) → announced_rule s kind w k)
+    → (is_some (announced_as s.names w) ≡ false → (k : FaultKind) → announced_rule s kind w k)
     → Out {X = Declared} (λ rest. (with_announced kind w (add_announced_type s), rest))
     (announced_rule s kind w) (with_announced kind w (add_announced_type s)).table.types more
     (cond v (Err (refused kinds.Duplicate text))
@@ -75,7 +75,7 @@ announced_by s kind text w rest more false e m new keeps =
 
 -- what reading gives for an announcement, after its first word
 pub announced_reads : (s : Scope) (kind : TypeWord) (w text : List ℕ) (more : List Token)
-    (after : List ℕ → List ℕ → Result Declared Refusal)
+    (after : List ℕ → List ℕ → Result Declared TokenError)
     → OfDeclaration kinds.Syntax s (Announcement kind w)
     → AreTokens text (word w ∷ mark marks.Semicolon ∷ more)
     → Out {X = Declared} (λ rest. (declare s (Announcement kind w), rest))

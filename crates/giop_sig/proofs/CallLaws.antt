@@ -8,7 +8,7 @@ use Rattle.std.specs.Str.{bytes_eq}
 use Rattle.std.proofs.lemmas.List.{length-append, append-nil}
 use Rattle.std.proofs.lemmas.Bool.{ltb-true, ltb-false, leb-true, leb-false}
 use Rattle.giop_cdr.specs.declared.prim.Primitive.TheVariants as prims
-use Rattle.giop_tokens.specs.declared.fault.Refusal.{Refusal}
+use Rattle.giop_tokens.specs.declared.fault.TokenError.{TokenError}
 use Rattle.giop_tokens.specs.declared.fault.SigFaultKind.TheVariants as kinds
 use Rattle.giop_tokens.specs.declared.marks.Mark.TheVariants as marks
 use Rattle.giop_tokens.specs.Tokens.{Token, word, repository, mark, left_of, AreTokens}
@@ -22,11 +22,11 @@ use Rattle.giop_sig.specs.Table.{Node, Part, Operation, operation_key, keyed_num
 use Rattle.giop_sig.specs.Table as nodes
 use Rattle.giop_sig.specs.Grammar.{TypeExpr, Base, Text, Reference, AnyType, CodeType, WideChar, WideText, Named, SequenceOf, EncapsulationOf, Param, base_word, direction_word, spell_type, spell_item, spell_param, spell_more_params, spell_params, spell_return, spell_interfaces, Call, KeyOf}
 use Rattle.giop_sig.specs.Scopes.{Names, is_third, Scope, AddedType, with_key_of, part, item_part, with_node, add_item, add_params, add_return, onto_request, onto_reply, declare}
-use Rattle.giop_sig.specs.Validity.{Kind, OfItem, OfItems, OfType, OfReturn, OfOperation, OfList, OfParts, OfKey, OfDeclaration, items_of}
+use Rattle.giop_sig.specs.Validity.{FaultKind, OfItem, OfItems, OfType, OfReturn, OfOperation, OfList, OfParts, OfKey, OfDeclaration, items_of}
 use Rattle.giop_sig.specs.TypeReading.{type_at}
 use Rattle.giop_sig.specs.ItemReading.{item_at, Declared, end_of}
-use Rattle.giop_sig.specs.CallReading.{ReturnRead, return_at, new_operation_at, direction_of, direction_at, in_request, in_reply, with_param, Params, ParameterLists, param_end, param_step, too_many_params, ParamsRead, params_read, params_run, no_parameters, params_at, Called, Variants, with_listed_by, listed_at, structs_of, called_of, counted, interface_at, new_key_at, key_at, operation_at}
-use Rattle.giop_sig.proofs.PlaceLaws.{Within, Grown, within_same, within_on, item_names, params_names, params_more, return_names, return_operations, return_called, listed_types, structs_more}
+use Rattle.giop_sig.specs.CallReading.{ReturnRead, return_at, new_operation_at, direction_of, direction_at, in_request, in_reply, with_param, Params, ParameterLists, param_end, param_step, too_many_params, ParamsRead, params_read, params_run, no_parameters, params_at, Called, Variants, with_table_by, listed_at, structs_of, called_of, counted, interface_at, new_key_at, key_at, operation_at}
+use Rattle.giop_sig.proofs.AddTypeLaws.{Within, Grown, within_same, within_on, item_names, params_names, params_more, return_names, return_operations, return_called, listed_types, structs_more}
 use Rattle.giop_sig.proofs.ReadingLaws.{Out, good, broken, out_bind, out_more, Apart, if_apart}
 use Rattle.giop_sig.proofs.TypeLaws.{is_not, type_reads}
 use Rattle.giop_sig.proofs.ItemLaws.{made_item, item_reads, some_none, unused_reads, end_reads}
@@ -107,7 +107,7 @@ return_reads s (Some e) text more free apart h =
 -- ---- the name
 
 operation_keeps : (s : Scope) (w : List ℕ) → length w ≤ 128 → s.table.called < 4096
-    → (is_third s.names ≡ false → keyed_number s.table (operation_key 0 w) ≡ None) → (k : Kind)
+    → (is_third s.names ≡ false → keyed_number s.table (operation_key 0 w) ≡ None) → (k : FaultKind)
     → OfOperation k s w
 operation_keeps s w short few new kinds.Duplicate = new
 operation_keeps s w short few new kinds.Limit = (short, few)
@@ -115,7 +115,7 @@ operation_keeps s w short few new _ = tt
 
 -- the operations are those of the scope before
 operation_same : (s t : Scope) (w : List ℕ) → t.names ≡ s.names
-    → t.table.operations ≡ s.table.operations → t.table.called ≡ s.table.called → (k : Kind)
+    → t.table.operations ≡ s.table.operations → t.table.called ≡ s.table.called → (k : FaultKind)
     → OfOperation k s w → OfOperation k t w
 operation_same s t w names same called kinds.Duplicate h = λ old.
     subst (λ os. position (λ (o : Operation). bytes_eq (operation_key 0 w) o.key) os ≡ None)
@@ -188,9 +188,10 @@ way_on w s p = with_param w p.direction (item_part p.item (add_item s p.item))
 abbrev made_param : ParameterLists → Scope → Param → List Param → List ℕ → Bool × Params
 made_param w s p ps rest = (is_last ps, ((add_item s p.item).0, way_on w s p, rest))
 
-behind_reads : (w : ParameterLists) (s : Scope) (p : Param) (ps : List Param) (rule : Kind → Type 0)
+behind_reads : (w : ParameterLists) (s : Scope) (p : Param) (ps : List Param) (rule : FaultKind →
+    Type 0)
     (types : List Node) (rest : List ℕ) (more : List Token)
-    → AreTokens rest (spell_more_params ps more) → ((k : Kind) → rule k)
+    → AreTokens rest (spell_more_params ps more) → ((k : FaultKind) → rule k)
     → Out (made_param w s p ps) rule types (after_param ps more)
     (mark_if marks.Comma rest >>= λ c. param_end w p.direction (made_item s p.item rest) c)
 behind_reads w s p [] rule types rest more h keeps =
@@ -237,17 +238,17 @@ reply_on : (d : Direction) (p : Part) (q r : List Part)
 reply_on directions.In p q r = refl
 reply_on _ p q r = append_assoc q (p ∷ []) r
 
-made_on : (w : ParameterLists) (s : Scope) (p : Param) (ps : List Param) (rule : Kind → Type 0)
-    (types : List Node) (more : List Token) (r : Result ParamsRead Refusal)
+made_on : (w : ParameterLists) (s : Scope) (p : Param) (ps : List Param) (rule : FaultKind → Type 0)
+    (types : List Node) (more : List Token) (r : Result ParamsRead TokenError)
     → Out (made_params (way_on w s p) (add_item s p.item).0 ps) rule types more r
     → Out (made_params w s (p ∷ ps)) rule types more r
 unfolding add_params
 made_on w s p ps rule types more r o = search (arith, request_on, reply_on)
 
 -- the last parameter ends the reading
-last_reads : (n : ℕ) (w : ParameterLists) (s : Scope) (p : Param) (rule : Kind → Type 0)
+last_reads : (n : ℕ) (w : ParameterLists) (s : Scope) (p : Param) (rule : FaultKind → Type 0)
     (rest : List ℕ)
-    (more : List Token) → AreTokens rest more → ((k : Kind) → rule k)
+    (more : List Token) → AreTokens rest more → ((k : FaultKind) → rule k)
     → Out (made_params (way_on w s p) (add_item s p.item).0 []) rule
     (add_params (add_item s p.item).0 []).0.table.types more
     (then_run n (made_param w s p [] rest))
@@ -346,7 +347,7 @@ interfaces_read : (s : Scope) (o : Option TypeExpr) (w : List ℕ) (ps : List Pa
     → OfParts kinds.Syntax s.names w ps ids (add_return s o)
     → AreTokens text (spell_interfaces ids (mark marks.Semicolon ∷ more))
     → Out {X = Variants} (λ rest. (
-      with_listed_by (with_listed w (call_at s o w ps).request
+      with_table_by (with_listed w (call_at s o w ps).request
           (call_at s o w ps).reply ids) (structs s o ps).0,
       rest,
     ))
@@ -358,7 +359,7 @@ interfaces_read s o w ps ids at text more free h =
     let same : (p.0).names ≡ s.names =
     params_names (add_return s o).0 ps ∙ return_names s o in
     subst (λ ns. Out {X = Variants}
-    (λ rest. (with_listed_by (with_listed w c.request c.reply ids) p.0, rest))
+    (λ rest. (with_table_by (with_listed w c.request c.reply ids) p.0, rest))
     (λ k. OfList k ns w c.request c.reply ids (p.0).table) (p.0).table.types
     (mark marks.Semicolon ∷ more) (listed_at at c (p.0, text))) same
     (listed_reads ids c p.0 at text more
@@ -475,7 +476,7 @@ operation_takes s whole text x before e =
 
 key_keeps : (s : Scope) (text : List ℕ) → is_third s.names ≡ true → is_key text ≡ true
     → length text ≤ 128 → of_text s.table.interfaces text ≡ None
-    → length s.table.interfaces.keys < 16384 → (k : Kind)
+    → length s.table.interfaces.keys < 16384 → (k : FaultKind)
     → OfKey k s.names s.table.interfaces text
 key_keeps s text third is short new few kinds.Syntax = (third, is)
 key_keeps s text third is short new few kinds.Duplicate = new

@@ -8,7 +8,7 @@ use Rattle.std.proofs.lemmas.List.{length-append}
 use Rattle.std.proofs.lemmas.List.Elements.{All-push}
 use Rattle.std.proofs.lemmas.Bool.{leb-false}
 use Rattle.std.proofs.lemmas.Slice.Eq.{bytes_eq-Decides}
-use Rattle.giop_tokens.specs.declared.fault.Refusal.{Refusal}
+use Rattle.giop_tokens.specs.declared.fault.TokenError.{TokenError}
 use Rattle.giop_tokens.specs.declared.fault.SigFaultKind.TheVariants as kinds
 use Rattle.giop_tokens.specs.declared.marks.Mark.TheVariants as marks
 use Rattle.giop_tokens.specs.Tokens.{Token, word, mark, AreTokens}
@@ -232,7 +232,7 @@ param_on w s text r d i x t a e k = record {
       (reply_parts i.0 d.0 i.1 w.reply (parts_stay s i.0 w.reply a.grows r) p);
 }
 
-abbrev pub then_run : ℕ → Bool × Params → Result ParamsRead Refusal
+abbrev pub then_run : ℕ → Bool × Params → Result ParamsRead TokenError
 then_run n x = cond x.0 (Ok x.1) (in_steps param_step too_many_params n x.1) >>= params_read
 
 behind_by : (n : ℕ) (w : ParameterLists) (s : Scope) (text : List ℕ) (d : Direction × List ℕ)

@@ -144,28 +144,28 @@ rise_further ls n e some lt above rise i j d less within inside = ⊎_elim
 
 -- ---- what is found
 
--- labels with the same key are at the same place
-one_place : (ls : List PlacedLabel) (i j : ℕ) (d : PlacedLabel) → Rise ls → i < length ls →
+-- labels with the same key are at the same index
+one_index : (ls : List PlacedLabel) (i j : ℕ) (d : PlacedLabel) → Rise ls → i < length ls →
     j < length ls
     → key_of (get_or ls i d).number ≡ key_of (get_or ls j d).number → i ≡ j
-one_place ls i j d rise li lj same = search (arith, cases_lt)
+one_index ls i j d rise li lj same = search (arith, cases_lt)
 
 found_by : (cs : List Case) (ls : List PlacedLabel) (at : ℕ) (n : Number) (d : PlacedLabel)
     (o : Option ℕ)
     → AreLabels cs ls → Rise ls → at < length ls → (get_or ls at d).number ≡ n
-    → case_with n cs ≡ o → Some (get_or ls at d).place ≡ o
+    → case_with n cs ≡ o → Some (get_or ls at d).index ≡ o
 found_by cs ls at n d None is rise lt same e = search (arith)
 found_by cs ls at n d (Some i) is rise lt same e =
     let c = is.whole n i e in
     let there : get_or ls c.0 d ≡ placed i n = get_or_default ls c.0 d (placed i n) c.1 ∙ c.2 in
-    let here = one_place ls at c.0 d rise lt c.1
+    let here = one_index ls at c.0 d rise lt c.1
     (ap key_of (same ∙ sym (ap (λ (l : PlacedLabel). l.number) there))) in
-    ap Some (ap (λ k. (get_or ls k d).place) here ∙ ap (λ (l : PlacedLabel). l.place) there)
+    ap Some (ap (λ k. (get_or ls k d).index) here ∙ ap (λ (l : PlacedLabel). l.index) there)
 
 pub found : (cs : List Case) (ls : List PlacedLabel) (at : ℕ) (n : Number) (d : PlacedLabel) →
     AreLabels cs ls
     → Rise ls → at < length ls → same_number (get_or ls at d).number n ≡ true
-    → Some (get_or ls at d).place ≡ case_with n cs
+    → Some (get_or ls at d).index ≡ case_with n cs
 found cs ls at n d is rise lt same = search (arith, found_by, number_same, get_or)
 
 none_by : (cs : List Case) (ls : List PlacedLabel) (at : ℕ) (n : Number) (o : Option ℕ) →

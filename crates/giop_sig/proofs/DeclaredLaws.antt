@@ -15,10 +15,10 @@ use Rattle.giop_sig.specs.Table.{Node, exception_in}
 use Rattle.giop_sig.specs.Table as nodes
 use Rattle.giop_sig.specs.Grammar.{Item, spell_items, spell_identity, Structure, DeclaredException}
 use Rattle.giop_sig.specs.Scopes.{Scope, AddedType, with_node, with_named, with_raised, add_items, add_struct_type, declare}
-use Rattle.giop_sig.specs.Validity.{Kind, OfSome, OfItems, OfRepository, OfDeclaration}
+use Rattle.giop_sig.specs.Validity.{FaultKind, OfSome, OfItems, OfRepository, OfDeclaration}
 use Rattle.giop_sig.specs.Outcomes.{refused}
 use Rattle.giop_sig.specs.ItemReading.{announces_at, announcement_at, declared_at, structure_after, members_at, filled_at, IdentityRead, identity_at, Declared, end_of, type_end_at, structure_at, new_repository_at, exception_at, MembersRead}
-use Rattle.giop_sig.proofs.PlaceLaws.{within_same, within_on, Grown, node_more, struct_more, named_more}
+use Rattle.giop_sig.proofs.AddTypeLaws.{within_same, within_on, Grown, node_more, struct_more, named_more}
 use Rattle.giop_sig.proofs.ReadingLaws.{Out, good, broken, out_bind, if_apart}
 use Rattle.giop_sig.proofs.ItemLaws.{declared_reads, members_reads, some_keeps, filled_end, filled_on, type_apart, some_none, unused_reads, end_reads}
 use Rattle.giop_sig.proofs.AnnouncedLaws.{not_announced, identity_apart, announces_third, announcement_takes}
@@ -45,11 +45,12 @@ filled_reads types (i ∷ is) text more h = search (
 -- ---- structs
 
 -- the members of a struct, and the end of the declaration that they make
-closed_reads : (at : ℕ) (s : Scope) (is : List Item) (h : AddedType → Scope) (rule : Kind → Type 0)
+closed_reads : (at : ℕ) (s : Scope) (is : List Item) (h : AddedType → Scope) (rule : FaultKind →
+    Type 0)
     (text : List ℕ) (more : List Token) → OfItems kinds.Syntax s.names 256 [] is
     → AreTokens text (spell_items is (mark marks.Semicolon ∷ more))
-    → (((k : Kind) → OfItems k s.names 256 [] is) → (k : Kind) → rule k)
-    → ((k : Kind) → rule k → OfItems k s.names 256 [] is)
+    → (((k : FaultKind) → OfItems k s.names 256 [] is) → (k : FaultKind) → rule k)
+    → ((k : FaultKind) → rule k → OfItems k s.names 256 [] is)
     → Grown (add_struct_type (add_items s is)).0 (h (add_struct_type (add_items s is)))
     → Out {X = Declared} (λ rest. (h (add_struct_type (add_items s is)), rest)) rule
     (h (add_struct_type (add_items s is))).table.types more
@@ -161,7 +162,7 @@ structure_takes s whole text x before e =
 -- ---- exceptions
 
 repository_keeps : (s : Scope) (r : List ℕ) → length r ≤ 128 → exception_in s.table r ≡ None
-    → (k : Kind) → OfRepository k s r
+    → (k : FaultKind) → OfRepository k s r
 repository_keeps s r short new kinds.Duplicate = new
 repository_keeps s r short new kinds.Limit = short
 repository_keeps s r short new _ = tt

@@ -117,7 +117,7 @@ part_less f (nodes.sequence bound element) k has = omega arith
 part_less f (nodes.array count element) k has = omega arith
 part_less f (nodes.encapsulation held) k has = omega arith
 part_less f (nodes.any code) k has = rw has (omega arith)
-part_less f (nodes.announced place) k has = absurd (omega arith)
+part_less f (nodes.announced index) k has = absurd (omega arith)
 part_less f (nodes.typecode wide kind cases) k has =
     omega (
       arith,
@@ -142,7 +142,7 @@ depth_grown h tree (nodes.tagged special tag inner other) plain =
     search (arith, max, most_same, part_grown)
 depth_grown h tree (nodes.marked mark) plain = absurd plain
 depth_grown h tree (nodes.any code) plain = absurd plain
-depth_grown h tree (nodes.announced place) plain = absurd plain
+depth_grown h tree (nodes.announced index) plain = absurd plain
 depth_grown h tree (nodes.recursive bound element) plain = absurd plain
 depth_grown h tree (nodes.typecode wide kind cases) plain = absurd plain
 depth_grown h tree _ plain = refl

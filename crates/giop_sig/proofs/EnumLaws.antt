@@ -4,7 +4,7 @@ use Rattle.std.proofs.Common.{◌≡◌, ℕ, zero, suc, ◌+◌, ◌<◌, ◌�
 use Rattle.std.specs.List.{All}
 use Rattle.std.proofs.lemmas.List.{length-append}
 use Rattle.std.proofs.lemmas.List.Elements.{All-push}
-use Rattle.giop_tokens.specs.declared.fault.Refusal.{Refusal}
+use Rattle.giop_tokens.specs.declared.fault.TokenError.{TokenError}
 use Rattle.giop_tokens.specs.declared.fault.SigFaultKind.TheVariants as kinds
 use Rattle.giop_tokens.specs.declared.marks.Mark.TheVariants as marks
 use Rattle.giop_tokens.specs.Tokens.{Token, word, mark, left_of, AreTokens}
@@ -16,23 +16,23 @@ use Rattle.giop_sig.specs.Table as nodes
 use Rattle.giop_sig.specs.Trees.{depth_of}
 use Rattle.giop_sig.specs.Grammar.{spell_more_names, spell_names, spell_identity, Enumeration}
 use Rattle.giop_sig.specs.Scopes.{is_third, Scope, with_node, with_named, declare}
-use Rattle.giop_sig.specs.Validity.{Kind, IsFree, OfNewName, OfSome, OfNames, OfDeclaration}
+use Rattle.giop_sig.specs.Validity.{FaultKind, IsFree, OfNewName, OfSome, OfNames, OfDeclaration}
 use Rattle.giop_sig.specs.Outcomes.{refused}
 use Rattle.giop_sig.specs.ItemReading.{new_name_at, declared_at, identity_at, Declared, type_end_at}
 use Rattle.giop_sig.specs.Repeats.{in_steps}
 use Rattle.giop_sig.specs.EnumReading.{NamesRead, enumerator_at, names_end, names_step, too_many_names, names_at, enumeration_at}
-use Rattle.giop_sig.proofs.PlaceLaws.{Within, within_same, node_more, named_more, within_on}
+use Rattle.giop_sig.proofs.AddTypeLaws.{Within, within_same, node_more, named_more, within_on}
 use Rattle.giop_sig.proofs.ReadingLaws.{lift, Out, good, broken, out_bind, if_apart, Took}
 use Rattle.giop_sig.proofs.IdentityLaws.{identity_reads, identity_takes}
 use Rattle.giop_sig.proofs.ItemTaken.{new_name_takes, declared_takes, filled_takes, end_takes}
 use Rattle.giop_sig.proofs.ItemLaws.{new_name_reads, declared_reads, some_keeps, filled_end, filled_on, end_reads}
 
 -- what reading gives, in another form
-pub out_as : {X : Type 0} {made made2 : List ℕ → X} {rule rule2 : Kind → Type 0}
-    {types types2 : List Node} {more : List Token} (r : Result X Refusal)
+pub out_as : {X : Type 0} {made made2 : List ℕ → X} {rule rule2 : FaultKind → Type 0}
+    {types types2 : List Node} {more : List Token} (r : Result X TokenError)
     → Out made rule types more r
-    → ((rest : List ℕ) → made rest ≡ made2 rest) → ((k : Kind) → rule k → rule2 k)
-    → ((k : Kind) → rule2 k → rule k) → Within types types2 → Out made2 rule2 types2 more r
+    → ((rest : List ℕ) → made rest ≡ made2 rest) → ((k : FaultKind) → rule k → rule2 k)
+    → ((k : FaultKind) → rule2 k → rule k) → Within types types2 → Out made2 rule2 types2 more r
 out_as (Ok x) o same on up le = search (arith)
 out_as {rule = rule} {rule2 = rule2} {types = types} {types2 = types2} (Err e) o same on up le =
     record { out = lift e.kind rule rule2 types types2 up le o.out }
@@ -80,7 +80,7 @@ step_on {third = third} seen w text types ts free h =
     (good tokens.0 tokens.2 keeps))
     (λ k whole. whole) within_same
 
-abbrev then_names : Bool → ℕ → Bool × NamesRead → Result NamesRead Refusal
+abbrev then_names : Bool → ℕ → Bool × NamesRead → Result NamesRead TokenError
 then_names third left x = cond x.0 (Ok x.1) (in_steps (names_step third) too_many_names left x.1)
 
 -- enumerators after others, few enough for the steps

@@ -4,7 +4,7 @@ use Rattle.std.proofs.Common.{◌≡◌, ◌⊎◌, inl, inr, ℕ, zero, suc, �
 use Rattle.std.specs.Prelude.{MatchResult, codes}
 use Rattle.std.specs.Str.{bytes_eq}
 use Rattle.std.proofs.lemmas.Slice.Eq.{bytes_eq-Decides}
-use Rattle.giop_tokens.specs.declared.fault.Refusal.{Refusal}
+use Rattle.giop_tokens.specs.declared.fault.TokenError.{TokenError}
 use Rattle.giop_tokens.specs.declared.fault.SigFaultKind.TheVariants as kinds
 use Rattle.giop_tokens.specs.declared.marks.Mark.TheVariants as marks
 use Rattle.giop_tokens.specs.Tokens.{Token, word, number, repository, mark, left_of, next, AreTokens}
@@ -15,13 +15,13 @@ use Rattle.giop_sig.specs.Grammar.{TypeExpr, Item, UnionCase, spell_type, spell_
 use Rattle.giop_sig.specs.declared.announced.TypeWord.TheVariants as type_words
 use Rattle.giop_sig.specs.Scopes.{is_third, Scope, first_scope, declare, last_scope, scope_after, settled, targets}
 use Rattle.giop_sig.specs.Trees.{depth_of}
-use Rattle.giop_sig.specs.Validity.{Kind, AllAreDeclared, OfDeclaration, HasItsWords, Each, SpellsUpTo, first_undeclared}
+use Rattle.giop_sig.specs.Validity.{FaultKind, AllAreDeclared, OfDeclaration, HasItsWords, Each, SpellsUpTo, first_undeclared}
 use Rattle.giop_sig.specs.ItemReading.{Declared, structure_after, structure_at, exception_at}
 use Rattle.giop_sig.specs.CallReading.{operation_at, key_at}
 use Rattle.giop_sig.specs.EnumReading.{enumeration_at}
 use Rattle.giop_sig.specs.UnionReading.{union_after, union_at}
 use Rattle.giop_sig.specs.Repeats.{in_steps}
-use Rattle.giop_sig.specs.FileReading.{announcements, declaration_at, declaration_or_end, DeclarationsRead, declarations_step, misplaced_after, places_after, settled_at, settled_unless, version_at, head_at, file_at}
+use Rattle.giop_sig.specs.FileReading.{announcements, declaration_at, declaration_or_end, DeclarationsRead, declarations_step, misplaced_after, lefts_after, settled_at, settled_unless, version_at, head_at, file_at}
 use Rattle.giop_sig.proofs.ReadingLaws.{Breaks, Out}
 use Rattle.giop_sig.proofs.AnnouncedLaws.{announced_reads}
 use Rattle.giop_sig.proofs.ItemTaken.{TakenDeclaration}
@@ -39,7 +39,7 @@ abbrev spell_raise : List ℕ → List ℕ → List Item → List Token → List
 spell_raise n r is more =
     word n ∷ repository r ∷ mark marks.OpenBrace ∷ spell_items is (mark marks.Semicolon ∷ more)
 
-abbrev pub DeclarationOut : Scope → Declaration → List Token → Result Declared Refusal → Type 0
+abbrev pub DeclarationOut : Scope → Declaration → List Token → Result Declared TokenError → Type 0
 DeclarationOut s d more r =
     Out {X = Declared} (λ rest. (declare s d, rest)) (λ k. OfDeclaration k s d)
     (declare s d).table.types more r
@@ -181,7 +181,7 @@ declaration_takes union s text x e = search (arith, bind_ok, after_by, word_take
 -- ---- declarations
 
 -- one of the declarations breaks a rule, or makes the types too deep or too many
-pub record BrokenIn (k : Kind) (s : Scope) (ds : List Declaration) : Type 0 where
+pub record BrokenIn (k : FaultKind) (s : Scope) (ds : List Declaration) : Type 0 where
   pub before : List Declaration
   pub broken : Declaration
   pub after : List Declaration
@@ -189,7 +189,7 @@ pub record BrokenIn (k : Kind) (s : Scope) (ds : List Declaration) : Type 0 wher
   pub breaks : Breaks k (λ k. OfDeclaration k (scope_after s before) broken)
       (declare (scope_after s before) broken).table.types
 
-broken_later : (k : Kind) (s : Scope) (d : Declaration) (ds : List Declaration)
+broken_later : (k : FaultKind) (s : Scope) (d : Declaration) (ds : List Declaration)
     → BrokenIn k (declare s d) ds → BrokenIn k s (d ∷ ds)
 broken_later k s d ds b = record {
   before = d ∷ b.before;
@@ -201,44 +201,44 @@ broken_later k s d ds b = record {
 }
 
 -- what reading gives for declarations
-abbrev pub FileOut : Scope → List Declaration → Result Scope Refusal → Type 0
+abbrev pub FileOut : Scope → List Declaration → Result Scope TokenError → Type 0
 FileOut s ds r =
     MatchResult r (λ t. (t ≡ scope_after s ds)
-    × ((k : Kind) → Each (λ s d. OfDeclaration k s d) s ds)) (λ e. BrokenIn e.kind s ds)
+    × ((k : FaultKind) → Each (λ s d. OfDeclaration k s d) s ds)) (λ e. BrokenIn e.kind s ds)
 
-abbrev scope_of : DeclarationsRead → Result Scope Refusal
+abbrev scope_of : DeclarationsRead → Result Scope TokenError
 scope_of d = Ok d.0
 
-abbrev then_declarations : ℕ → Bool × DeclarationsRead → Result DeclarationsRead Refusal
+abbrev then_declarations : ℕ → Bool × DeclarationsRead → Result DeclarationsRead TokenError
 then_declarations n x = cond x.0 (Ok x.1) (in_steps declarations_step misplaced_after n x.1)
 
 file_more : (s : Scope) (d : Declaration) (ds : List Declaration)
-    (r : Result DeclarationsRead Refusal)
-    → ((k : Kind) → OfDeclaration k s d) → FileOut (declare s d) ds (r >>= scope_of)
+    (r : Result DeclarationsRead TokenError)
+    → ((k : FaultKind) → OfDeclaration k s d) → FileOut (declare s d) ds (r >>= scope_of)
     → FileOut s (d ∷ ds) (r >>= scope_of)
 unfolding Each
 file_more s d ds (Ok t) keeps o = (o.0, λ k. (keeps k, o.1 k))
 file_more s d ds (Err e) keeps o = broken_later e.kind s d ds o
 
--- a declaration, whose place is kept if it announces its name, and then the others
+-- a declaration, of which it is kept where it announces a name, and then the others
 file_on : (n : ℕ) (s : Scope) (d : Declaration) (ds : List Declaration)
-    (place : Declared → Result (List ℕ) Refusal)
-    → ((x : Declared) → (places : List ℕ) × (place x ≡ Ok places))
-    → (r : Result Declared Refusal) → DeclarationOut s d (spell_all ds) r
-    → ((places rest : List ℕ) → AreTokens rest (spell_all ds)
+    (left : Declared → Result (List ℕ) TokenError)
+    → ((x : Declared) → (lefts : List ℕ) × (left x ≡ Ok lefts))
+    → (r : Result Declared TokenError) → DeclarationOut s d (spell_all ds) r
+    → ((lefts rest : List ℕ) → AreTokens rest (spell_all ds)
     → FileOut (declare s d) ds
-    (in_steps declarations_step misplaced_after n (declare s d, places, rest) >>= scope_of))
+    (in_steps declarations_step misplaced_after n (declare s d, lefts, rest) >>= scope_of))
     → FileOut s (d ∷ ds)
-    (((r >>= λ x. place x >>= λ places. Ok (false, (x.0, places, x.1)))
+    (((r >>= λ x. left x >>= λ lefts. Ok (false, (x.0, lefts, x.1)))
     >>= then_declarations n) >>= scope_of)
-file_on n s d ds place placed (Ok x) o on =
+file_on n s d ds index placed (Ok x) o on =
     let g = o.out in
     let p = placed x in
     rw (p.1) (subst (λ (y : Declared). FileOut s (d ∷ ds)
     (in_steps declarations_step misplaced_after n (y.0, p.0, y.1) >>= scope_of)) (sym g.is)
     (file_more s d ds (in_steps declarations_step misplaced_after n (declare s d, p.0, g.rest))
     g.keeps (on p.0 g.rest g.tokens)))
-file_on n s d ds place placed (Err e) o on = record {
+file_on n s d ds index placed (Err e) o on = record {
   before = [];
   broken = d;
   after = ds;
@@ -276,12 +276,12 @@ first_word (KeyOf key id) text more h =
     word_first text (codes "key") (repository key ∷ word (codes "of") ∷ repository id
     ∷ mark marks.Semicolon ∷ more) h
 
--- the place of a declaration's name is found
-place_reads : (before after : ℕ) (places text : List ℕ) (x : List ℕ × List ℕ)
-    → word_at text ≡ Ok x → (more : List ℕ) × (places_after before after places text ≡ Ok more)
-unfolding places_after
-place_reads before after places text x e =
-    (cond (ltb before after) (places ++ left_of x.1 ∷ []) places, rw e refl)
+-- what is left from a declaration's name on is found
+left_reads : (before after : ℕ) (lefts text : List ℕ) (x : List ℕ × List ℕ)
+    → word_at text ≡ Ok x → (more : List ℕ) × (lefts_after before after lefts text ≡ Ok more)
+unfolding lefts_after
+left_reads before after lefts text x e =
+    (cond (ltb before after) (lefts ++ left_of x.1 ∷ []) lefts, rw e refl)
 
 not_over : (d : Declaration) (text : List ℕ) (more : List Token)
     → AreTokens text (spell d more) → end_at text ≡ Ok false
@@ -294,20 +294,20 @@ not_over (Call o n ps ids) text more h = search (arith, end_other)
 not_over (KeyOf key id) text more h = search (arith, end_other)
 
 declarations_read : UnionReads → (ds : List Declaration) (n : ℕ) (s : Scope)
-    (places text : List ℕ)
+    (lefts text : List ℕ)
     → length ds < n → Each HasItsWords s ds → AreTokens text (spell_all ds)
-    → FileOut s ds (in_steps declarations_step misplaced_after n (s, places, text) >>= scope_of)
+    → FileOut s ds (in_steps declarations_step misplaced_after n (s, lefts, text) >>= scope_of)
 unfolding Each in_steps declarations_step
-declarations_read union [] zero s places text lt free h = absurd (omega arith)
-declarations_read union (d ∷ ds) zero s places text lt free h = absurd (omega arith)
-declarations_read union [] (suc n) s places text lt free h =
+declarations_read union [] zero s lefts text lt free h = absurd (omega arith)
+declarations_read union (d ∷ ds) zero s lefts text lt free h = absurd (omega arith)
+declarations_read union [] (suc n) s lefts text lt free h =
     rw (end_again text h) (refl, λ k. tt)
-declarations_read union (d ∷ ds) (suc n) s places text lt free h =
+declarations_read union (d ∷ ds) (suc n) s lefts text lt free h =
     let w = first_word d text (spell_all ds) h in
     rw (not_over d text (spell_all ds) h)
     (file_on n s d ds
-    (λ (x : Declared). places_after (announcements s) (announcements x.0) places text)
-    (λ x. place_reads (announcements s) (announcements x.0) places text w.0 w.1)
+    (λ (x : Declared). lefts_after (announcements s) (announcements x.0) lefts text)
+    (λ x. left_reads (announcements s) (announcements x.0) lefts text w.0 w.1)
     (declaration_at s text)
     (declaration_reads union d s text (spell_all ds) free.0 h)
     (λ more rest m.
@@ -325,31 +325,32 @@ version_again latest text n more h is = rw (number_again text n more h, is) refl
 pub record WholeFile (file : SignatureFile) (t : Scope) : Type 0 where
   pub is : t ≡ settled (last_scope file)
   pub declared : AllAreDeclared file
-  pub keeps : (k : Kind)
+  pub keeps : (k : FaultKind)
       → Each (λ s d. OfDeclaration k s d) (first_scope file.version) file.declarations
 
 -- a refusal of a declaration, or of a name that is announced but not declared
-abbrev pub RefusedFile : SignatureFile → Refusal → Type 0
+abbrev pub RefusedFile : SignatureFile → TokenError → Type 0
 RefusedFile file e =
     BrokenIn e.kind (first_scope file.version) file.declarations
     ⊎ ((e.kind ≡ kinds.UnknownType) × (AllAreDeclared file → ⊥))
 
 -- what reading gives for a file
-abbrev pub WholeOut : SignatureFile → Result Scope Refusal → Type 0
+abbrev pub WholeOut : SignatureFile → Result Scope TokenError → Type 0
 WholeOut file r = MatchResult r (WholeFile file) (RefusedFile file)
 
 some_not_none : {X : Type 0} (x : X) → Some x ≡ None → ⊥
 some_not_none x e = absurd cc
 
-settled_out : (file : SignatureFile) (places : List ℕ) (o : Option ℕ)
+settled_out : (file : SignatureFile) (lefts : List ℕ) (o : Option ℕ)
     → first_undeclared (last_scope file).names ≡ o
-    → ((k : Kind) → Each (λ s d. OfDeclaration k s d) (first_scope file.version) file.declarations)
-    → WholeOut file (settled_unless (last_scope file) places o)
-settled_out file places None e keeps = record { is = refl; declared = e; keeps = keeps }
-settled_out file places (Some i) e keeps =
+    → ((k : FaultKind) → Each (λ s d. OfDeclaration k s d) (first_scope file.version)
+    file.declarations)
+    → WholeOut file (settled_unless (last_scope file) lefts o)
+settled_out file lefts None e keeps = record { is = refl; declared = e; keeps = keeps }
+settled_out file lefts (Some i) e keeps =
     inr (refl, λ all. some_not_none i (sym e ∙ all))
 
-whole_by : (file : SignatureFile) (r : Result DeclarationsRead Refusal)
+whole_by : (file : SignatureFile) (r : Result DeclarationsRead TokenError)
     → FileOut (first_scope file.version) file.declarations (r >>= scope_of)
     → WholeOut file (r >>= λ d. settled_at d.0 d.1)
 unfolding settled_at
@@ -401,25 +402,25 @@ declared_is : UnionReads
     → x.0 ≡ declare s d
 declared_is union s d text more x words h e = search (arith, declaration_reads)
 
--- what was read, with the place of the declaration's name if it announced that
-abbrev one_on : Scope → List ℕ → List ℕ → Declared → Result (Bool × DeclarationsRead) Refusal
-one_on s places text next =
-    places_after (announcements s) (announcements next.0) places text
+-- what was read, with what is left from the declaration's name on if it announced that
+abbrev one_on : Scope → List ℕ → List ℕ → Declared → Result (Bool × DeclarationsRead) TokenError
+one_on s lefts text next =
+    lefts_after (announcements s) (announcements next.0) lefts text
     >>= λ more. Ok (false, (next.0, more, next.1))
 
-over_by : (n : ℕ) (s : Scope) (places text : List ℕ) (v : Bool) (x : Bool × DeclarationsRead)
+over_by : (n : ℕ) (s : Scope) (lefts text : List ℕ) (v : Bool) (x : Bool × DeclarationsRead)
     (t : DeclarationsRead)
-    → end_at text ≡ Ok v → declaration_or_end (s, places, text) v ≡ Ok x
+    → end_at text ≡ Ok v → declaration_or_end (s, lefts, text) v ≡ Ok x
     → then_declarations n x ≡ Ok t → UnionReads → UnionTakes
-    → ((s : Scope) (places text : List ℕ)
-    → in_steps declarations_step misplaced_after n (s, places, text) ≡ Ok t → TakenAll s text)
+    → ((s : Scope) (lefts text : List ℕ)
+    → in_steps declarations_step misplaced_after n (s, lefts, text) ≡ Ok t → TakenAll s text)
     → TakenAll s text
 unfolding Each
-over_by n s places text true x t over e run reads takes on =
+over_by n s lefts text true x t over e run reads takes on =
     record { declarations = []; words = tt; tokens = end_from text over }
-over_by n s places text false x t over e run reads takes on =
-    let d = bind_ok (declaration_at s text) (one_on s places text) x e in
-    let p = bind_ok (places_after (announcements s) (announcements (d.0).0) places text)
+over_by n s lefts text false x t over e run reads takes on =
+    let d = bind_ok (declaration_at s text) (one_on s lefts text) x e in
+    let p = bind_ok (lefts_after (announcements s) (announcements (d.0).0) lefts text)
     (λ more. Ok (false, ((d.0).0, more, (d.0).1))) x d.2 in
     let k = declaration_takes takes s text d.0 d.1 in
     let rest = on (d.0).0 p.0 (d.0).1
@@ -436,68 +437,68 @@ over_by n s places text false x t over e run reads takes on =
       tokens = tokens;
     }
 
-declarations_take : UnionReads → UnionTakes → (n : ℕ) (s : Scope) (places text : List ℕ)
+declarations_take : UnionReads → UnionTakes → (n : ℕ) (s : Scope) (lefts text : List ℕ)
     (t : DeclarationsRead)
-    → in_steps declarations_step misplaced_after n (s, places, text) ≡ Ok t → TakenAll s text
+    → in_steps declarations_step misplaced_after n (s, lefts, text) ≡ Ok t → TakenAll s text
 unfolding in_steps declarations_step
-declarations_take reads takes zero s places text t e = absurd cc
-declarations_take reads takes (suc n) s places text t e =
-    let x = bind_ok (declarations_step (s, places, text)) (then_declarations n) t e in
-    let o = bind_ok (end_at text) (declaration_or_end (s, places, text)) x.0 x.1 in
-    over_by n s places text o.0 x.0 t o.1 o.2 x.2 reads takes
-    (λ s places text run. declarations_take reads takes n s places text t run)
+declarations_take reads takes zero s lefts text t e = absurd cc
+declarations_take reads takes (suc n) s lefts text t e =
+    let x = bind_ok (declarations_step (s, lefts, text)) (then_declarations n) t e in
+    let o = bind_ok (end_at text) (declaration_or_end (s, lefts, text)) x.0 x.1 in
+    over_by n s lefts text o.0 x.0 t o.1 o.2 x.2 reads takes
+    (λ s lefts text run. declarations_take reads takes n s lefts text t run)
 
 -- what was read of declarations isn't too deep
 
-shallow_by : UnionTakes → (n : ℕ) (s : Scope) (places text : List ℕ) (v : Bool)
+shallow_by : UnionTakes → (n : ℕ) (s : Scope) (lefts text : List ℕ) (v : Bool)
     (x : Bool × DeclarationsRead) (t : DeclarationsRead)
-    → declaration_or_end (s, places, text) v ≡ Ok x → then_declarations n x ≡ Ok t
+    → declaration_or_end (s, lefts, text) v ≡ Ok x → then_declarations n x ≡ Ok t
     → depth_of s.table.types ≤ 24
-    → ((s : Scope) (places text : List ℕ)
-    → in_steps declarations_step misplaced_after n (s, places, text) ≡ Ok t
+    → ((s : Scope) (lefts text : List ℕ)
+    → in_steps declarations_step misplaced_after n (s, lefts, text) ≡ Ok t
     → depth_of s.table.types ≤ 24 → depth_of (t.0).table.types ≤ 24)
     → depth_of (t.0).table.types ≤ 24
-shallow_by takes n s places text true x t e run le on =
-    let first : (true, (s, places, text)) ≡ x = ok_is (true, (s, places, text)) x e in
-    let last : (s, places, text) ≡ t = ok_is (s, places, text) t
+shallow_by takes n s lefts text true x t e run le on =
+    let first : (true, (s, lefts, text)) ≡ x = ok_is (true, (s, lefts, text)) x e in
+    let last : (s, lefts, text) ≡ t = ok_is (s, lefts, text) t
     (ap (then_declarations n) first ∙ run) in
     subst (λ (d : DeclarationsRead). depth_of (d.0).table.types ≤ 24) last le
-shallow_by takes n s places text false x t e run le on =
-    let d = bind_ok (declaration_at s text) (one_on s places text) x e in
-    let p = bind_ok (places_after (announcements s) (announcements (d.0).0) places text)
+shallow_by takes n s lefts text false x t e run le on =
+    let d = bind_ok (declaration_at s text) (one_on s lefts text) x e in
+    let p = bind_ok (lefts_after (announcements s) (announcements (d.0).0) lefts text)
     (λ more. Ok (false, ((d.0).0, more, (d.0).1))) x d.2 in
     on (d.0).0 p.0 (d.0).1
     (ap (then_declarations n) (ok_is (false, ((d.0).0, p.0, (d.0).1)) x p.2) ∙ run)
     (declaration_takes takes s text d.0 d.1).shallow
 
-declarations_shallow : UnionTakes → (n : ℕ) (s : Scope) (places text : List ℕ)
+declarations_shallow : UnionTakes → (n : ℕ) (s : Scope) (lefts text : List ℕ)
     (t : DeclarationsRead)
-    → in_steps declarations_step misplaced_after n (s, places, text) ≡ Ok t
+    → in_steps declarations_step misplaced_after n (s, lefts, text) ≡ Ok t
     → depth_of s.table.types ≤ 24 → depth_of (t.0).table.types ≤ 24
 unfolding in_steps declarations_step
-declarations_shallow takes zero s places text t e le = absurd cc
-declarations_shallow takes (suc n) s places text t e le =
-    let x = bind_ok (declarations_step (s, places, text)) (then_declarations n) t e in
-    let o = bind_ok (end_at text) (declaration_or_end (s, places, text)) x.0 x.1 in
-    shallow_by takes n s places text o.0 x.0 t o.2 x.2 le
-    (λ s places text run le. declarations_shallow takes n s places text t run le)
+declarations_shallow takes zero s lefts text t e le = absurd cc
+declarations_shallow takes (suc n) s lefts text t e le =
+    let x = bind_ok (declarations_step (s, lefts, text)) (then_declarations n) t e in
+    let o = bind_ok (end_at text) (declaration_or_end (s, lefts, text)) x.0 x.1 in
+    shallow_by takes n s lefts text o.0 x.0 t o.2 x.2 le
+    (λ s lefts text run le. declarations_shallow takes n s lefts text t run le)
 
 -- the scope at the end is that of the declarations, settled
-settled_by : (s : Scope) (places : List ℕ) (o : Option ℕ) (t : Scope)
-    → settled_unless s places o ≡ Ok t → settled s ≡ t
-settled_by s places None t e = ok_is (settled s) t e
-settled_by s places (Some i) t e = absurd cc
+settled_by : (s : Scope) (lefts : List ℕ) (o : Option ℕ) (t : Scope)
+    → settled_unless s lefts o ≡ Ok t → settled s ≡ t
+settled_by s lefts None t e = ok_is (settled s) t e
+settled_by s lefts (Some i) t e = absurd cc
 
-settled_takes : (s : Scope) (places : List ℕ) (t : Scope) → settled_at s places ≡ Ok t
+settled_takes : (s : Scope) (lefts : List ℕ) (t : Scope) → settled_at s lefts ≡ Ok t
     → settled s ≡ t
 unfolding settled_at
-settled_takes s places t e = settled_by s places (first_undeclared s.names) t e
+settled_takes s lefts t e = settled_by s lefts (first_undeclared s.names) t e
 
 pub file_shallow : (latest : ℕ) → UnionTakes → (text : List ℕ) (t : Scope)
     → file_at latest text ≡ Ok t → depth_of t.table.types ≤ 24
 unfolding file_at
 file_shallow latest takes text t e =
-    let read : ℕ × List ℕ → Result DeclarationsRead Refusal =
+    let read : ℕ × List ℕ → Result DeclarationsRead TokenError =
     λ h. in_steps declarations_step misplaced_after (length text) (first_scope h.0, [], h.1) in
     let h = bind_ok (head_at latest text) (λ h. read h >>= λ d. settled_at d.0 d.1) t e in
     let d = bind_ok (read h.0) (λ d. settled_at d.0 d.1) t h.2 in

@@ -1,13 +1,13 @@
 -- What reading gives for a signature file, as the contract has it.
 use Rattle.std.proofs.Common.{◌≡◌, ℕ, ◌+◌, ◌^◌, ◌<◌, ◌≤◌, ◌⊎◌, inl, inr, true, eqb, leb, List, [], ◌∷◌, length, Ok, Err, sym, ap, subst, arith}
 use Rattle.std.proofs.lemmas.Bool.{eqb-true, leb-true}
-use Rattle.giop_tokens.specs.declared.fault.Refusal.{Refusal}
+use Rattle.giop_tokens.specs.declared.fault.TokenError.{TokenError}
 use Rattle.giop_tokens.specs.declared.fault.SigFaultKind.TheVariants as kinds
 use Rattle.giop_sig.specs.Grammar.{Declaration, spell_all, SignatureFile, is_version, spell_file}
 use Rattle.giop_sig.specs.Scopes.{Scope, first_scope, declare, last_scope, scope_after, table, targets}
-use Rattle.giop_sig.specs.Validity.{Kind, AllAreDeclared, IsShallow, Each, Rule, IsValid, SpellsUpTo, IsBroken, Refuses}
+use Rattle.giop_sig.specs.Validity.{FaultKind, AllAreDeclared, IsShallow, Each, Rule, IsValid, SpellsUpTo, IsBroken, Refuses}
 use Rattle.giop_sig.specs.FileReading.{file_at}
-use Rattle.giop_sig.proofs.PlaceLaws.{deepest, size, scope_more}
+use Rattle.giop_sig.proofs.AddTypeLaws.{deepest, size, scope_more}
 use Rattle.giop_sig.proofs.Solid.{both}
 use Rattle.giop_sig.proofs.TokensFew.{tokens_few}
 use Rattle.giop_sig.proofs.SizeLaws.{types_few, types_fewer}
@@ -79,7 +79,7 @@ file_few latest reads takes text t most short e =
       first_up_to latest (f.0).version most (f.1).version,
     )
 
-is_broken : (k : Kind) (file : SignatureFile)
+is_broken : (k : FaultKind) (file : SignatureFile)
     → (b : BrokenIn k (first_scope file.version) file.declarations)
     → (Rule k (scope_after (first_scope file.version) b.before) b.broken → ⊥) → IsBroken k file
 is_broken k file b breaks = search (arith)
@@ -109,7 +109,7 @@ limit_broken : (file : SignatureFile)
 limit_broken file b few (inl breaks) = search (arith, is_broken)
 limit_broken file b few (inr many) = absurd (omega arith)
 
-refuses : {latest : ℕ} (k : Kind) (text : List ℕ) (file : SignatureFile)
+refuses : {latest : ℕ} (k : FaultKind) (text : List ℕ) (file : SignatureFile)
     → SpellsUpTo latest text file
     → BrokenIn k (first_scope file.version) file.declarations → Refuses k file
 refuses kinds.OutOfMemory text file spells b = tt
@@ -121,11 +121,11 @@ refuses kinds.Label text file spells b = search (arith, is_broken)
 refuses kinds.Empty text file spells b = search (arith, is_broken)
 refuses _ text file spells b = b.breaks
 
-undeclared_refuses : (k : Kind) (file : SignatureFile) → k ≡ kinds.UnknownType
+undeclared_refuses : (k : FaultKind) (file : SignatureFile) → k ≡ kinds.UnknownType
     → (AllAreDeclared file → ⊥) → Refuses k file
 undeclared_refuses k file e never = subst (λ j. Refuses j file) (sym e) (inr never)
 
-refuses_by : {latest : ℕ} (k : Kind) (text : List ℕ) (file : SignatureFile)
+refuses_by : {latest : ℕ} (k : FaultKind) (text : List ℕ) (file : SignatureFile)
     → SpellsUpTo latest text file
     → BrokenIn k (first_scope file.version) file.declarations
     ⊎ ((k ≡ kinds.UnknownType) × (AllAreDeclared file → ⊥)) → Refuses k file
@@ -134,7 +134,8 @@ refuses_by k text file spells (inr u) = undeclared_refuses k file u.0 u.1
 
 -- a text that spells a file is refused for a rule that one of its declarations breaks, or for a
 -- name that is only announced
-pub file_refuses : {latest : ℕ} → UnionReads → (text : List ℕ) (e : Refusal) (file : SignatureFile)
+pub file_refuses : {latest : ℕ} → UnionReads → (text : List ℕ) (e : TokenError) (file :
+    SignatureFile)
     → SpellsUpTo latest text file → file_at latest text ≡ Err e → Refuses e.kind file
 file_refuses union text e file spells h =
     refuses_by e.kind text file spells (subst (WholeOut file) h (file_reads union text file spells))

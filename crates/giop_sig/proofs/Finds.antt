@@ -26,12 +26,12 @@ pub position-map : {X Y : Type 0} (p : Y → Bool) (f : X → Y) (xs : List X)
 position-map p f xs = search (arith, position_or_len-map, length-map)
 
 -- a name is found at the index of its key
-place_of : {K V X : Type 0} (items : K → List ℕ) (view : K × V → X) (name_in : X → List ℕ)
+index_of : {K V X : Type 0} (items : K → List ℕ) (view : K × V → X) (name_in : X → List ℕ)
     (es : List (K × V)) (key name : List ℕ) → key ≡ name
     → ((e : K × V) → name_in (view e) ≡ items e.0)
     → position (λ k. bytes_eq key (items k)) (map (λ (e : K × V). e.0) es)
     ≡ position (λ x. bytes_eq name (name_in x)) (map view es)
-place_of {K} {V} items view name_in es key name same named =
+index_of {K} {V} items view name_in es key name same named =
     position-map (λ k. bytes_eq key (items k)) (λ (e : K × V). e.0) es
     ∙ ap (λ (n : List ℕ). position (λ (e : K × V). bytes_eq n (items e.0)) es) same
     ∙ ap (λ (f : K × V → List ℕ). position (λ (e : K × V). bytes_eq name (f e)) es)
@@ -69,7 +69,7 @@ pub operation_found : (es : List (ArrayVec ℕ × Signature)) (t : Table) (key n
     (map (λ (e : ArrayVec ℕ × Signature). e.0) es)
     → option_map op_id r ≡ option_map op_id (keyed_number t name)
 operation_found es t key name r view same is =
-    ap (option_map op_id) (is ∙ place_of (λ (k : ArrayVec ℕ). k.items) operation_view
+    ap (option_map op_id) (is ∙ index_of (λ (k : ArrayVec ℕ). k.items) operation_view
     (λ (o : Operation). o.key) es key name same (λ e. refl)
     ∙ ap (λ (os : List Operation). position (λ (o : Operation). bytes_eq name o.key) os) view)
 
@@ -106,12 +106,12 @@ no_exception_long t name laws long =
     no_exception name 128
     (λ i lt. (laws.exceptions i no_exception lt).short) long))
 
-pub exception_place : (es : List (ArrayVec ℕ × TypeId)) (t : Table) (key name : List ℕ)
+pub exception_index : (es : List (ArrayVec ℕ × TypeId)) (t : Table) (key name : List ℕ)
     (r : Option ℕ) → map exception_view es ≡ t.exceptions → key ≡ name
     → r ≡ position (λ (k : ArrayVec ℕ). bytes_eq key k.items)
     (map (λ (e : ArrayVec ℕ × TypeId). e.0) es) → option_map (members_at t) r ≡ exception_in t name
-exception_place es t key name r view same is =
-    ap (option_map (members_at t)) (is ∙ place_of (λ (k : ArrayVec ℕ). k.items) exception_view
+exception_index es t key name r view same is =
+    ap (option_map (members_at t)) (is ∙ index_of (λ (k : ArrayVec ℕ). k.items) exception_view
     (λ (e : Exception). e.repository) es key name same (λ e. refl)
     ∙ ap (λ (xs : List Exception). position (λ (e : Exception). bytes_eq name e.repository) xs)
     view)
@@ -120,7 +120,7 @@ pub exception_none : (es : List (ArrayVec ℕ × TypeId)) (t : Table) (key name 
     → map exception_view es ≡ t.exceptions → key ≡ name
     → None ≡ position (λ (k : ArrayVec ℕ). bytes_eq key k.items)
     (map (λ (e : ArrayVec ℕ × TypeId). e.0) es) → None ≡ exception_in t name
-exception_none es t key name view same is = exception_place es t key name None view same is
+exception_none es t key name view same is = exception_index es t key name None view same is
 
 pub exception_found : (es : List (ArrayVec ℕ × TypeId)) (t : Table) (key name : List ℕ) (i : ℕ)
     (e : ArrayVec ℕ × TypeId) → map exception_view es ≡ t.exceptions → key ≡ name
@@ -132,7 +132,7 @@ exception_found es t key name i e view same is at =
     ap (λ (xs : List Exception). get_or xs i no_exception) (sym view)
     ∙ read_map exception_view es i e no_exception at in
     ap (λ (x : Exception). Some (type_id x.members)) (sym read)
-    ∙ exception_place es t key name (Some i) view same is
+    ∙ exception_index es t key name (Some i) view same is
 
 pub exception_known : (es : List (ArrayVec ℕ × TypeId)) (t : Table) (i : ℕ)
     (e : ArrayVec ℕ × TypeId) → IsTable t → map exception_view es ≡ t.exceptions
@@ -148,13 +148,13 @@ no_identity_long t name laws long =
     no_identity name 128
     (λ i lt. (laws.identities i no_identity lt).short) long))
 
-pub identity_place : (es : List (ArrayVec ℕ × TypeId)) (t : Table) (key name : List ℕ)
+pub identity_index : (es : List (ArrayVec ℕ × TypeId)) (t : Table) (key name : List ℕ)
     (r : Option ℕ) → map identity_view es ≡ t.identities → key ≡ name
     → r ≡ position (λ (k : ArrayVec ℕ). bytes_eq key k.items)
     (map (λ (e : ArrayVec ℕ × TypeId). e.0) es)
     → option_map (identity_at t) r ≡ identified_in t name
-identity_place es t key name r view same is =
-    ap (option_map (identity_at t)) (is ∙ place_of (λ (k : ArrayVec ℕ). k.items) identity_view
+identity_index es t key name r view same is =
+    ap (option_map (identity_at t)) (is ∙ index_of (λ (k : ArrayVec ℕ). k.items) identity_view
     (λ (e : Identity). e.repository) es key name same (λ e. refl)
     ∙ ap (λ (xs : List Identity). position (λ (e : Identity). bytes_eq name e.repository) xs)
     view)
@@ -163,7 +163,7 @@ pub identity_none : (es : List (ArrayVec ℕ × TypeId)) (t : Table) (key name :
     → map identity_view es ≡ t.identities → key ≡ name
     → None ≡ position (λ (k : ArrayVec ℕ). bytes_eq key k.items)
     (map (λ (e : ArrayVec ℕ × TypeId). e.0) es) → None ≡ identified_in t name
-identity_none es t key name view same is = identity_place es t key name None view same is
+identity_none es t key name view same is = identity_index es t key name None view same is
 
 pub identity_found : (es : List (ArrayVec ℕ × TypeId)) (t : Table) (key name : List ℕ) (i : ℕ)
     (e : ArrayVec ℕ × TypeId) → map identity_view es ≡ t.identities → key ≡ name
@@ -175,7 +175,7 @@ identity_found es t key name i e view same is at =
     ap (λ (xs : List Identity). get_or xs i no_identity) (sym view)
     ∙ read_map identity_view es i e no_identity at in
     ap (λ (x : Identity). Some (type_id x.type)) (sym read)
-    ∙ identity_place es t key name (Some i) view same is
+    ∙ identity_index es t key name (Some i) view same is
 
 pub identity_known : (es : List (ArrayVec ℕ × TypeId)) (t : Table) (i : ℕ)
     (e : ArrayVec ℕ × TypeId) → IsTable t → map identity_view es ≡ t.identities

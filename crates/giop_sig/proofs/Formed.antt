@@ -29,7 +29,7 @@ on_some : (P : Part → Type 0) (o : Option Part) (p : Part) → o ≡ Some p �
 on_some P None p e h = absurd cc
 on_some P (Some q) p e h = search (arith)
 
--- the part that is read at a place
+-- the part that is read at an index
 part_in : (types : List Node) (n : ℕ) (ps : List Part) (i : ℕ)
     → AllByRecursion (IsPart types n) ps → i < length ps
     → IsPart types n (record { name = name_of (slice_get ps i); type = type_of (slice_get ps i) })
@@ -59,7 +59,7 @@ narrow_formed types n wide {kind} cases i formed has =
     formed.2)) in
     subst (λ o. IsPart types n (record { name = name_of o; type = type_of o })) (sym there.1) is
 
--- the part at a place is one that the type may have
+-- the part at an index is one that the type may have
 pub part_formed : (types : List Node) (n : ℕ) (node : Node) (i : ℕ) → IsFormed types n node
     → HasInner (shape_of node) i → IsInner types n (type_of (part_at node i))
 part_formed types n (nodes.members parts) i formed has =
@@ -75,7 +75,7 @@ part_formed types n (nodes.array count element) i formed has = formed.1
 part_formed types n (nodes.encapsulation held) i formed has = formed
 part_formed types n (nodes.tagged special tag inner other) i formed has = search (arith, part_in)
 part_formed types n (nodes.any code) i formed has = rw has formed
-part_formed types n (nodes.announced place) i formed has = absurd (omega arith)
+part_formed types n (nodes.announced index) i formed has = absurd (omega arith)
 part_formed types n (nodes.typecode wide kind cases) i formed has =
     (narrow_formed types n wide cases i formed has).inner
 part_formed types n _ i formed has = absurd has
@@ -95,7 +95,7 @@ name_short types n (nodes.tagged special tag inner other) i formed has =
     (part_in types n (tag ∷ inner ∷ other ∷ []) i (formed.1, (formed.2, (formed.3, tt))) has).short
 name_short types n (nodes.typecode wide kind cases) i formed has =
     (narrow_formed types n wide cases i formed has).short
-name_short types n (nodes.announced place) i formed has = absurd (omega arith)
+name_short types n (nodes.announced index) i formed has = absurd (omega arith)
 name_short types n _ i formed has = absurd has
 
 pub switch_formed : (types : List Node) (n : ℕ) (node : Node) → IsFormed types n node

@@ -31,7 +31,7 @@ front_put ks new k front same is =
 
 -- ---- fronts stay within their limits
 
--- ---- the place of a front
+-- ---- the index of a front
 
 position_by : (p : List ℕ → Bool) (ks : List (ArrayVec ℕ))
     → position (λ (k : ArrayVec ℕ). p k.items) ks ≡ position p (items_of ks)

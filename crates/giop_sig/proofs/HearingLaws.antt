@@ -89,7 +89,7 @@ led_any (nodes.array count element) e = absurd cc
 led_any (nodes.encapsulation held) e = absurd cc
 led_any (nodes.tagged special tag inner other) e = absurd cc
 led_any (nodes.marked mark) e = absurd cc
-led_any (nodes.announced place) e = absurd cc
+led_any (nodes.announced index) e = absurd cc
 led_any (nodes.recursive bound element) e = absurd cc
 led_any (nodes.typecode wide kind cases) e = absurd cc
 
@@ -183,11 +183,11 @@ follow_any t i room led =
 
 -- what comes next in an any is a type of the table that can follow there
 selected_follows : (b : ℕ → Bool) (told : Told) (i : ℕ) → selects b told ≡ Then i → b i ≡ true
-selected_follows b (Is j) i e = by_place (b j) refl e
+selected_follows b (Is j) i e = by_index (b j) refl e
   where
-    by_place : (v : Bool) → b j ≡ v → cond v (Then j) Stops ≡ Then i → b i ≡ true
-    by_place true is e = let same : j ≡ i = cc in subst (λ k. b k ≡ true) same is
-    by_place false is e = absurd cc
+    by_index : (v : Bool) → b j ≡ v → cond v (Then j) Stops ≡ Then i → b i ≡ true
+    by_index true is e = let same : j ≡ i = cc in subst (λ k. b k ≡ true) same is
+    by_index false is e = absurd cc
 selected_follows b Untold i e = absurd cc
 selected_follows b (Awaits n) i e = absurd cc
 selected_follows b (Offers j) i e = absurd cc
@@ -204,14 +204,14 @@ sequel_follows t room Empty i e = absurd cc
 sequel_follows t room Unknown i e = absurd cc
 
 pub follows_known : (t : Table) (room i : ℕ) → follows t room i ≡ true → i < length t.types
-follows_known t room i e = by_place (nat_lt i (length t.types)) refl e
+follows_known t room i e = by_index (nat_lt i (length t.types)) refl e
   where
-    by_place : (v : Bool) → nat_lt i (length t.types) ≡ v
+    by_index : (v : Bool) → nat_lt i (length t.types) ≡ v
         → v && takes_octet (node_at t i) && nat_le (depth_in t.types i) room
         && not (t.narrow && wide_in t.types i) ≡ true
         → i < length t.types
-    by_place true is e = ltb-true i (length t.types) is
-    by_place false is e = absurd cc
+    by_index true is e = ltb-true i (length t.types) is
+    by_index false is e = absurd cc
 
 -- the same in a tree
 module _ (t : Table) (room id : ℕ) (led : shape_in (tree_at t (suc room) id) ≡ shapes.Led) where
@@ -231,11 +231,11 @@ module _ (t : Table) (room id : ℕ) (led : shape_in (tree_at t (suc room) id) �
 -- ---- what the code finds
 
 pub not_below : (a b : ℕ) → (a < b → false ≡ true) → b ≤ a
-not_below a b never = by_place (cases_lt a b)
+not_below a b never = by_index (cases_lt a b)
   where
-    by_place : (a < b) ⊎ (b ≤ a) → b ≤ a
-    by_place (inl lt) = absurd (false≢true (never lt))
-    by_place (inr le) = le
+    by_index : (a < b) ⊎ (b ≤ a) → b ≤ a
+    by_index (inl lt) = absurd (false≢true (never lt))
+    by_index (inr le) = le
 
 -- no type comes after the last one
 pub past_next : (t : Table) (i : ℕ) → length t.types ≤ i + 1

@@ -10,7 +10,7 @@ use Rattle.giop_tokens.proofs.ReaderLaws.{bind_ok, ok_is, repository_again, repo
 use Rattle.giop_sig.specs.Table.{Node, identified_in}
 use Rattle.giop_sig.specs.Grammar.{spell_identity}
 use Rattle.giop_sig.specs.Scopes.{is_third, Scope}
-use Rattle.giop_sig.specs.Validity.{Kind, OfTypeId, OfIdentity}
+use Rattle.giop_sig.specs.Validity.{FaultKind, OfTypeId, OfIdentity}
 use Rattle.giop_sig.specs.ScopeViews.{IsNewIdentity}
 use Rattle.giop_sig.specs.Outcomes.{refused}
 use Rattle.giop_sig.specs.ItemReading.{IdentityRead, identity_after, identity_by, identity_at}
@@ -22,7 +22,7 @@ use Rattle.giop_sig.proofs.ItemLaws.{some_none}
 -- ---- a text that is spelled so
 
 identity_keeps : (s : Scope) (id : List ℕ) → is_third s.names ≡ true → length id ≤ 128
-    → identified_in s.table id ≡ None → (k : Kind) → OfTypeId k s id
+    → identified_in s.table id ≡ None → (k : FaultKind) → OfTypeId k s id
 identity_keeps s id third short new kinds.Syntax = third
 identity_keeps s id third short new kinds.Limit = short
 identity_keeps s id third short new kinds.Duplicate = new

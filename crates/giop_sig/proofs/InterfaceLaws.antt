@@ -51,10 +51,10 @@ name_held i ks key id names same =
     ∙ ap (λ (w : List ℕ). list_any (bytes_eq w) (items_of ks)) same
     ∙ ap (list_any (bytes_eq id)) names
 
-name_place : (i : Interfaces) (ks : List (ArrayVec ℕ)) (key : ArrayVec ℕ) (id : List ℕ)
+name_index : (i : Interfaces) (ks : List (ArrayVec ℕ)) (key : ArrayVec ℕ) (id : List ℕ)
     → map (λ (n : ArrayVec ℕ). n.items) ks ≡ i.names → key.items ≡ id
     → position (key_is key) ks ≡ position (bytes_eq id) i.names
-name_place i ks key id names same =
+name_index i ks key id names same =
     sym (position-map (bytes_eq key.items) (λ (n : ArrayVec ℕ). n.items) ks)
     ∙ ap (λ (w : List ℕ). position (bytes_eq w) (items_of ks)) same
     ∙ ap (position (bytes_eq id)) names
@@ -65,7 +65,7 @@ pub name_found : (i : Interfaces) (ks : List (ArrayVec ℕ)) (key : ArrayVec ℕ
     → o ≡ position (key_is key) ks
     → option_map interface_id o ≡ option_map interface_id (position (bytes_eq id) i.names)
 name_found i ks key id o names same is =
-    ap (option_map interface_id) (is ∙ name_place i ks key id names same)
+    ap (option_map interface_id) (is ∙ name_index i ks key id names same)
 
 pub long_name : (i : Interfaces) (id : List ℕ) → All (λ (n : List ℕ). length n ≤ 128) i.names
     → 128 < length id → None ≡ option_map interface_id (position (bytes_eq id) i.names)
@@ -78,14 +78,14 @@ within_by : {X : Type 0} (p : X → Bool) (x : X) (xs : List X) (v : Bool) → p
 within_by p x xs true e le = rw e (omega arith)
 within_by p x xs false e le = rw e (omega arith)
 
-place_within : {X : Type 0} (p : X → Bool) (xs : List X) → position_or_len p xs ≤ length xs
-place_within p [] = omega arith
-place_within p (x ∷ xs) =
-    within_by p x xs (p x) refl (place_within p xs)
+index_within : {X : Type 0} (p : X → Bool) (xs : List X) → position_or_len p xs ≤ length xs
+index_within p [] = omega arith
+index_within p (x ∷ xs) =
+    within_by p x xs (p x) refl (index_within p xs)
 
-place_by : (v : Bool) (a n : ℕ) → Some n ≡ cond v (Some a) None → n ≡ a
-place_by true a n e = search (arith)
-place_by false a n e = absurd cc
+index_by : (v : Bool) (a n : ℕ) → Some n ≡ cond v (Some a) None → n ≡ a
+index_by true a n e = search (arith)
+index_by false a n e = absurd cc
 
 next_by : (v : Bool) (a n : ℕ) → ltb a n ≡ v → a ≤ n → None ≡ cond v (Some a) None → n ≡ a
 next_by true a n e le is = absurd cc
@@ -95,8 +95,8 @@ pub name_numbered : (i : Interfaces) (ks : List (ArrayVec ℕ)) (key : ArrayVec 
     (n : ℕ) → map (λ (n : ArrayVec ℕ). n.items) ks ≡ i.names → key.items ≡ id
     → Some n ≡ position (key_is key) ks → n ≡ number_of i id
 name_numbered i ks key id n names same is =
-    place_by (ltb (number_of i id) (length i.names)) (number_of i id) n
-    (is ∙ name_place i ks key id names same)
+    index_by (ltb (number_of i id) (length i.names)) (number_of i id) n
+    (is ∙ name_index i ks key id names same)
 
 pub name_next : (i : Interfaces) (ks : List (ArrayVec ℕ)) (key : ArrayVec ℕ) (id : List ℕ) (n : ℕ)
     → map (λ (n : ArrayVec ℕ). n.items) ks ≡ i.names → key.items ≡ id → n ≡ length ks
@@ -104,7 +104,7 @@ pub name_next : (i : Interfaces) (ks : List (ArrayVec ℕ)) (key : ArrayVec ℕ)
 name_next i ks key id n names same all is =
     all ∙ sym (length-map ks (λ (n : ArrayVec ℕ). n.items)) ∙ ap length names
     ∙ next_by (ltb (number_of i id) (length i.names)) (number_of i id) (length i.names) refl
-    (place_within (bytes_eq id) i.names) (is ∙ name_place i ks key id names same)
+    (index_within (bytes_eq id) i.names) (is ∙ name_index i ks key id names same)
 
 below_by : (v : Bool) (ns : List (List ℕ)) (id : List ℕ) (n : ℕ) → ltb n (length ns) ≡ v
     → n ≤ length ns → n < length (cond v ns (ns ++ id ∷ []))
@@ -116,7 +116,7 @@ pub number_below : (i : Interfaces) (id : List ℕ)
     → number_of i id < length (with_interface i id).names
 number_below i id =
     below_by (list_any (bytes_eq id) i.names) i.names id (number_of i id)
-    (some_position (bytes_eq id) i.names) (place_within (bytes_eq id) i.names)
+    (some_position (bytes_eq id) i.names) (index_within (bytes_eq id) i.names)
 
 few_by : (i : Interfaces) (id : List ℕ) → length i.names ≤ 1024
     → (list_any (bytes_eq id) i.names ≡ true) ⊎ (length i.names < 1024)
@@ -125,7 +125,7 @@ few_by i id all (inl known) =
     let lt = ltb-true (number_of i id) (length i.names)
     (some_position (bytes_eq id) i.names ∙ known) in
     omega arith
-few_by i id all (inr few) = omega (arith, place_within (bytes_eq id) i.names)
+few_by i id all (inr few) = omega (arith, index_within (bytes_eq id) i.names)
 
 -- the number of an interface, if there is room for it, as the code finds it
 pub number_few : (i there : Interfaces) (id : List ℕ) (n : ℕ) → there ≡ i

@@ -3,7 +3,7 @@ use Rattle.std.proofs.Common.{◌≡◌, inl, ℕ, zero, suc, ◌+◌, ◌<◌, 
 use Rattle.std.specs.Option.{is_some}
 use Rattle.std.proofs.lemmas.List.{length-append, append-nil}
 use Rattle.std.proofs.lemmas.Bool.{ltb-true, ltb-false, leb-true, leb-false, false≢true}
-use Rattle.giop_tokens.specs.declared.fault.Refusal.{Refusal}
+use Rattle.giop_tokens.specs.declared.fault.TokenError.{TokenError}
 use Rattle.giop_tokens.specs.declared.fault.SigFaultKind.TheVariants as kinds
 use Rattle.giop_tokens.specs.declared.marks.Mark.TheVariants as marks
 use Rattle.giop_tokens.specs.Tokens.{Token, word, mark, AreTokens}
@@ -15,12 +15,12 @@ use Rattle.giop_sig.specs.declared.announced.TypeWord.{TypeWord}
 use Rattle.giop_sig.specs.Table.{Node, Part}
 use Rattle.giop_sig.specs.Trees.{depth_of}
 use Rattle.giop_sig.specs.Grammar.{TypeExpr, Base, Item, spell_lengths, spell_type, spell_item, spell_items}
-use Rattle.giop_sig.specs.Scopes.{Names, is_third, Scope, item_part, place, add_arrays, add_item, add_items}
-use Rattle.giop_sig.specs.Validity.{Kind, IsFree, is_among, is_taken, OfNewName, OfSome, OfItem, OfItems, OfDeclared}
+use Rattle.giop_sig.specs.Scopes.{Names, is_third, Scope, item_part, add_type, add_arrays, add_item, add_items}
+use Rattle.giop_sig.specs.Validity.{FaultKind, IsFree, is_among, is_taken, OfNewName, OfSome, OfItem, OfItems, OfDeclared}
 use Rattle.giop_sig.specs.Outcomes.{refused}
 use Rattle.giop_sig.specs.TypeReading.{type_at}
 use Rattle.giop_sig.specs.ItemReading.{new_name_at, declared_at, ItemRead, lengths_at, most_lengths, read_item, item_at, Members, member_at, member_step, MembersRead, members_run, filled_at, Declared, too_deep, end_of}
-use Rattle.giop_sig.proofs.PlaceLaws.{within_same, arrays_more, item_names, items_more}
+use Rattle.giop_sig.proofs.AddTypeLaws.{within_same, arrays_more, item_names, items_more}
 use Rattle.giop_sig.proofs.ReadingLaws.{Out, good, broken, out_bind, out_more, Apart, if_apart}
 use Rattle.giop_sig.proofs.LengthLaws.{lengths_reads}
 use Rattle.giop_sig.proofs.TypeLaws.{type_reads}
@@ -30,7 +30,7 @@ use Rattle.giop_sig.specs.Repeats.{in_steps}
 
 -- ---- a list that isn't empty
 
-pub some_keeps : {X : Type 0} (x : X) (xs : List X) (k : Kind) → OfSome k (x ∷ xs)
+pub some_keeps : {X : Type 0} (x : X) (xs : List X) (k : FaultKind) → OfSome k (x ∷ xs)
 some_keeps x xs kinds.Token = tt
 some_keeps x xs _ = tt
 
@@ -48,17 +48,18 @@ filled_on text h = rw h refl
 -- what is asked of a new name
 pub name_keeps : (third : Bool) (most : ℕ) (seen : List (List ℕ)) (w : List ℕ) → IsFree third w
     → length w ≤ 64 → length seen < most → is_among seen w ≡ false
-    → (k : Kind) → OfNewName k third most seen w
+    → (k : FaultKind) → OfNewName k third most seen w
 name_keeps third most seen w free short few new kinds.Syntax = free
 name_keeps third most seen w free short few new kinds.Duplicate = new
 name_keeps third most seen w free short few new kinds.Limit = (short, few)
 name_keeps third most seen w free short few new _ = tt
 
 -- a word that is new and for which there is room, or a rule that is broken
-pub unused_reads : {rule : Kind → Type 0} {types : List Node} {more : List Token}
+pub unused_reads : {rule : FaultKind → Type 0} {types : List Node} {more : List Token}
     (known full : Bool)
     (text w rest : List ℕ) → AreTokens rest more → (known ≡ true → rule kinds.Duplicate → ⊥)
-    → (full ≡ true → rule kinds.Limit → ⊥) → (known ≡ false → full ≡ false → (k : Kind) → rule k)
+    → (full ≡ true → rule kinds.Limit → ⊥) → (known ≡ false → full ≡ false → (k : FaultKind) →
+    rule k)
     → Out {X = List ℕ × List ℕ} (λ rest. (w, rest)) rule types more
     (unused known full text (w, rest))
 unused_reads true full text w rest m double many keeps = search (arith, broken)
@@ -66,9 +67,9 @@ unused_reads false true text w rest m double many keeps = search (arith, broken)
 unused_reads false false text w rest m double many keeps = good rest m (keeps refl refl)
 
 -- what comes after an identifier that isn't too long
-identifier_by : {X : Type 0} {made : List ℕ → X} {rule : Kind → Type 0} {types : List Node}
+identifier_by : {X : Type 0} {made : List ℕ → X} {rule : FaultKind → Type 0} {types : List Node}
     {more : List Token}
-    (third : Bool) (f : List ℕ × List ℕ → Result X Refusal) (text w : List ℕ) (v : Bool)
+    (third : Bool) (f : List ℕ × List ℕ → Result X TokenError) (text w : List ℕ) (v : Bool)
     → ltb 64 (length w) ≡ v →
     IsFree third w
     → AreTokens text (word w ∷ more) → (64 < length w → rule kinds.Limit → ⊥)
@@ -99,7 +100,7 @@ new_name_reads third types most seen text w more free h =
 
 declared_keeps : (s : Scope) (kind : Option TypeWord) (count : ℕ) (w : List ℕ)
     → IsFree (is_third s.names) w → length w ≤ 64 → count < 4096
-    → is_taken s.names kind w ≡ false → (k : Kind) → OfDeclared k s kind count w
+    → is_taken s.names kind w ≡ false → (k : FaultKind) → OfDeclared k s kind count w
 declared_keeps s kind count w free short few new kinds.Syntax = free
 declared_keeps s kind count w free short few new kinds.Duplicate = new
 declared_keeps s kind count w free short few new kinds.Limit = (short, few)
@@ -137,7 +138,7 @@ pub item_reads : (most : ℕ) (seen : List (List ℕ)) (s : Scope) (i : Item) (t
     (item_at most seen s text)
 unfolding item_at
 item_reads most seen s i text more free apart h =
-    let p = place s i.type in
+    let p = add_type s i.type in
     out_bind (type_at s text) (λ t. new_name_at (is_third s.names) most seen t.2 >>= λ n.
     lengths_at (most_lengths (is_third s.names) n.1) n.1
     >>= λ l. Ok (read_item (add_arrays l.0 (t.0, t.1)) n.0 l.1))
@@ -146,17 +147,17 @@ item_reads most seen s i text more free apart h =
     out_bind (new_name_at (is_third s.names) most seen a)
     (λ n. lengths_at (most_lengths (is_third s.names) n.1) n.1
     >>= λ l. Ok (read_item (add_arrays l.0 p) n.0 l.1))
-    (new_name_reads (is_third s.names) (place s i.type).0.table.types most seen a i.name
+    (new_name_reads (is_third s.names) (add_type s i.type).0.table.types most seen a i.name
     (spell_lengths i.lengths more)
     free.1 ta)
     (λ b tb kb.
     out_bind (lengths_at (most_lengths (is_third s.names) b) b)
     (λ l. Ok (read_item (add_arrays l.0 p) i.name l.1))
-    (lengths_reads (place s i.type).0.table.types s.names i.lengths b more free.2 apart tb)
+    (lengths_reads (add_type s i.type).0.table.types s.names i.lengths b more free.2 apart tb)
     (λ c tc kc. good c tc (λ k. (ka k, kb k, kc k)))
-    (λ k w. w.2) (arrays_more i.lengths (place s i.type)))
-    (λ k w. w.1) (arrays_more i.lengths (place s i.type)))
-    (λ k w. w.0) (arrays_more i.lengths (place s i.type))
+    (λ k w. w.2) (arrays_more i.lengths (add_type s i.type)))
+    (λ k w. w.1) (arrays_more i.lengths (add_type s i.type)))
+    (λ k w. w.0) (arrays_more i.lengths (add_type s i.type))
 
 -- ---- members
 
@@ -210,8 +211,8 @@ unfolding OfItems add_items
 closes seen parts s names rest more m = search (arith, append-nil, good)
 
 made_on : (parts : List Part) (s : Scope) (i : Item) (is : List Item) (names : Names)
-    (seen : List (List ℕ)) (more : List Token) (r : Result MembersRead Refusal)
-    → ((k : Kind) → OfItem k names 256 seen i)
+    (seen : List (List ℕ)) (more : List Token) (r : Result MembersRead TokenError)
+    → ((k : FaultKind) → OfItem k names 256 seen i)
     → Out (made_members (parts ++ item_part i (add_item s i) ∷ []) (add_item s i).0 is)
     (λ k. OfItems k names 256 (seen ++ i.name ∷ []) is)
     (add_items (add_item s i).0 is).0.table.types more r
@@ -230,11 +231,11 @@ made_on parts s i is names seen more r first o =
 -- a member, and then the others
 member_on : (n : ℕ) (seen : List (List ℕ)) (parts : List Part) (s : Scope) (names : Names)
     (i : Item) (is : List Item) (more : List Token) → s.names ≡ names
-    → (r : Result (Bool × Members) Refusal)
+    → (r : Result (Bool × Members) TokenError)
     → Out (made_member seen parts s i) (λ k. OfItem k names 256 seen i)
     (add_item s i).0.table.types (spell_items is more) r
     → ((rest : List ℕ) → AreTokens rest (spell_items is more)
-    → ((k : Kind) → OfItem k names 256 seen i)
+    → ((k : FaultKind) → OfItem k names 256 seen i)
     → Out (made_members (parts ++ item_part i (add_item s i) ∷ []) (add_item s i).0 is)
     (λ k. OfItems k names 256 (seen ++ i.name ∷ []) is)
     (add_items (add_item s i).0 is).0.table.types more
@@ -293,16 +294,17 @@ members_reads (i ∷ is) (suc n) seen parts s names text more same fuel few free
 
 -- ---- the end of a declaration
 
-end_by : (at : ℕ) (s : Scope) (rule : Kind → Type 0) (rest : List ℕ) (more : List Token) (v : Bool)
-    → leb (depth_of s.table.types) 24 ≡ v → AreTokens rest more → ((k : Kind) → rule k)
+end_by : (at : ℕ) (s : Scope) (rule : FaultKind → Type 0) (rest : List ℕ) (more : List Token) (v :
+    Bool)
+    → leb (depth_of s.table.types) 24 ≡ v → AreTokens rest more → ((k : FaultKind) → rule k)
     → Out {X = Declared} (λ rest. (s, rest)) rule s.table.types more
     (cond v (Ok (s, rest)) (Err (too_deep at)))
 end_by at s rule rest more true d m keeps = good rest m keeps
 end_by at s rule rest more false d m keeps = search (arith, broken, leb-false)
 
 -- the end of a declaration that keeps the other rules
-pub end_reads : (at : ℕ) (s : Scope) (rule : Kind → Type 0) (text : List ℕ) (more : List Token)
-    → AreTokens text (mark marks.Semicolon ∷ more) → ((k : Kind) → rule k)
+pub end_reads : (at : ℕ) (s : Scope) (rule : FaultKind → Type 0) (text : List ℕ) (more : List Token)
+    → AreTokens text (mark marks.Semicolon ∷ more) → ((k : FaultKind) → rule k)
     → Out {X = Declared} (λ rest. (s, rest)) rule s.table.types more (end_of at s text)
 unfolding end_of
 end_reads at s rule text more h keeps =

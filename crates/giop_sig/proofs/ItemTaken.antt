@@ -8,7 +8,7 @@ use Rattle.std.specs.Str.{bytes_eq}
 use Rattle.std.proofs.lemmas.List.{length-append}
 use Rattle.std.proofs.lemmas.List.Elements.{All-push}
 use Rattle.std.proofs.lemmas.Bool.{leb-true, leb-false}
-use Rattle.giop_tokens.specs.declared.fault.Refusal.{Refusal}
+use Rattle.giop_tokens.specs.declared.fault.TokenError.{TokenError}
 use Rattle.giop_tokens.specs.declared.fault.SigFaultKind.TheVariants as kinds
 use Rattle.giop_tokens.specs.declared.marks.Mark.TheVariants as marks
 use Rattle.giop_tokens.specs.Tokens.{word, repository, mark}
@@ -43,7 +43,7 @@ pub record NameTaken (third : Bool) (most : ℕ) (seen : List (List ℕ)) (text 
   pub front : Takes text (word x.0) x.1
 
 -- a word, unless it is in the list, or the list is full
-abbrev pub unused : Bool → Bool → List ℕ → List ℕ × List ℕ → Result (List ℕ × List ℕ) Refusal
+abbrev pub unused : Bool → Bool → List ℕ → List ℕ × List ℕ → Result (List ℕ × List ℕ) TokenError
 unused known full text n =
     cond known (Err (refused kinds.Duplicate text))
     (cond full (Err (refused kinds.Limit text)) (Ok (n.0, n.1)))
@@ -219,7 +219,7 @@ member_on n seen parts s text r i x a e t = record {
       (record { inner = h.known; short = a.short }));
 }
 
-abbrev pub then_run : ℕ → Bool × Members → Result MembersRead Refusal
+abbrev pub then_run : ℕ → Bool × Members → Result MembersRead TokenError
 then_run n x =
     cond x.0 (Ok x.1) (in_steps member_step too_many_members n x.1) >>= members_read
 

@@ -157,7 +157,7 @@ values_again (nodes.encapsulation held) v w n above also e f = absurd cc
 values_again (nodes.tagged special tag inner other) v w n above also e f = absurd cc
 values_again (nodes.marked mark) v w n above also e f = absurd cc
 values_again (nodes.any code) v w n above also e f = absurd cc
-values_again (nodes.announced place) v w n above also e f = absurd cc
+values_again (nodes.announced index) v w n above also e f = absurd cc
 values_again (nodes.recursive bound element) v w n above also e f = absurd cc
 values_again (nodes.typecode wide kind cases) v w n above also e f = absurd cc
 

@@ -8,7 +8,7 @@ use Rattle.std.proofs.lemmas.List.{length-append, length-map, map-append, append
 use Rattle.giop_cdr.specs.declared.prim.Primitive.{Primitive}
 use Rattle.giop_cdr.specs.declared.prim.Primitive.TheVariants as prims
 use Rattle.giop_cdr.specs.declared.number.Number.{Number}
-use Rattle.giop_tokens.specs.declared.fault.Refusal.{Refusal}
+use Rattle.giop_tokens.specs.declared.fault.TokenError.{TokenError}
 use Rattle.giop_tokens.specs.declared.fault.SigFaultKind.TheVariants as kinds
 use Rattle.giop_tokens.specs.declared.marks.Mark.TheVariants as marks
 use Rattle.giop_tokens.specs.Tokens.{Token, word, mark, AreTokens}
@@ -19,11 +19,11 @@ use Rattle.giop_tokens.proofs.ReaderLaws.{if_other, mark_again, keyword_again, k
 use Rattle.giop_sig.specs.Table.{Node}
 use Rattle.giop_sig.specs.Grammar.{TypeExpr, Base, Text, Reference, AnyType, CodeType, WideChar, WideText, Named, SequenceOf, EncapsulationOf, base_word, Value, Plain, Below, Truth, Enumerator, Label, Default, Of, spell_type, spell_value, spell_label, spell_labels}
 use Rattle.giop_sig.specs.Scopes.{Names, is_third, label_number, label_numbers, has_default}
-use Rattle.giop_sig.specs.Validity.{Kind, IsFree, OfType, OfEnumerator, OfFit, OfValueName, OfLabelValue, same_label, OfNewLabel, OfLabel, OfLabels}
+use Rattle.giop_sig.specs.Validity.{FaultKind, IsFree, OfType, OfEnumerator, OfFit, OfValueName, OfLabelValue, same_label, OfNewLabel, OfLabel, OfLabels}
 use Rattle.giop_sig.specs.Outcomes.{refused}
 use Rattle.giop_sig.specs.Repeats.{in_steps}
 use Rattle.giop_sig.specs.UnionReading.{value_at, Mark, LabelRead, fitting, number_of_value, unseen_label, label_at, LabelsRead, with_label, begins_label, labels_step, too_many_labels, labels_at}
-use Rattle.giop_sig.proofs.PlaceLaws.{within_same}
+use Rattle.giop_sig.proofs.AddTypeLaws.{within_same}
 use Rattle.giop_sig.proofs.ReadingLaws.{Out, good, broken, out_bind, out_more}
 use Rattle.giop_sig.proofs.TypeLaws.{is_not}
 use Rattle.giop_sig.proofs.EnumLaws.{out_as}
@@ -32,7 +32,7 @@ use Rattle.giop_sig.proofs.Negatives.{negative_some}
 
 -- ---- a value
 
-enumerator_keeps : (third : Bool) (w : List ℕ) → IsFree third w → length w ≤ 64 → (k : Kind)
+enumerator_keeps : (third : Bool) (w : List ℕ) → IsFree third w → length w ≤ 64 → (k : FaultKind)
     → OfEnumerator k third w
 enumerator_keeps third w free short kinds.Syntax = free
 enumerator_keeps third w free short kinds.Limit = short
@@ -77,7 +77,7 @@ value_reads third (Enumerator w) text types more free h = search (
 )
 
 fit_keeps : (node : Node) (v : Value) (n : Number) → label_number node v ≡ Some n
-    → (k : Kind) → OfFit k node v
+    → (k : FaultKind) → OfFit k node v
 fit_keeps node v n e kinds.Label = (n, e)
 fit_keeps node v n e _ = tt
 
@@ -88,7 +88,7 @@ no_fit (Some n) e k = absurd cc
 fit_by : (third : Bool) (node : Node) (v : Value) (text rest : List ℕ) (types : List Node)
     (more : List Token)
     (o : Option Number) → label_number node v ≡ o → AreTokens rest more
-    → ((k : Kind) → OfValueName k third v)
+    → ((k : FaultKind) → OfValueName k third v)
     → Out {X = LabelRead} (λ rest. (label_number node v, rest))
     (λ k. OfValueName k third v × OfFit k node v) types more (fitting text rest o)
 fit_by third node v text rest types more None e m keeps = search (arith, broken, no_fit)
@@ -110,7 +110,7 @@ number_reads third node v text types more free h =
 -- ---- a label
 
 new_keeps : (seen : List Label) (l : Label) → length seen < 1024
-    → list_any (same_label l) seen ≡ false → (k : Kind) → OfNewLabel k seen l
+    → list_any (same_label l) seen ≡ false → (k : FaultKind) → OfNewLabel k seen l
 new_keeps seen l few new kinds.Duplicate = new
 new_keeps seen l few new kinds.Limit = few
 new_keeps seen l few new _ = tt
@@ -355,7 +355,7 @@ pub all_push : {X : Type 0} (P : X → Type 0) (xs : List X) (x : X) → AllByRe
 all_push P [] x all p = (p, tt)
 all_push P (y ∷ ys) x all p = (all.0, all_push P ys x all.1 p)
 
-abbrev pub then_labels : Bool → Node → ℕ → Bool × LabelsRead → Result LabelsRead Refusal
+abbrev pub then_labels : Bool → Node → ℕ → Bool × LabelsRead → Result LabelsRead TokenError
 then_labels third node left x =
     cond x.0 (Ok x.1) (in_steps (labels_step third node) too_many_labels left x.1)
 

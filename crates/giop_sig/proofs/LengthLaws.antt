@@ -3,22 +3,22 @@
 use Rattle.std.proofs.Common.{◌≡◌, ℕ, zero, suc, ◌+◌, ◌-◌, ◌<◌, ◌≤◌, Bool, true, false, List, [], ◌∷◌, ◌++◌, length, Option, Some, None, Result, Ok, Err, append_assoc, refl, sym, ap, subst, ◌∙◌, arith}
 use Rattle.std.proofs.lemmas.List.{append-nil}
 use Rattle.std.proofs.lemmas.Bool.{false≢true}
-use Rattle.giop_tokens.specs.declared.fault.Refusal.{Refusal}
+use Rattle.giop_tokens.specs.declared.fault.TokenError.{TokenError}
 use Rattle.giop_tokens.specs.declared.fault.SigFaultKind.TheVariants as kinds
 use Rattle.giop_tokens.specs.declared.marks.Mark.TheVariants as marks
 use Rattle.giop_tokens.specs.Tokens.{Token, AreTokens}
 use Rattle.giop_tokens.specs.Reading.{◌>>=◌}
 use Rattle.giop_tokens.proofs.ReaderLaws.{bind_ok, ok_is}
-use Rattle.giop_sig.specs.declared.parse_stop.ParseStop.{ParseStop}
+use Rattle.giop_sig.specs.declared.parse_stop.ParseError.{ParseError}
 use Rattle.giop_sig.specs.Table.{Node}
 use Rattle.giop_sig.specs.Table as nodes
 use Rattle.giop_sig.specs.Grammar.{spell_between, spell_lengths}
 use Rattle.giop_sig.specs.Scopes.{Names, is_third, AddedType, add_array, add_arrays}
-use Rattle.giop_sig.specs.Validity.{Kind, OfSizes, OfLengths}
+use Rattle.giop_sig.specs.Validity.{FaultKind, OfSizes, OfLengths}
 use Rattle.giop_sig.specs.Outcomes.{Stops}
 use Rattle.giop_sig.specs.TypeReading.{enclosed_at}
 use Rattle.giop_sig.specs.ItemReading.{LengthsRead, onto_lengths, lengths_after, lengths_at, most_lengths}
-use Rattle.giop_sig.proofs.PlaceLaws.{within_same}
+use Rattle.giop_sig.proofs.AddTypeLaws.{within_same}
 use Rattle.giop_sig.proofs.ReadingLaws.{Out, good, out_bind, out_more, Apart, Took}
 use Rattle.giop_sig.proofs.SizeReads.{some_reads, enclosed_reads}
 use Rattle.giop_sig.proofs.SizeTaken.{enclosed_takes}
@@ -29,13 +29,13 @@ use Rattle.giop_sig.proofs.TokensFew.{tokens_few}
 
 -- ---- how many there may be
 
-lengths_keep : (names : Names) (ns : List ℕ) → OfLengths kinds.Syntax names ns → (k : Kind)
+lengths_keep : (names : Names) (ns : List ℕ) → OfLengths kinds.Syntax names ns → (k : FaultKind)
     → OfSizes k ns → OfLengths k names ns
 lengths_keep names [] free k w = tt
 lengths_keep names (n ∷ []) free k w = (tt, w)
 lengths_keep names (m ∷ n ∷ ns) free k w = (third_keeps names free.0 k, w)
 
-lengths_sized : (names : Names) (ns : List ℕ) (k : Kind) → OfLengths k names ns → OfSizes k ns
+lengths_sized : (names : Names) (ns : List ℕ) (k : FaultKind) → OfLengths k names ns → OfSizes k ns
 lengths_sized names [] k w = tt
 lengths_sized names (n ∷ ns) k w = w.1
 
@@ -149,19 +149,19 @@ lengths_takes names text x e =
 -- ---- the loop that reads them
 
 -- lengths after others
-abbrev pub behind : List ℕ → LengthsRead → Result LengthsRead Refusal
+abbrev pub behind : List ℕ → LengthsRead → Result LengthsRead TokenError
 behind ns ls = Ok (ns ++ ls.0, ls.1)
 
-pub behind_none : (r : Result LengthsRead Refusal) → (r >>= behind []) ≡ r
+pub behind_none : (r : Result LengthsRead TokenError) → (r >>= behind []) ≡ r
 behind_none (Ok ls) = refl
 behind_none (Err e) = refl
 
-one_behind : (ns : List ℕ) (n : ℕ) (r : Result LengthsRead Refusal)
+one_behind : (ns : List ℕ) (n : ℕ) (r : Result LengthsRead TokenError)
     → ((r >>= λ ls. Ok (onto_lengths n ls)) >>= behind ns) ≡ (r >>= behind (ns ++ n ∷ []))
 one_behind ns n (Ok ls) = ap (λ xs. Ok (xs, ls.1)) (sym (append_assoc ns (n ∷ []) ls.0))
 one_behind ns n (Err e) = refl
 
-module _ (most i : ℕ) (ns text : List ℕ) (total : Result LengthsRead Refusal)
+module _ (most i : ℕ) (ns text : List ℕ) (total : Result LengthsRead TokenError)
     (so_far : (lengths_at (most - i) text >>= behind ns) ≡ total) where
   one_more : i < most
       → ((enclosed_at marks.OpenBracket marks.CloseBracket text
@@ -187,7 +187,7 @@ module _ (most i : ℕ) (ns text : List ℕ) (total : Result LengthsRead Refusal
       ∙ ap (λ r. (r >>= lengths_after (lengths_at (most - (i + 1)))) >>= behind ns) e
       ∙ ap (λ xs. Ok (xs, rest)) (append-nil ns)
 
-  pub lengths_fail : i < most → (e : ParseStop)
+  pub lengths_fail : i < most → (e : ParseError)
       → Stops e (enclosed_at marks.OpenBracket marks.CloseBracket text) → Stops e total
   lengths_fail lt e h =
       subst (Stops e) (one_more lt) (stops_on e _ (behind ns) (stops_on e _ _ h))

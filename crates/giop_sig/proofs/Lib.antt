@@ -25,7 +25,7 @@ mod OneList
 mod ListOrder
 mod ScopeLaws
 mod ReadingLaws
-mod PlaceLaws
+mod AddTypeLaws
 mod SizeTaken
 mod TypeTaken
 mod SettleLaws

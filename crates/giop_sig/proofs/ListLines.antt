@@ -18,7 +18,7 @@ module _ {X : Type 0} (p : X → Bool) where
     pub parts : xs ≡ front ++ y ∷ back
     pub none : NonePass front
     pub passes : p y ≡ true
-    pub place : position_or_len p xs ≡ length front
+    pub index : position_or_len p xs ≡ length front
 
   abbrev pub Cuts : List X → Type 0
   Cuts xs = (NonePass xs × (position_or_len p xs ≡ length xs))
@@ -35,7 +35,7 @@ module _ {X : Type 0} (p : X → Bool) where
       none = (e, h.3.none);
       passes =
           h.3.passes;
-      place = rw e (omega (arith, h.3.place));
+      index = rw e (omega (arith, h.3.index));
     },
   )
 
@@ -44,7 +44,7 @@ module _ {X : Type 0} (p : X → Bool) where
     [],
     x,
     xs,
-    record { parts = refl; none = tt; passes = e; place = rw e refl },
+    record { parts = refl; none = tt; passes = e; index = rw e refl },
   )
   cuts_cons x xs false e h = cuts_on x xs e h
 
@@ -52,14 +52,14 @@ module _ {X : Type 0} (p : X → Bool) where
   cuts [] = inl (tt, refl)
   cuts (x ∷ xs) = search (arith, cuts_cons, cuts xs)
 
-  place_on : (x : X) (xs : List X) (n : ℕ) → p x ≡ false → position_or_len p xs ≡ n →
+  index_on : (x : X) (xs : List X) (n : ℕ) → p x ≡ false → position_or_len p xs ≡ n →
       position_or_len p (x ∷ xs) ≡ suc n
-  place_on x xs n e h = rw e (omega (arith, h))
+  index_on x xs n e h = rw e (omega (arith, h))
 
-  place_made : (front : List X) (y : X) (back : List X) → NonePass front → p y ≡ true →
+  index_made : (front : List X) (y : X) (back : List X) → NonePass front → p y ≡ true →
       position_or_len p (front ++ y ∷ back) ≡ length front
-  place_made [] y back none e = rw e refl
-  place_made (x ∷ front) y back none e = search (arith, place_on, place_made front y back none.1 e)
+  index_made [] y back none e = rw e refl
+  index_made (x ∷ front) y back none e = search (arith, index_on, index_made front y back none.1 e)
 
   pub cut_made : (xs front : List X) (y : X) (back : List X) → xs ≡ front ++ y ∷ back →
       NonePass front → p y ≡ true → Cut xs front y back
@@ -67,7 +67,7 @@ module _ {X : Type 0} (p : X → Bool) where
     parts = parts;
     none = none;
     passes = e;
-    place = ap (position_or_len p) parts ∙ place_made front y back none e;
+    index = ap (position_or_len p) parts ∙ index_made front y back none e;
   }
 
   pub none_cut : (front : List X) (y : X) (back : List X) → NonePass (front ++ y ∷ back) →
@@ -110,8 +110,8 @@ module _ {X : Type 0} (p : X → Bool) where
   cut_is xs front y back k c d =
       let len : length (take k xs) ≡ k = omega (arith, length-take k xs, d.inside) in
       let e : position_or_len p xs ≡ k = ap (position_or_len p) d.parts
-      ∙ place_made (take k xs) d.first (drop (k + 1) xs) d.none d.passes ∙ len in
-      let l : length front ≡ k = sym c.place ∙ e in
+      ∙ index_made (take k xs) d.first (drop (k + 1) xs) d.none d.passes ∙ len in
+      let l : length front ≡ k = sym c.index ∙ e in
       let t : take k xs ≡ front = ap (take k) c.parts ∙ take_at front (y ∷ back) k l in
       let r : drop (k + 1) xs ≡ back = ap (drop (k + 1))
       (c.parts ∙ sym (append_assoc front (y ∷ []) back))

@@ -6,7 +6,7 @@ use Rattle.std.specs.Option.{option_map}
 use Rattle.giop_cdr.specs.declared.number.Number.{Number}
 use Rattle.giop_sig.specs.declared.types.Shape.{Shape}
 use Rattle.giop_sig.specs.declared.types.Shape.TheVariants as shapes
-use Rattle.giop_sig.specs.Types.{Cases, Enum, Ty, Single, Struct, Union, Sequence, Array, IsUnion, shape_in, HasShape, HasMember, HasPlace, HasInner, part_of, name_in, enum_name_in, switch_of, select_in, interpreted_in, Tag, Encapsulation, Recursive, Led, Octets, Raw}
+use Rattle.giop_sig.specs.Types.{Cases, Enum, Ty, Single, Struct, Union, Sequence, Array, IsUnion, shape_in, HasShape, HasMember, HasIndex, HasInner, part_of, name_in, enum_name_in, switch_of, select_in, interpreted_in, Tag, Encapsulation, Recursive, Led, Octets, Raw}
 use Rattle.giop_sig.specs.Table.{Node, Part, Case, TakesOctet, shape_of, part_at, switch_at, type_of, name_of, name_at, selected, case_part}
 use Rattle.giop_sig.specs.Table as nodes
 use Rattle.giop_sig.specs.Trees.{Room, grow, in_room, name_or, wide_room}
@@ -40,19 +40,19 @@ case_below [] i lt = absurd (omega arith)
 case_below (c ∷ cs) zero lt = (c.part, refl)
 case_below (c ∷ cs) (suc i) lt = case_below cs i (omega arith)
 
--- a part with a smaller number is at a place of the shape
-pub shape_place : (s : Shape) (i : ℕ) → HasInner s i → HasPlace s i
-shape_place shapes.Led i has = tt
-shape_place (shapes.Recursive bound) i has = tt
-shape_place _ i has = has
+-- a part with a smaller number is at an index of the shape
+pub shape_index : (s : Shape) (i : ℕ) → HasInner s i → HasIndex s i
+shape_index shapes.Led i has = tt
+shape_index (shapes.Recursive bound) i has = tt
+shape_index _ i has = has
 
-pub inner_place : (node : Node) (i : ℕ) → HasInner (shape_of node) i → HasPlace (shape_of node) i
-inner_place (nodes.any code) i has = tt
-inner_place (nodes.recursive bound element) i has = tt
-inner_place _ i has = has
+pub inner_index : (node : Node) (i : ℕ) → HasInner (shape_of node) i → HasIndex (shape_of node) i
+inner_index (nodes.any code) i has = tt
+inner_index (nodes.recursive bound element) i has = tt
+inner_index _ i has = has
 
--- there is a part at each place of the shape
-pub part_there : (node : Node) (i : ℕ) → HasPlace (shape_of node) i
+-- there is a part at each index of the shape
+pub part_there : (node : Node) (i : ℕ) → HasIndex (shape_of node) i
     → (p : Part) × (part_at node i ≡ Some p)
 part_there (nodes.members parts) i has = read_below parts i has
 part_there (nodes.union switch cases otherwise) i has = case_below cases i has
@@ -61,13 +61,13 @@ part_there (nodes.array count element) i has = (nodes.element_part element, refl
 part_there (nodes.encapsulation held) i has = (nodes.element_part held, refl)
 part_there (nodes.tagged special tag inner other) i has = search (arith, read_below)
 part_there (nodes.any code) i has = (nodes.any_part code i, refl)
-part_there (nodes.announced place) i has = absurd (omega arith)
+part_there (nodes.announced index) i has = absurd (omega arith)
 part_there (nodes.recursive bound element) i has = (nodes.element_part element, refl)
 part_there (nodes.typecode wide kind cases) i has = let p = case_below cases i has in
     (nodes.narrow_part wide p.0, ap (option_map (nodes.narrow_part wide)) p.1)
 part_there _ i has = absurd has
 
-pub part_grown : (h : Room) (tree : ℕ → Ty) (node : Node) (i : ℕ) → HasPlace (shape_of node) i
+pub part_grown : (h : Room) (tree : ℕ → Ty) (node : Node) (i : ℕ) → HasIndex (shape_of node) i
     → tree (type_of (part_at node i)) ≡ part_of (grow h tree node) i
 part_grown h tree (nodes.members parts) i has = let p = read_below parts i has in rw (p.1) refl
 part_grown h tree (nodes.union switch cases otherwise) i has = let p = case_below cases i has in
@@ -76,7 +76,7 @@ part_grown h tree (nodes.sequence bound element) i has = refl
 part_grown h tree (nodes.array count element) i has = refl
 part_grown h tree (nodes.encapsulation held) i has = refl
 part_grown h tree (nodes.tagged special tag inner other) i has = search (arith, read_below)
-part_grown h tree (nodes.announced place) i has = absurd (omega arith)
+part_grown h tree (nodes.announced index) i has = absurd (omega arith)
 part_grown h tree (nodes.recursive bound element) i has = refl
 part_grown h tree (nodes.any code) zero has = refl
 part_grown h tree (nodes.any code) (suc i) has = refl
@@ -90,7 +90,7 @@ name_grown h tree (nodes.members parts) i has = refl
 name_grown h tree (nodes.union switch cases otherwise) i has = refl
 name_grown h tree (nodes.tagged special tag inner other) i has = refl
 name_grown h tree (nodes.typecode wide kind cases) i has = refl
-name_grown h tree (nodes.announced place) i has = absurd (omega arith)
+name_grown h tree (nodes.announced index) i has = absurd (omega arith)
 name_grown h tree _ i has = absurd has
 
 ltb_suc_by : (v : Bool) (a b : ℕ) → nat_lt a b ≡ v → nat_lt (suc a) (suc b) ≡ v

@@ -1,11 +1,11 @@
 -- All valid files that a text spells have the same table: it is read in one way, and a valid file
 -- breaks no rule.
 use Rattle.std.proofs.Common.{◌≡◌, inl, inr, ℕ, ◌++◌, ◌∷◌, [], List, Result, Ok, Err, ap, subst, arith}
-use Rattle.giop_tokens.specs.declared.fault.Refusal.{Refusal}
+use Rattle.giop_tokens.specs.declared.fault.TokenError.{TokenError}
 use Rattle.giop_tokens.specs.declared.fault.SigFaultKind.TheVariants as kinds
 use Rattle.giop_sig.specs.Grammar.{Declaration, SignatureFile}
 use Rattle.giop_sig.specs.Scopes.{Scope, first_scope, declare, scope_after, table}
-use Rattle.giop_sig.specs.Validity.{Kind, Each, IsValid, SpellsUpTo}
+use Rattle.giop_sig.specs.Validity.{FaultKind, Each, IsValid, SpellsUpTo}
 use Rattle.giop_sig.specs.FileReading.{file_at}
 use Rattle.giop_sig.proofs.FileLaws.{BrokenIn, RefusedFile, WholeFile, WholeOut, file_reads}
 use Rattle.giop_sig.proofs.FileRules.{not_too_many}
@@ -26,7 +26,7 @@ each_at R s (e ∷ es) (b ∷ before) after d is each =
     (each_at R (declare s e) es before after d rest each.1)
 
 -- a declaration of a valid file breaks no rule
-not_broken : {latest : ℕ} (k : Kind) (text : List ℕ) (file : SignatureFile)
+not_broken : {latest : ℕ} (k : FaultKind) (text : List ℕ) (file : SignatureFile)
     → SpellsUpTo latest text file → IsValid file
     → BrokenIn k (first_scope file.version) file.declarations → ⊥
 not_broken kinds.Depth text file spells valid b = search (arith, each_at)
@@ -37,7 +37,7 @@ not_broken kinds.Label text file spells valid b = search (arith, each_at)
 not_broken kinds.Limit text file spells valid b = search (arith, each_at, not_too_many)
 not_broken _ text file spells valid b = b.breaks
 
-not_refused : {latest : ℕ} (why : Refusal) (text : List ℕ) (file : SignatureFile)
+not_refused : {latest : ℕ} (why : TokenError) (text : List ℕ) (file : SignatureFile)
     → SpellsUpTo latest text file → IsValid file → RefusedFile file why → ⊥
 not_refused why text file spells valid (inl b) = not_broken why.kind text file spells valid b
 not_refused why text file spells valid (inr u) = u.1 valid.declared
@@ -52,7 +52,7 @@ read_table text t file spells e =
 
 table_by : {latest : ℕ} (text : List ℕ) (f g : SignatureFile)
     → SpellsUpTo latest text f → IsValid f → SpellsUpTo latest text g
-    → (r : Result Scope Refusal) → file_at latest text ≡ r → table f ≡ table g
+    → (r : Result Scope TokenError) → file_at latest text ≡ r → table f ≡ table g
 table_by text f g spells valid others (Ok t) e = search (arith, read_table)
 table_by text f g spells valid others (Err why) e =
     absurd (not_refused why text f spells valid

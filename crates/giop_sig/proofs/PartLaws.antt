@@ -6,15 +6,15 @@ use Rattle.giop_sig.specs.Fits.{IsFit, IsRoot}
 use Rattle.giop_sig.specs.HeaderTypes.{ArePlain, IsTable}
 use Rattle.giop_sig.specs.Table.{Node, Table, name_of, node_at, part_at, part_number, switch_at, type_of}
 use Rattle.giop_sig.specs.Trees.{in_room, part_number_in, tree, tree_at, depth_of}
-use Rattle.giop_sig.specs.Types.{Ty, HasPlace, HasInner, HasShape, IsUnion, depth, part_of, shape_in, switch_of}
+use Rattle.giop_sig.specs.Types.{Ty, HasIndex, HasInner, HasShape, IsUnion, depth, part_of, shape_in, switch_of}
 use Rattle.giop_sig.specs.declared.types.Shape.{Shape}
 use Rattle.giop_sig.specs.declared.types.Shape.TheVariants as shapes
 use Rattle.giop_sig.proofs.Depths.{depth_tree, depth_within}
-use Rattle.giop_sig.proofs.Nodes.{has_shape, in_name, in_part, shape_place}
+use Rattle.giop_sig.proofs.Nodes.{has_shape, in_name, in_part, shape_index}
 use Rattle.giop_sig.proofs.Solid.{fit_in_room}
 use Rattle.giop_sig.proofs.Tables.{Entered, entered, part_below, part_in_room, part_known_in, part_room, root_entered, shape_at, switch_room}
 
--- the part at a place has a smaller number, and its tree is that of the part, in one level of room
+-- the part at an index has a smaller number, and its tree is that of the part, in one level of room
 -- less
 pub record PartIs (t : Table) (id i part : ℕ) : Type 0 where
   pub below : part < id
@@ -28,15 +28,15 @@ pub part_is : (t : Table) (id i : ℕ) → IsTable t → id < length t.types
     → PartIs t id i (part_number t id i)
 part_is t id i laws known none has =
     let e = at_number t id laws known in
-    let place = shape_place (shape_in (tree t id)) i has in
+    let index = shape_index (shape_in (tree t id)) i has in
     record {
       below = part_below t id i (part_number t id i) (node_at t id) e has refl;
-      same = λ room. part_room t id i (part_number t id i) room (node_at t id) e none place refl;
+      same = λ room. part_room t id i (part_number t id i) room (node_at t id) e none index refl;
     }
 
--- the part at a place, in its room
+-- the part at an index, in its room
 pub part_in_is : (t : Table) (room id i : ℕ) → IsTable t → id < length t.types
-    → HasPlace (shape_in (tree t id)) i
+    → HasIndex (shape_in (tree t id)) i
     → tree_at t room (part_number_in t room id i) ≡ part_of (tree_at t (suc room) id) i
 part_in_is t room id i laws known has =
     part_in_room t id i (part_number_in t room id i) room (node_at t id) (at_number t id laws known)
@@ -44,7 +44,7 @@ part_in_is t room id i laws known has =
 
 -- this part is a type of the table
 pub part_in_known : (t : Table) (room id i : ℕ) → IsTable t → id < length t.types
-    → HasPlace (shape_in (tree t id)) i
+    → HasIndex (shape_in (tree t id)) i
     → (shape_in (tree t id) ≡ shapes.Led → i ≤ length t.types)
     → part_number_in t room id i < length t.types
 part_in_known t room id i laws known has led =

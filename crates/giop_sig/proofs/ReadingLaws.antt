@@ -2,7 +2,7 @@
 -- to its spelling; and two readings one after another.
 use Rattle.std.proofs.Common.{◌≡◌, ℕ, ◌^◌, ◌<◌, ◌≤◌, ◌⊎◌, inl, inr, false, List, [], ◌∷◌, length, None, Result, Ok, Err, sym, subst, arith}
 use Rattle.std.specs.Prelude.{MatchResult}
-use Rattle.giop_tokens.specs.declared.fault.Refusal.{Refusal}
+use Rattle.giop_tokens.specs.declared.fault.TokenError.{TokenError}
 use Rattle.giop_tokens.specs.declared.fault.SigFaultKind.TheVariants as kinds
 use Rattle.giop_tokens.specs.Tokens.{Token, AreTokens}
 use Rattle.giop_tokens.specs.declared.marks.Mark.{Mark}
@@ -11,14 +11,14 @@ use Rattle.giop_tokens.specs.Readers.{is_the_mark, mark_if}
 use Rattle.giop_tokens.proofs.ReaderLaws.{if_ended, if_other}
 use Rattle.giop_sig.specs.Table.{Node}
 use Rattle.giop_sig.specs.Trees.{depth_of}
-use Rattle.giop_sig.specs.Validity.{Kind}
-use Rattle.giop_sig.proofs.PlaceLaws.{Within, within_same}
+use Rattle.giop_sig.specs.Validity.{FaultKind}
+use Rattle.giop_sig.proofs.AddTypeLaws.{Within, within_same}
 
 -- ---- a text that is spelled so
 
 -- a refusal of this kind is right: the rule of the kind is broken, or the types become too deep or
 -- too many
-abbrev pub Breaks : Kind → (Kind → Type 0) → List Node → Type 0
+abbrev pub Breaks : FaultKind → (FaultKind → Type 0) → List Node → Type 0
 Breaks kinds.Depth rule types = 24 < depth_of types
 Breaks kinds.UnknownType rule types = rule kinds.UnknownType → ⊥
 Breaks kinds.Duplicate rule types = rule kinds.Duplicate → ⊥
@@ -28,8 +28,8 @@ Breaks kinds.Empty rule types = rule kinds.Empty → ⊥
 Breaks _ rule types = ⊥
 
 -- a rule that a part breaks, the whole breaks
-pub lift : (k : Kind) (rule whole : Kind → Type 0) (types more : List Node)
-    → ((j : Kind) → whole j → rule j) → Within types more
+pub lift : (k : FaultKind) (rule whole : FaultKind → Type 0) (types more : List Node)
+    → ((j : FaultKind) → whole j → rule j) → Within types more
     → Breaks k rule types → Breaks k whole more
 lift kinds.Token rule whole types more up le b = b
 lift kinds.Syntax rule whole types more up le b = b
@@ -43,52 +43,55 @@ lift kinds.Label rule whole types more up le b = λ h. b (up kinds.Label h)
 lift kinds.Empty rule whole types more up le b = λ h. b (up kinds.Empty h)
 
 -- what was read is made from a rest that has the remaining tokens, and it keeps the rules
-pub record Good {X : Type 0} (made : List ℕ → X) (rule : Kind → Type 0)
+pub record Good {X : Type 0} (made : List ℕ → X) (rule : FaultKind → Type 0)
     (more : List Token) (x : X) : Type 0 where
   pub rest : List ℕ
   pub is : x ≡ made rest
   pub tokens : AreTokens rest more
-  pub keeps : (k : Kind) → rule k
+  pub keeps : (k : FaultKind) → rule k
 
 -- reading gives what is made, or a rule that is broken
-pub record Out {X : Type 0} (made : List ℕ → X) (rule : Kind → Type 0) (types : List Node)
-    (more : List Token) (r : Result X Refusal) : Type 0 where
+pub record Out {X : Type 0} (made : List ℕ → X) (rule : FaultKind → Type 0) (types : List Node)
+    (more : List Token) (r : Result X TokenError) : Type 0 where
   pub out : MatchResult r (Good made rule more) (λ e. Breaks e.kind rule types)
 
-pub good : {X : Type 0} {made : List ℕ → X} {rule : Kind → Type 0} {types : List Node}
-    {more : List Token} (rest : List ℕ) → AreTokens rest more → ((k : Kind) → rule k)
+pub good : {X : Type 0} {made : List ℕ → X} {rule : FaultKind → Type 0} {types : List Node}
+    {more : List Token} (rest : List ℕ) → AreTokens rest more → ((k : FaultKind) → rule k)
     → Out made rule types more (Ok (made rest))
 good rest tokens keeps = search (arith)
 
-pub broken : {X : Type 0} {made : List ℕ → X} {rule : Kind → Type 0} {types : List Node}
-    {more : List Token} (e : Refusal) → Breaks e.kind rule types → Out made rule types more (Err e)
+pub broken : {X : Type 0} {made : List ℕ → X} {rule : FaultKind → Type 0} {types : List Node}
+    {more : List Token} (e : TokenError) → Breaks e.kind rule types →
+    Out made rule types more (Err e)
 broken e b = record { out = b }
 
-pub out_bind : {X Y : Type 0} {made : List ℕ → X} {rule : Kind → Type 0} {types : List Node}
-    {more : List Token} {made2 : List ℕ → Y} {rule2 : Kind → Type 0}
+pub out_bind : {X Y : Type 0} {made : List ℕ → X} {rule : FaultKind → Type 0} {types : List Node}
+    {more : List Token} {made2 : List ℕ → Y} {rule2 : FaultKind → Type 0}
     {types2 : List Node} {more2 : List Token}
-    (r : Result X Refusal) (h : X → Result Y Refusal) → Out made rule types more r
-    → ((rest : List ℕ) → AreTokens rest more → ((k : Kind) → rule k)
+    (r : Result X TokenError) (h : X → Result Y TokenError) → Out made rule types more r
+    → ((rest : List ℕ) → AreTokens rest more → ((k : FaultKind) → rule k)
     → Out made2 rule2 types2 more2 (h (made rest)))
-    → ((k : Kind) → rule2 k → rule k) → Within types types2 → Out made2 rule2 types2 more2 (r >>= h)
+    → ((k : FaultKind) → rule2 k → rule k) → Within types types2 →
+    Out made2 rule2 types2 more2 (r >>= h)
 out_bind {made2 = made2} {rule2 = rule2} {types2 = types2} {more2 = more2} (Ok x) h o on up le =
     let g = o.out in subst (λ y. Out made2 rule2 types2 more2 (h y)) (sym g.is)
     (on g.rest g.tokens g.keeps)
 out_bind {rule = rule} {types = types} {rule2 = rule2} {types2 = types2} (Err e) h o on up le =
     record { out = lift e.kind rule rule2 types types2 up le o.out }
 
-good_more : {X : Type 0} {made : List ℕ → X} {rule whole : Kind → Type 0} {types : List Node}
-    {more : List Token} (r : Result X Refusal) → Out made rule types more r
-    → ((k : Kind) → rule k → whole k) → ((k : Kind) → whole k → rule k)
+good_more : {X : Type 0} {made : List ℕ → X} {rule whole : FaultKind → Type 0} {types : List Node}
+    {more : List Token} (r : Result X TokenError) → Out made rule types more r
+    → ((k : FaultKind) → rule k → whole k) → ((k : FaultKind) → whole k → rule k)
     → Out made whole types more r
 good_more (Ok x) o on up = search (arith)
 good_more {rule = rule} {whole = whole} {types = types} (Err e) o on up =
     record { out = lift e.kind rule whole types types up within_same o.out }
 
 -- the same for equivalent rules
-pub out_more : {X : Type 0} {made : List ℕ → X} {rule whole : Kind → Type 0} {types : List Node}
-    {more : List Token} {r : Result X Refusal} → Out made rule types more r
-    → ((k : Kind) → rule k → whole k) → ((k : Kind) → whole k → rule k)
+pub out_more : {X : Type 0} {made : List ℕ → X} {rule whole : FaultKind →
+    Type 0} {types : List Node}
+    {more : List Token} {r : Result X TokenError} → Out made rule types more r
+    → ((k : FaultKind) → rule k → whole k) → ((k : FaultKind) → whole k → rule k)
     → Out made whole types more r
 out_more {r = r} o on up = good_more r o on up
 

@@ -1,14 +1,15 @@
 -- Any loop of the reader compared with reading in repeated steps.
 use Rattle.std.proofs.Common.{◌≡◌, ℕ, suc, ◌+◌, ◌-◌, ◌<◌, ◌≤◌, Bool, true, false, cond, Result, Ok, Err, refl, sym, ap, ◌∙◌, arith}
-use Rattle.giop_tokens.specs.declared.fault.Refusal.{Refusal}
-use Rattle.giop_sig.specs.declared.parse_stop.ParseStop.{ParseStop}
-use Rattle.giop_sig.specs.declared.parse_stop.ParseStop.TheVariants as stops
+use Rattle.giop_tokens.specs.declared.fault.TokenError.{TokenError}
+use Rattle.giop_sig.specs.declared.parse_stop.ParseError.{ParseError}
+use Rattle.giop_sig.specs.declared.parse_stop.ParseError.TheVariants as stops
 use Rattle.giop_sig.specs.Outcomes.{Stops}
 use Rattle.giop_tokens.specs.Reading.{◌>>=◌}
 use Rattle.giop_sig.specs.Repeats.{in_steps}
 
-module _ {S : Type 0} (step : S → Result (Bool × S) Refusal) (limit : S → Refusal) (most i : ℕ)
-    (s : S) (total : Result S Refusal)
+module _ {S : Type 0} (step : S → Result (Bool × S) TokenError) (limit : S →
+    TokenError) (most i : ℕ)
+    (s : S) (total : Result S TokenError)
     (so_far : in_steps step limit (most - i) s ≡ total) where
   pub goes_on : i < most → (x : Bool × S) → step s ≡ Ok x → x.0 ≡ false →
       in_steps step limit (most - (i + 1)) x.1 ≡ total
@@ -23,7 +24,7 @@ module _ {S : Type 0} (step : S → Result (Bool × S) Refusal) (limit : S → R
   unfolding in_steps
   ends lt x h c = search (arith)
 
-  pub fails : i < most → (e : ParseStop) → Stops e (step s) → Stops e total
+  pub fails : i < most → (e : ParseError) → Stops e (step s) → Stops e total
   unfolding in_steps
   fails lt stops.Memory h = tt
   fails lt (stops.Refused r) h =
@@ -36,19 +37,20 @@ module _ {S : Type 0} (step : S → Result (Bool × S) Refusal) (limit : S → R
   limited le = search (arith)
 
 -- what stops a reading stops what is made of it
-pub stops_on : {X Y : Type 0} (e : ParseStop) (r : Result X Refusal) (f : X → Result Y Refusal)
+pub stops_on : {X Y : Type 0} (e : ParseError) (r : Result X TokenError) (f : X →
+    Result Y TokenError)
     → Stops e r → Stops e (r >>= f)
 stops_on stops.Memory r f h = tt
 stops_on (stops.Refused q) r f h = ap (λ x. x >>= f) h
 
-pub bind_bind : {A B C : Type 0} (r : Result A Refusal) (f : A → Result B Refusal)
-    (g : B → Result C Refusal) → ((r >>= f) >>= g) ≡ (r >>= λ x. f x >>= g)
+pub bind_bind : {A B C : Type 0} (r : Result A TokenError) (f : A → Result B TokenError)
+    (g : B → Result C TokenError) → ((r >>= f) >>= g) ≡ (r >>= λ x. f x >>= g)
 bind_bind (Ok x) f g = refl
 bind_bind (Err e) f g = refl
 
 -- what is made of the last state, from the first step
-pub step_first : {S Y : Type 0} (step : S → Result (Bool × S) Refusal) (limit : S → Refusal)
-    (make : S → Result Y Refusal) (left : ℕ) (s : S)
+pub step_first : {S Y : Type 0} (step : S → Result (Bool × S) TokenError) (limit : S → TokenError)
+    (make : S → Result Y TokenError) (left : ℕ) (s : S)
     → (in_steps step limit (suc left) s >>= make)
     ≡ (step s >>= λ x. cond x.0 (Ok x.1) (in_steps step limit left x.1) >>= make)
 unfolding in_steps

@@ -25,26 +25,26 @@ use Rattle.giop_sig.proofs.TypeTaken.{base_sound, named_known}
 
 takes_settled : (ts : List (Option ℕ)) (node : Node) → TakesOctet node
     → TakesOctet (settled_node ts node)
-takes_settled ts (nodes.recursive bound place) takes = tt
+takes_settled ts (nodes.recursive bound index) takes = tt
 takes_settled ts _ takes = takes
 
 scalar_settled : (ts : List (Option ℕ)) (node : Node) → IsScalarNode node
     → IsScalarNode (settled_node ts node)
-scalar_settled ts (nodes.recursive bound place) is = is
+scalar_settled ts (nodes.recursive bound index) is = is
 scalar_settled ts _ is = is
 
 plain_settled : (ts : List (Option ℕ)) (node : Node) → IsPlain node → IsPlain (settled_node ts node)
-plain_settled ts (nodes.recursive bound place) is = is
+plain_settled ts (nodes.recursive bound index) is = is
 plain_settled ts _ is = is
 
 formed_settled : (ts : List (Option ℕ)) (types : List Node) (i : ℕ) (node : Node)
     → IsFormed types i node → IsFormed types i (settled_node ts node)
-formed_settled ts types i (nodes.recursive bound place) is = is
+formed_settled ts types i (nodes.recursive bound index) is = is
 formed_settled ts types i _ is = is
 
-announced_settled : (ts : List (Option ℕ)) (node : Node) (place : ℕ)
-    → node ≡ nodes.announced place → settled_node ts node ≡ nodes.announced place
-announced_settled ts node place e = ap (settled_node ts) e
+announced_settled : (ts : List (Option ℕ)) (node : Node) (index : ℕ)
+    → node ≡ nodes.announced index → settled_node ts node ≡ nodes.announced index
+announced_settled ts node index e = ap (settled_node ts) e
 
 -- ---- types
 
@@ -70,7 +70,7 @@ module _ (ts : List (Option ℕ)) (types : List Node) where
       → depth_by (shape_of (settled_node ts node))
       (λ k. depth_at ended n (type_of (part_at (settled_node ts node) k)))
       ≡ depth_by (shape_of node) (λ k. depth_at types n (type_of (part_at node k)))
-  depth_node n (nodes.recursive bound place) same = refl
+  depth_node n (nodes.recursive bound index) same = refl
   depth_node n node same =
       by_same (shape_of node) _ _ (λ k has. same (type_of (part_at node k)))
 
@@ -86,7 +86,7 @@ module _ (ts : List (Option ℕ)) (types : List Node) where
       → wide_by (shape_of (settled_node ts node))
       (λ k. wide_at ended n (type_of (part_at (settled_node ts node) k)))
       ≡ wide_by (shape_of node) (λ k. wide_at types n (type_of (part_at node k)))
-  wide_node n (nodes.recursive bound place) same = refl
+  wide_node n (nodes.recursive bound index) same = refl
   wide_node n node same = wide_same (shape_of node) _ _ (λ k has. same (type_of (part_at node k)))
 
   wide_at_settled : (n i : ℕ) → wide_at ended n i ≡ wide_at types n i
@@ -162,7 +162,7 @@ module _ (ts : List (Option ℕ)) (types : List Node) where
       All-from_recursion (λ (c : Case). IsWidePart ended c.part.type) cases
       (wide_cases cases
       (recursion_from_All (λ (c : Case). IsWidePart types c.part.type) cases is))
-  wide_kind (nodes.recursive bound place) is = tt
+  wide_kind (nodes.recursive bound index) is = tt
   wide_kind _ is = tt
 
   wide_all : AreWide types → AreWide ended
@@ -203,7 +203,7 @@ module _ (ts : List (Option ℕ)) (types : List Node) where
 node_stays : (ts : List (Option ℕ)) (n : Node) → not (is_recursive n) ≡ true
     → settled_node ts n ≡ n
 unfolding is_recursive
-node_stays ts (nodes.recursive bound place) e = absurd cc
+node_stays ts (nodes.recursive bound index) e = absurd cc
 node_stays ts (nodes.prim p) e = refl
 node_stays ts _ e = refl
 
@@ -310,19 +310,19 @@ number_known : (s : Scope) (w : List ℕ) (o : Option ℕ) → IsScope s → nam
 number_known s w None is e = (base_sound s Octet is).known
 number_known s w (Some k) is e = named_known s.table.types s.names.known w k is.names e
 
-target_known : (s : Scope) (xs : List (List ℕ × Announced)) (place : ℕ) → IsScope s
-    → IsKnown s.table.types (target (map (λ e. named s.names e.0) xs) place)
-target_known s [] place is = (base_sound s Octet is).known
+target_known : (s : Scope) (xs : List (List ℕ × Announced)) (index : ℕ) → IsScope s
+    → IsKnown s.table.types (target (map (λ e. named s.names e.0) xs) index)
+target_known s [] index is = (base_sound s Octet is).known
 target_known s (e ∷ es) zero is = number_known s e.0 (named s.names e.0) is refl
-target_known s (e ∷ es) (suc place) is = target_known s es place is
+target_known s (e ∷ es) (suc index) is = target_known s es index is
 
 -- each recursive sequence has a type of the table
 settled_by : (s : Scope) (node : Node) → IsScope s
     → IsSettled (settled s).table.types (settled_node (targets s.names) node)
-settled_by s (nodes.recursive bound place) is =
-    known_target (settled s).table.types (target (targets s.names) place)
-    (known_settled (targets s.names) s.table.types (target (targets s.names) place)
-    (target_known s s.names.announced place is))
+settled_by s (nodes.recursive bound index) is =
+    known_target (settled s).table.types (target (targets s.names) index)
+    (known_settled (targets s.names) s.table.types (target (targets s.names) index)
+    (target_known s s.names.announced index is))
 settled_by s _ is = tt
 
 pub scope_settled : (s : Scope) → IsScope s → AreSettled (settled s).table.types

@@ -39,8 +39,8 @@ target_is (o ∷ os) (suc n) = target_is os n
 
 kind_settled : (ts : List (Option TypeId)) (e : Entry)
     → node_view (settled_kind ts e) ≡ settled_node (map number_of_id ts) (node_view e)
-kind_settled ts (entries.Recursive bound place) =
-    ap (nodes.recursive bound) (target_is ts place.0)
+kind_settled ts (entries.Recursive bound index) =
+    ap (nodes.recursive bound) (target_is ts index.0)
 kind_settled ts (entries.Prim p) = refl
 kind_settled ts _ = refl
 
@@ -192,10 +192,10 @@ put_next f ys more left rest x y next so_far is pushed =
     ∙ ap (λ xs. ys ++ map f xs) (sym next) ∙ so_far
 
 -- the end of a text, from the first type that isn't there
-pub settled_reads : (s : Scope) (places : List ℕ) (ts : List (Option TypeId)) (o : Option ℕ)
+pub settled_reads : (s : Scope) (lefts : List ℕ) (ts : List (Option TypeId)) (o : Option ℕ)
     → map number_of_id ts ≡ targets s.names → o ≡ position (λ t. not (is_some t)) ts
-    → settled_at s places ≡ settled_unless s places o
+    → settled_at s lefts ≡ settled_unless s lefts o
 unfolding settled_at
-settled_reads s places ts o same is =
-    ap (settled_unless s places)
+settled_reads s lefts ts o same is =
+    ap (settled_unless s lefts)
     (sym (is ∙ none_found ts ∙ ap (position (λ t. not (is_some t))) same))

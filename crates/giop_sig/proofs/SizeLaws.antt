@@ -8,8 +8,8 @@ use Rattle.giop_sig.specs.Table.{Node, Table, node_at, with_type, with_identity}
 use Rattle.giop_sig.specs.Table as nodes
 use Rattle.giop_sig.specs.Trees.{depth_in}
 use Rattle.giop_sig.specs.Grammar.{TypeExpr, Text, WideText, SequenceOf, EncapsulationOf, spell_most, spell_type, Item, spell_lengths, spell_item, spell_items, spell_names, spell_labels, UnionCase, spell_cases, Param, spell_more_params, spell_params, spell_return, spell_interfaces, Declaration, Enumeration, Structure, DeclaredUnion, Announcement, DeclaredException, Call, KeyOf, spell, spell_all}
-use Rattle.giop_sig.specs.Scopes.{Scope, AddedType, with_node, with_identified, with_id_fronts, add_struct_type, sequence_node, place, add_arrays, add_item, add_items, add_cases, default_from, add_params, add_return, declare, scope_after}
-use Rattle.giop_sig.proofs.PlaceLaws.{size, listed_types}
+use Rattle.giop_sig.specs.Scopes.{Scope, AddedType, with_node, with_identified, with_id_fronts, add_struct_type, sequence_node, add_type, add_arrays, add_item, add_items, add_cases, default_from, add_params, add_return, declare, scope_after}
+use Rattle.giop_sig.proofs.AddTypeLaws.{size, listed_types}
 use Rattle.giop_sig.proofs.SpellLaws.{most, names, label, labels, interfaces, identity}
 
 one_more : (s : Scope) (n : Node) → size (with_node s n).0 ≤ suc (size s)
@@ -30,19 +30,19 @@ identified t (Some id) number =
 
 -- a type has at least one token more than it adds types
 typed : (s : Scope) (e : TypeExpr) (more : List Token)
-    → size (place s e).0 + length more < size s + length (spell_type e more)
-unfolding place
+    → size (add_type s e).0 + length more < size s + length (spell_type e more)
+unfolding add_type
 typed s (Text (Some n)) more = search (arith, one_more)
 typed s (WideText (Some n)) more = omega arith
 typed s (SequenceOf e o) more =
-    let p = place s e in
+    let p = add_type s e in
     omega (
       arith,
       typed s e (spell_most o (mark marks.CloseAngle ∷ more)),
       most o (mark marks.CloseAngle ∷ more),
       one_more p.0 (sequence_node (p.0).table.types o p.1),
     )
-typed s (EncapsulationOf e) more = let p = place s e in
+typed s (EncapsulationOf e) more = let p = add_type s e in
     omega (arith, typed s e (mark marks.CloseAngle ∷ more), one_more p.0 (nodes.encapsulation p.1))
 typed s _ more = omega arith
 
@@ -58,7 +58,7 @@ item : (s : Scope) (i : Item) (more : List Token)
 item s i more = omega (
   arith,
   typed s i.type (word i.name ∷ spell_lengths i.lengths more),
-  arrays (place s i.type) i.lengths more,
+  arrays (add_type s i.type) i.lengths more,
 )
 
 items : (s : Scope) (is : List Item) (more : List Token)
@@ -124,7 +124,7 @@ declared s (Structure n id is) more = let p = add_struct_type (add_items s is) i
   identified (p.0).table id p.1,
 )
 declared s (DeclaredUnion n id e cs) more =
-    let p = place s e in
+    let p = add_type s e in
     let x = add_cases p.0 (node_at (p.0).table p.1) cs in
     let q = with_node x.0 (nodes.union p.1 x.1 (default_from 0 cs)) in
     let tail = mark marks.Semicolon ∷ more in

@@ -10,13 +10,13 @@ use Rattle.giop_tokens.specs.Readers.{mark_at}
 use Rattle.giop_tokens.proofs.ReaderLaws.{number_again, mark_again, mark_if_again}
 use Rattle.giop_sig.specs.Table.{Node}
 use Rattle.giop_sig.specs.Grammar.{spell_between, spell_most}
-use Rattle.giop_sig.specs.Validity.{Kind, OfSize, OfBound}
+use Rattle.giop_sig.specs.Validity.{FaultKind, OfSize, OfBound}
 use Rattle.giop_sig.specs.Outcomes.{refused}
 use Rattle.giop_sig.specs.TypeReading.{size_at, enclosed_at, most_at}
-use Rattle.giop_sig.proofs.PlaceLaws.{within_same}
+use Rattle.giop_sig.proofs.AddTypeLaws.{within_same}
 use Rattle.giop_sig.proofs.ReadingLaws.{Out, good, broken, out_bind, Apart, if_apart}
 
-size_keeps : (n : ℕ) → 0 < n → n < 2 ^ 32 → (k : Kind) → OfSize k n
+size_keeps : (n : ℕ) → 0 < n → n < 2 ^ 32 → (k : FaultKind) → OfSize k n
 size_keeps n some fits kinds.Limit = fits
 size_keeps n some fits kinds.Empty = some
 size_keeps n some fits _ = tt

@@ -16,7 +16,7 @@ use Rattle.giop_sig.specs.Fits.{IsFit, IsRoot, IsEmptyStruct}
 use Rattle.giop_sig.specs.Table.{Node, Part, Case, Table, case_part, node_at, node_in, takes_octet, shape_of, part_at, type_of, switch_at, selected, case_or, IsFormed, IsCaseBelow, TakesOctet}
 use Rattle.giop_sig.specs.Table as nodes
 use Rattle.giop_sig.specs.Trees.{Room, any_hearing, room_of, has_room, follows, in_room, wide_room, AreWide, IsWide, IsWidePart, grow, octet_type, scalar_of, selected_by, tree_at, tree, depth_in, wide_in, AreFormed, AreTypes}
-use Rattle.giop_sig.proofs.Nodes.{case_below, inner_place, part_grown}
+use Rattle.giop_sig.proofs.Nodes.{case_below, inner_index, part_grown}
 use Rattle.giop_sig.proofs.Formed.{part_formed}
 use Rattle.giop_sig.proofs.Depths.{depth_within, part_shallower, some_depth}
 
@@ -96,7 +96,7 @@ grown_fit types n (nodes.tagged special tag one other) h f d room formed takes p
 )
 grown_fit types n (nodes.any code) h f d room formed takes parts others =
     (parts 0 refl, others.sequels)
-grown_fit types n (nodes.announced place) h f d room formed takes parts others = absurd takes
+grown_fit types n (nodes.announced index) h f d room formed takes parts others = absurd takes
 grown_fit types n (nodes.recursive bound element) h f d room formed takes parts others =
     others.elements element
 grown_fit types n (nodes.typecode wide kind cases) h f d room formed takes parts others = (
@@ -120,7 +120,7 @@ pub record CanFollow (t : Table) (room i : ℕ) : Type 0 where
 
 pub takes_by : (node : Node) → takes_octet node ≡ true → TakesOctet node
 takes_by (nodes.members []) e = absurd cc
-takes_by (nodes.announced place) e = absurd cc
+takes_by (nodes.announced index) e = absurd cc
 takes_by _ e = tt
 
 pub can_follow : (t : Table) (room i : ℕ) → follows t room i ≡ true → CanFollow t room i
@@ -213,7 +213,7 @@ fits t (suc room) i are w lt takes le =
     grown_fit t.types i node (room_of t room) (tree_at t room) room room (are.formed i lt) takes
     (λ k has. let is = part_room t i room k node are w lt le refl has in
     subst (IsFit room) (part_grown (room_of t room) (tree_at t room) (in_room room node) k
-    (inner_place (in_room room node) k has))
+    (inner_index (in_room room node) k has))
     (fits t room (type_of (part_at (in_room room node) k)) are w is.known is.takes is.shallow))
     (record {
       sequels = λ told k e. let is = selected_follows t room told k e in
@@ -265,7 +265,7 @@ fit_each t zero i are w lt takes =
     grown_fit t.types i (node_at t i) (room_of t 0) (λ k. octet_type) 1 0 (are.formed i lt)
     takes
     (λ k has. subst (IsFit 1) (part_grown (room_of t 0) (λ k. octet_type)
-    (in_room 0 (node_at t i)) k (inner_place (in_room 0 (node_at t i)) k has)) octet_fits)
+    (in_room 0 (node_at t i)) k (inner_index (in_room 0 (node_at t i)) k has)) octet_fits)
     (record { sequels = λ told k e. octet_fits; elements = λ k e. octet_fits })
 fit_each t (suc room) i are w lt takes =
     let node = node_at t i in
@@ -273,7 +273,7 @@ fit_each t (suc room) i are w lt takes =
     (are.formed i lt) takes
     (λ k has. let is = any_room t i room k node are w lt refl has in
     subst (IsFit (suc (suc room))) (part_grown (room_of t room) (tree_at t room)
-    (in_room room node) k (inner_place (in_room room node) k has))
+    (in_room room node) k (inner_index (in_room room node) k has))
     (fit_each t room (type_of (part_at (in_room room node) k)) are w is.0 is.1))
     (record {
       sequels = λ told k e. let is = selected_follows t room told k e in
@@ -288,8 +288,8 @@ takes_fit : (h : Room) (f : ℕ → Ty) (room : ℕ) (node : Node) (d : ℕ)
 unfolding IsFit
 takes_fit h f room (nodes.members []) zero fit = absurd fit
 takes_fit h f room (nodes.members []) (suc d) fit = absurd (omega (arith, fit.0))
-takes_fit h f room (nodes.announced place) zero fit = absurd fit
-takes_fit h f room (nodes.announced place) (suc d) fit = absurd (omega (arith, fit.0))
+takes_fit h f room (nodes.announced index) zero fit = absurd fit
+takes_fit h f room (nodes.announced index) (suc d) fit = absurd (omega (arith, fit.0))
 takes_fit h f room _ d fit = tt
 
 -- a number without a type is an octet
@@ -324,7 +324,7 @@ fit_at t i are w known takes =
 takes_or_empty : (h : Room) (f : ℕ → Ty) (room : ℕ) (node : Node)
     → TakesOctet node ⊎ IsEmptyStruct (grow h f (in_room room node))
 takes_or_empty h f room (nodes.members []) = inr tt
-takes_or_empty h f room (nodes.announced place) = inr tt
+takes_or_empty h f room (nodes.announced index) = inr tt
 takes_or_empty h f room _ = inl tt
 
 root_by : (t : Table) (i : ℕ) → AreTypes t.types → AreWide t.types → i < length t.types

@@ -7,7 +7,7 @@ use Rattle.giop_sig.specs.declared.types.Shape.{Shape}
 use Rattle.giop_sig.specs.declared.types.Shape.TheVariants as shapes
 use Rattle.giop_sig.specs.declared.types.Selected.{Selected}
 use Rattle.giop_sig.specs.declared.types.Selected.TheVariants as selecteds
-use Rattle.giop_sig.specs.Types.{Ty, elements_fit, part_of, name_in, enum_name_in, switch_of, select_in, interpreted_in, shape_in, HasShape, HasMember, HasPlace, HasInner, IsUnion}
+use Rattle.giop_sig.specs.Types.{Ty, elements_fit, part_of, name_in, enum_name_in, switch_of, select_in, interpreted_in, shape_in, HasShape, HasMember, HasIndex, HasInner, IsUnion}
 use Rattle.giop_sig.specs.Fits.{IsRoot}
 use Rattle.giop_sig.specs.Table.{Node, Table, seen, node_at, node_in, shape_of, part_at, type_of, name_of, name_at, switch_at, selected, IsFormed}
 use Rattle.giop_sig.specs.Table as nodes
@@ -51,9 +51,9 @@ seen_own view t narrow own same e =
     ap (λ b. seen b t) (e ∙ sym own ∙ ap (λ (u : Table). u.narrow) same)
 
 -- the entries of a table as messages see it
-pub seen_place : (t u : Table) (ps : List EntryWithDepth) (i : ℕ) → IsSeen t ps → t ≡ u
+pub seen_index : (t u : Table) (ps : List EntryWithDepth) (i : ℕ) → IsSeen t ps → t ≡ u
     → i < length u.types → i < length ps
-seen_place t u ps i is same lt =
+seen_index t u ps i is same lt =
     let size = length-map ps (λ (q : EntryWithDepth). node_view q.entry) in
     let all = ap length is.entries ∙ ap (λ (v : Table). length v.types) same in
     omega (arith, size, all)
@@ -62,7 +62,7 @@ pub seen_node : (t u : Table) (ps : List EntryWithDepth) (i : ℕ) (p : EntryWit
     → IsSeen t ps → t ≡ u → i < length u.types → p ≡ get_or ps i p
     → node_view p.entry ≡ node_at u i
 seen_node t u ps i p is same lt h =
-    sym (node_read ps i p (seen_place t u ps i is same lt) h)
+    sym (node_read ps i p (seen_index t u ps i is same lt) h)
     ∙ ap (λ ns. node_in ns i) is.entries ∙ ap (λ v. node_at v i) same
 
 pub seen_sized : (t u : Table) (ps : List EntryWithDepth) (i : ℕ) (p : EntryWithDepth)
@@ -83,12 +83,12 @@ shape_at t (suc room) i =
     shape_grown (room_of t room) (tree_at t room) (in_room room (node_at t i))
     ∙ in_shape room (node_at t i)
 
-pub part_tree_at : (t : Table) (room i k : ℕ) → HasPlace (shape_of (node_at t i)) k
+pub part_tree_at : (t : Table) (room i k : ℕ) → HasIndex (shape_of (node_at t i)) k
     → tree_at t room (part_number_in t room i k) ≡ part_of (tree_at t (suc room) i) k
 unfolding tree_at
 part_tree_at t room i k has =
     part_grown (room_of t room) (tree_at t room) (in_room room (node_at t i)) k
-    (subst (λ s. HasPlace s k) (sym (in_shape room (node_at t i))) has)
+    (subst (λ s. HasIndex s k) (sym (in_shape room (node_at t i))) has)
 
 member_in : (room k : ℕ) (node : Node) → HasMember (shape_of node) k
     → HasMember (shape_of (in_room room node)) k
@@ -168,11 +168,11 @@ has_shape_entered t i room node s e is =
 pub root_entered : (t : Table) (i : ℕ) (node : Node) → Entered t i node → IsRoot (tree t i)
 root_entered t i node e = root_at t i e.types e.wide e.known
 
--- a place of the tree is one of the node
-pub place_entered : (t : Table) (i k : ℕ) (node : Node) → Entered t i node
-    → HasPlace (shape_in (tree t i)) k → HasPlace (shape_of node) k
-place_entered t i k node e has =
-    subst (λ s. HasPlace s k) (sym (shape_entered t i 24 node e)) has
+-- an index of the tree is one of the node
+pub index_entered : (t : Table) (i k : ℕ) (node : Node) → Entered t i node
+    → HasIndex (shape_in (tree t i)) k → HasIndex (shape_of node) k
+index_entered t i k node e has =
+    subst (λ s. HasIndex s k) (sym (shape_entered t i 24 node e)) has
 
 pub member_entered : (t : Table) (i k : ℕ) (node : Node) → Entered t i node
     → HasMember (shape_in (tree t i)) k → HasMember (shape_of node) k
@@ -183,7 +183,7 @@ pub union_entered : (t : Table) (i : ℕ) (node : Node) → Entered t i node
     → IsUnion (shape_in (tree t i)) → IsUnion (shape_of node)
 union_entered t i node e is = subst IsUnion (sym (shape_entered t i 24 node e)) is
 
--- the part at a place has a smaller number
+-- the part at an index has a smaller number
 pub part_below : (t : Table) (i k p : ℕ) (node : Node) → Entered t i node
     → HasInner (shape_in (tree t i)) k → p ≡ type_of (part_at node k) → p < i
 part_below t i k p node e has is =
@@ -198,10 +198,10 @@ at_node t i k p node e is = is ∙ ap (λ n. type_of (part_at n k)) e.is
 -- a part is the same in any room, if its type is no union
 pub part_room : (t : Table) (i k p room : ℕ) (node : Node) → Entered t i node
     → (IsUnion (shape_in (tree t i)) → ⊥)
-    → HasPlace (shape_in (tree t i)) k → p ≡ type_of (part_at node k)
+    → HasIndex (shape_in (tree t i)) k → p ≡ type_of (part_at node k)
     → tree_at t room p ≡ part_of (tree_at t (suc room) i) k
 part_room t i k p room node e none has is =
-    let there = subst (λ n. HasPlace (shape_of n) k) e.is (place_entered t i k node e has) in
+    let there = subst (λ n. HasIndex (shape_of n) k) e.is (index_entered t i k node e has) in
     let bare : IsUnion (shape_of (node_at t i)) → ⊥ =
     λ u. none (subst IsUnion (sym (shape_at t 24 i)) u) in
     ap (tree_at t room) (at_node t i k p node e is
@@ -210,7 +210,7 @@ part_room t i k p room node e none has is =
 -- a part is a type of the table
 known_in : (t : Table) (i k : ℕ) (node : Node) → IsFormed t.types i node
     → IsSettled t.types node → i < length t.types
-    → HasPlace (shape_of node) k → (shape_of node ≡ shapes.Led → k ≤ length t.types)
+    → HasIndex (shape_of node) k → (shape_of node ≡ shapes.Led → k ≤ length t.types)
     → type_of (part_at node k) < length t.types
 known_in t i zero (nodes.any code) formed settled lt has led = let below = formed.below in omega
     arith
@@ -220,7 +220,7 @@ known_in t i k node formed settled lt has led =
     let below = (part_formed t.types i node k formed has).below in omega arith
 
 pub part_known : (t : Table) (i k p : ℕ) (node : Node) → Entered t i node
-    → HasPlace (shape_in (tree t i)) k
+    → HasIndex (shape_in (tree t i)) k
     → (shape_in (tree t i) ≡ shapes.Led → k ≤ length t.types) → p ≡ type_of (part_at node k)
     → p < length t.types
 part_known t i k p node e has led is =
@@ -228,12 +228,12 @@ part_known t i k p node e has led is =
       arith,
       is,
       known_in t i k node (formed_at t i node e) (settled_at t i node e) e.known
-          (place_entered t i k node e has)
+          (index_entered t i k node e has)
           (λ l. led (sym (shape_entered t i 24 node e) ∙ l)),
     )
 
 room_known : (t : Table) (i k room : ℕ) (node : Node) → Entered t i node
-    → HasPlace (shape_of node) k → (shape_of node ≡ shapes.Led → k ≤ length t.types)
+    → HasIndex (shape_of node) k → (shape_of node ≡ shapes.Led → k ≤ length t.types)
     → type_of (part_at (in_room room node) k) < length t.types
 room_known t i k room (nodes.typecode wide kind cases) e has led =
     (any_room t i room k (nodes.typecode wide kind cases) e.types.placed e.wide e.known e.is has).0
@@ -241,22 +241,22 @@ room_known t i k room node e has led =
     known_in t i k node (formed_at t i node e) (settled_at t i node e) e.known has led
 
 pub part_known_in : (t : Table) (i k p room : ℕ) (node : Node) → Entered t i node
-    → HasPlace (shape_in (tree t i)) k
+    → HasIndex (shape_in (tree t i)) k
     → (shape_in (tree t i) ≡ shapes.Led → k ≤ length t.types)
     → p ≡ type_of (part_at (in_room room node) k) → p < length t.types
 part_known_in t i k p room node e has led is =
     omega (
       arith,
       is,
-      room_known t i k room node e (place_entered t i k node e has)
+      room_known t i k room node e (index_entered t i k node e has)
           (λ l. led (sym (shape_entered t i 24 node e) ∙ l)),
     )
 
 pub part_in_room : (t : Table) (i k p room : ℕ) (node : Node) → Entered t i node
-    → HasPlace (shape_in (tree t i)) k → p ≡ type_of (part_at (in_room room node) k)
+    → HasIndex (shape_in (tree t i)) k → p ≡ type_of (part_at (in_room room node) k)
     → tree_at t room p ≡ part_of (tree_at t (suc room) i) k
 part_in_room t i k p room node e has is =
-    let there = subst (λ n. HasPlace (shape_of n) k) e.is (place_entered t i k node e has) in
+    let there = subst (λ n. HasIndex (shape_of n) k) e.is (index_entered t i k node e has) in
     ap (tree_at t room) (is ∙ ap (λ n. type_of (part_at (in_room room n) k)) e.is)
     ∙ part_tree_at t room i k there
 
@@ -306,10 +306,10 @@ pub select_tree : (t : Table) (i room : ℕ) (node : Node) (number : Number) (s 
 select_tree t i room node number s e is n taken =
     is ∙ ap (λ x. selected x number) e.is ∙ select_tree_at t room i number n taken
 
-pub select_place : (t : Table) (i : ℕ) (node : Node) (number : Number) (s : Selected)
+pub select_index : (t : Table) (i : ℕ) (node : Node) (number : Number) (s : Selected)
     → Entered t i node → s ≡ selected node number
     → (k : ℕ) → s ≡ selecteds.Case k → HasMember (shape_in (tree t i)) k
-select_place t i node number s e is k at =
+select_index t i node number s e is k at =
     subst (λ x. HasMember x k) (shape_entered t i 24 node e)
     (selected_below t.types i node number k (formed_at t i node e) (sym is ∙ at))
 

@@ -1,6 +1,6 @@
 -- The line of a refusal is 0 only if memory was refused.
 use Rattle.std.proofs.Common.{◌≡◌, ◌↔◌, ℕ, List, refl, arith}
-use Rattle.giop_tokens.specs.declared.fault.Refusal.{Refusal}
+use Rattle.giop_tokens.specs.declared.fault.TokenError.{TokenError}
 use Rattle.giop_tokens.specs.declared.fault.SigFault.{SigFault}
 use Rattle.giop_tokens.specs.declared.fault.SigFaultKind.{SigFaultKind}
 use Rattle.giop_tokens.specs.declared.fault.SigFaultKind.TheVariants as kinds
@@ -15,5 +15,5 @@ told : (text : List ℕ) (k : SigFaultKind) (left : ℕ)
 told text kinds.OutOfMemory left = (λ e. refl, λ e. refl)
 told text _ left = search (arith)
 
-pub has_line : (text : List ℕ) (r : Refusal) (f : SigFault) → f ≡ fault_of text r → HasLine f
+pub has_line : (text : List ℕ) (r : TokenError) (f : SigFault) → f ≡ fault_of text r → HasLine f
 has_line text r f is = search (arith, told)

@@ -14,13 +14,13 @@ use Rattle.giop_tokens.specs.Readers.{word_at, mark_at}
 use Rattle.giop_tokens.specs.Names.{is_reserved}
 use Rattle.giop_tokens.proofs.ReaderLaws.{word_again, mark_again}
 use Rattle.giop_sig.specs.Grammar.{TypeExpr, Base, Text, Reference, AnyType, CodeType, WideChar, WideText, Named, SequenceOf, EncapsulationOf, base_word, spell_bound, spell_most, spell_type}
-use Rattle.giop_sig.specs.Scopes.{Names, Announced, announced_as, or_announced, type_named, has_encapsulations, is_third, Scope, named, base_number, number_or, sequence_node, add_text_type, add_sequence_type, place}
-use Rattle.giop_sig.specs.Validity.{Kind, IsFree, OfTypeName, OfVersion, OfThird, OfType}
+use Rattle.giop_sig.specs.Scopes.{Names, Announced, announced_as, or_announced, type_named, has_encapsulations, is_third, Scope, named, base_number, number_or, sequence_node, add_text_type, add_sequence_type, add_type}
+use Rattle.giop_sig.specs.Validity.{FaultKind, IsFree, OfTypeName, OfVersion, OfThird, OfType}
 use Rattle.giop_sig.specs.Outcomes.{refused}
 use Rattle.giop_sig.specs.declared.numbers.TheConstants.{WIDE_STRING}
 use Rattle.giop_sig.specs.declared.read_types.Opener.TheVariants as openers
 use Rattle.giop_sig.specs.TypeReading.{enclosed_at, most_at, TypeRead, base_of, read_as, text_at, wide_text_at, closed_by, found_type, named_type, leaf_after, leaf_at, opener_at, nested_at, type_at}
-use Rattle.giop_sig.proofs.PlaceLaws.{within_same, Grown, node_more}
+use Rattle.giop_sig.proofs.AddTypeLaws.{within_same, Grown, node_more}
 use Rattle.giop_sig.proofs.SizeReads.{enclosed_reads, most_reads}
 use Rattle.giop_sig.proofs.TokensFew.{tokens_few}
 use Rattle.giop_sig.proofs.TypeTaken.{some_is}
@@ -63,7 +63,7 @@ no_encapsulation _ = refl
 -- ---- types
 
 abbrev pub placed : Scope → TypeExpr → List ℕ → TypeRead
-placed s e rest = ((place s e).0, (place s e).1, rest)
+placed s e rest = ((add_type s e).0, (add_type s e).1, rest)
 
 -- a type whose first word begins no type with another one in it
 leaf_first : (left : ℕ) (element : Bool) (s : Scope) (text w rest : List ℕ)
@@ -76,8 +76,8 @@ leaf_first left element s text w rest e p q = rw (e) (rw (p, q) (rw (e) refl))
 base_reads : (left : ℕ) (element : Bool) (s : Scope) (p : Primitive) (text : List ℕ)
     (more : List Token) → AreTokens text (word (base_word p) ∷ more)
     → Out (placed s (Base p)) (λ k. OfType k element s.names (Base p))
-    (place s (Base p)).0.table.types more (nested_at (suc left) element s text)
-unfolding OfType place
+    (add_type s (Base p)).0.table.types more (nested_at (suc left) element s text)
+unfolding OfType add_type
 base_reads left element s p text more h =
     rw (
       leaf_first left element s text (base_word p) h.0 (word_again text (base_word p) more h)
@@ -92,23 +92,23 @@ text_more s (Some n) = search (arith, node_more)
 text_reads : (element : Bool) (s : Scope) (o : Option ℕ) (rest : List ℕ) (more : List Token)
     → Apart marks.OpenAngle more → AreTokens rest (spell_bound o more)
     → Out (placed s (Text o)) (λ k. OfType k element s.names (Text o))
-    (place s (Text o)).0.table.types more (text_at s rest)
-unfolding text_at OfType place
+    (add_type s (Text o)).0.table.types more (text_at s rest)
+unfolding text_at OfType add_type
 text_reads element s o rest more apart h =
     out_bind (enclosed_at marks.OpenAngle marks.CloseAngle rest)
     (λ b. Ok (read_as (add_text_type s b.0) b.1))
     (enclosed_reads s.table.types marks.OpenAngle marks.CloseAngle rest o more apart h)
     (λ r m keeps. good r m keeps) (λ k w. w) (text_more s o)
 
-pub third_keeps : (names : Names) → is_third names ≡ true → (k : Kind) → OfThird k names
+pub third_keeps : (names : Names) → is_third names ≡ true → (k : FaultKind) → OfThird k names
 third_keeps names third kinds.Syntax = third
 third_keeps names third _ = tt
 
 wide_text_reads : (element : Bool) (s : Scope) (o : Option ℕ) (rest : List ℕ) (more : List Token)
     → is_third s.names ≡ true → Apart marks.OpenAngle more → AreTokens rest (spell_bound o more)
     → Out (placed s (WideText o)) (λ k. OfType k element s.names (WideText o))
-    (place s (WideText o)).0.table.types more (wide_text_at s rest)
-unfolding wide_text_at OfType place
+    (add_type s (WideText o)).0.table.types more (wide_text_at s rest)
+unfolding wide_text_at OfType add_type
 wide_text_reads element s o rest more third apart h =
     out_bind {Y = TypeRead} (enclosed_at marks.OpenAngle marks.CloseAngle rest)
     (λ b. Ok (s, WIDE_STRING, b.1))
@@ -116,7 +116,7 @@ wide_text_reads element s o rest more third apart h =
     (λ r m keeps. good r m (λ k. (third_keeps s.names third k, keeps k))) (λ k w. w.1) within_same
 
 named_keeps : (element : Bool) (names : Names) (w : List ℕ) (i : ℕ) → IsFree (is_third names) w
-    → length w ≤ 64 → type_named element names w ≡ Some i → (k : Kind)
+    → length w ≤ 64 → type_named element names w ≡ Some i → (k : FaultKind)
     → OfTypeName k element names w
 named_keeps element names w i free short is kinds.Syntax = free
 named_keeps element names w i free short is kinds.UnknownType = (i, is)
@@ -166,15 +166,15 @@ long_reads element s text w rest more false e free m =
 named_reads : (element : Bool) (s : Scope) (text w rest : List ℕ) (more : List Token)
     → IsFree (is_third s.names) w → AreTokens rest more
     → Out (placed s (Named w)) (λ k. OfType k element s.names (Named w))
-    (place s (Named w)).0.table.types more (named_type element s text w rest)
-unfolding named_type OfType place
+    (add_type s (Named w)).0.table.types more (named_type element s text w rest)
+unfolding named_type OfType add_type
 named_reads element s text w rest more free m =
     rw free (long_reads element s text w rest more (ltb 64 (length w)) refl free m)
 
 name_reads : (left : ℕ) (element : Bool) (s : Scope) (w text : List ℕ) (more : List Token)
     → IsFree (is_third s.names) w → AreTokens text (word w ∷ more)
     → Out (placed s (Named w)) (λ k. OfType k element s.names (Named w))
-    (place s (Named w)).0.table.types more (nested_at (suc left) element s text)
+    (add_type s (Named w)).0.table.types more (nested_at (suc left) element s text)
 unfolding is_reserved
 name_reads left element s w text more free h =
     let third = is_third s.names in
@@ -194,43 +194,44 @@ name_reads left element s w text more free h =
 -- what closes a sequence, after the type of its elements
 closed_reads : (element : Bool) (s : Scope) (e : TypeExpr) (o : Option ℕ) (rest : List ℕ)
     (more : List Token) → AreTokens rest (spell_most o (mark marks.CloseAngle ∷ more))
-    → ((k : Kind) → OfType k true s.names e)
+    → ((k : FaultKind) → OfType k true s.names e)
     → (apart : Apart marks.Comma (mark marks.CloseAngle ∷ more))
     → Out (placed s (SequenceOf e o)) (λ k. OfType k element s.names (SequenceOf e o))
-    (place s (SequenceOf e o)).0.table.types more (closed_by openers.Sequence (placed s e rest))
-unfolding OfType place closed_by
+    (add_type s (SequenceOf e o)).0.table.types more (closed_by openers.Sequence (placed s e rest))
+unfolding OfType add_type closed_by
 closed_reads element s e o rest more m keeps apart =
     out_bind (most_at rest) (λ b. mark_at marks.CloseAngle b.1 >>= λ r.
-    Ok (read_as (add_sequence_type b.0 (place s e)) r))
-    (most_reads (place s e).0.table.types rest o (mark marks.CloseAngle ∷ more) apart m)
+    Ok (read_as (add_sequence_type b.0 (add_type s e)) r))
+    (most_reads (add_type s e).0.table.types rest o (mark marks.CloseAngle ∷ more) apart m)
     (λ r n bound. rw (mark_again marks.CloseAngle r more n)
     (good n.0 n.2 (λ k. (keeps k, bound k))))
-    (λ k w. w.1) (node_more (place s e).0
-    (sequence_node ((place s e).0).table.types o (place s e).1))
+    (λ k w. w.1) (node_more (add_type s e).0
+    (sequence_node ((add_type s e).0).table.types o (add_type s e).1))
 
-version_keeps : (names : Names) → has_encapsulations names ≡ true → (k : Kind) → OfVersion k names
+version_keeps : (names : Names) → has_encapsulations names ≡ true → (k : FaultKind) →
+    OfVersion k names
 version_keeps names has kinds.Syntax = has
 version_keeps names has _ = tt
 
 -- what closes an encapsulation, after the type in it
 held_reads : (element : Bool) (s : Scope) (e : TypeExpr) (rest : List ℕ) (more : List Token)
     → has_encapsulations s.names ≡ true → AreTokens rest (mark marks.CloseAngle ∷ more)
-    → ((k : Kind) → OfType k false s.names e)
+    → ((k : FaultKind) → OfType k false s.names e)
     → Out (placed s (EncapsulationOf e)) (λ k. OfType k element s.names (EncapsulationOf e))
-    (place s (EncapsulationOf e)).0.table.types more
+    (add_type s (EncapsulationOf e)).0.table.types more
     (closed_by openers.Encapsulation (placed s e rest))
-unfolding OfType place closed_by
+unfolding OfType add_type closed_by
 held_reads element s e rest more has m keeps =
     rw (mark_again marks.CloseAngle rest more m)
     (good m.0 m.2 (λ k. (version_keeps s.names has k, keeps k)))
 
 sequence_more : (s : Scope) (e : TypeExpr) (o : Option ℕ)
-    → Grown (place s e).0 (place s (SequenceOf e o)).0
-unfolding place
+    → Grown (add_type s e).0 (add_type s (SequenceOf e o)).0
+unfolding add_type
 sequence_more s e o = search (arith, node_more)
 
-held_more : (s : Scope) (e : TypeExpr) → Grown (place s e).0 (place s (EncapsulationOf e)).0
-unfolding place
+held_more : (s : Scope) (e : TypeExpr) → Grown (add_type s e).0 (add_type s (EncapsulationOf e)).0
+unfolding add_type
 held_more s e = search (arith, node_more)
 
 most_apart : (o : Option ℕ) (more : List Token)
@@ -254,9 +255,9 @@ nested_reads : (left : ℕ) (element : Bool) (s : Scope) (e : TypeExpr) (text : 
     (more : List Token)
     → nest e < left → OfType kinds.Syntax element s.names e → Apart marks.OpenAngle more
     → AreTokens text (spell_type e more)
-    → Out (placed s e) (λ k. OfType k element s.names e) (place s e).0.table.types more
+    → Out (placed s e) (λ k. OfType k element s.names e) (add_type s e).0.table.types more
     (nested_at left element s text)
-unfolding nested_at opener_at leaf_at OfType place
+unfolding nested_at opener_at leaf_at OfType add_type
 nested_reads zero element s e text more lt free apart h = absurd (omega arith)
 nested_reads (suc left) element s (Base p) text more lt free apart h =
     base_reads left element s p text more h
@@ -323,7 +324,7 @@ nested_reads (suc left) element s (EncapsulationOf e) text more lt free apart h 
 pub type_reads : (s : Scope) (e : TypeExpr) (text : List ℕ) (more : List Token)
     → OfType kinds.Syntax false s.names e → Apart marks.OpenAngle more
     → AreTokens text (spell_type e more)
-    → Out (placed s e) (λ k. OfType k false s.names e) (place s e).0.table.types
+    → Out (placed s e) (λ k. OfType k false s.names e) (add_type s e).0.table.types
     more (type_at s text)
 type_reads s e text more free apart h =
     nested_reads (length text) false s e text more

@@ -2,9 +2,9 @@
 use Rattle.std.proofs.Common.{◌≡◌, ℕ, zero, suc, ◌-◌, Bool, false, cond, List, [], ◌∷◌, ◌++◌, length, Option, Some, None, Result, Ok, Err, refl, sym, ap, subst, ◌∙◌, arith}
 use Rattle.std.specs.Prelude.{slice_get}
 use Rattle.std.proofs.lemmas.List.{length-append}
-use Rattle.giop_tokens.specs.declared.fault.Refusal.{Refusal}
+use Rattle.giop_tokens.specs.declared.fault.TokenError.{TokenError}
 use Rattle.giop_tokens.specs.Reading.{◌>>=◌}
-use Rattle.giop_sig.specs.declared.parse_stop.ParseStop.{ParseStop}
+use Rattle.giop_sig.specs.declared.parse_stop.ParseError.{ParseError}
 use Rattle.giop_sig.specs.declared.read_types.Opener.{Opener}
 use Rattle.giop_sig.specs.Outcomes.{Stops}
 use Rattle.giop_sig.specs.Scopes.{Scope}
@@ -12,7 +12,7 @@ use Rattle.giop_sig.specs.Repeats.{in_steps}
 use Rattle.giop_sig.specs.TypeReading.{TypeRead, element_after, opens_element, opens_elements, closed_by, leaf_at, Opened, opener_at, type_after, nested_at, type_at, Openers, opener_or_leaf, openers_step, too_many_openers, all_closed}
 use Rattle.giop_sig.proofs.RepeatLaws.{bind_bind, stops_on}
 
-bind_last : {X : Type 0} (r : Result X Refusal) → (r >>= λ x. Ok x) ≡ r
+bind_last : {X : Type 0} (r : Result X TokenError) → (r >>= λ x. Ok x) ≡ r
 bind_last (Ok x) = refl
 bind_last (Err e) = refl
 
@@ -25,7 +25,7 @@ closed_last (p ∷ os) o t =
     ap (λ r. r >>= closed_by p) (closed_last os o t)
     ∙ bind_bind (closed_by o t) (all_closed os) (closed_by p)
 
-closed_after : (os : List Opener) (o : Opener) (r : Result TypeRead Refusal)
+closed_after : (os : List Opener) (o : Opener) (r : Result TypeRead TokenError)
     → (r >>= all_closed (os ++ o ∷ [])) ≡ ((r >>= closed_by o) >>= all_closed os)
 closed_after os o (Ok t) = closed_last os o t
 closed_after os o (Err e) = refl
@@ -42,14 +42,14 @@ element_last os o =
     ap opens_elements (ap (slice_get (os ++ o ∷ [])) at ∙ get_last os o)
 
 -- the leaf after openers, and what closes them
-abbrev pub leaf_and_close : Scope → Openers → Result TypeRead Refusal
+abbrev pub leaf_and_close : Scope → Openers → Result TypeRead TokenError
 leaf_and_close s x = leaf_at (element_after x.0) s x.1 >>= all_closed x.0
 
-abbrev then_openers : Scope → ℕ → Bool × Openers → Result Openers Refusal
+abbrev then_openers : Scope → ℕ → Bool × Openers → Result Openers TokenError
 then_openers s n x = cond x.0 (Ok x.1) (in_steps (openers_step s) too_many_openers n x.1)
 
 opener_by : (n : ℕ) (s : Scope) (os : List Opener) (text : List ℕ)
-    (r : Result (Option Opened) Refusal)
+    (r : Result (Option Opened) TokenError)
     → ((os : List Opener) (text : List ℕ)
     → (in_steps (openers_step s) too_many_openers n (os, text) >>= leaf_and_close s)
     ≡ (nested_at n (element_after os) s text >>= all_closed os))
@@ -86,13 +86,13 @@ module _ (s : Scope) (text : List ℕ) (x : Openers)
   type_on t leaf =
       type_as s text ∙ ap (λ r. r >>= leaf_and_close s) opened ∙ ap (λ r. r >>= all_closed x.0) leaf
 
-  pub type_stops : (e : ParseStop) → Stops e (leaf_at (element_after x.0) s x.1) → Stops e
+  pub type_stops : (e : ParseError) → Stops e (leaf_at (element_after x.0) s x.1) → Stops e
       (type_at s text)
   type_stops e leaf =
       subst (Stops e) (sym (type_as s text ∙ ap (λ r. r >>= leaf_and_close s) opened))
       (stops_on e (leaf_at (element_after x.0) s x.1) (all_closed x.0) leaf)
 
-module _ (os new : List Opener) (o : Opener) (t : TypeRead) (total : Result TypeRead Refusal)
+module _ (os new : List Opener) (o : Opener) (t : TypeRead) (total : Result TypeRead TokenError)
     (is : os ≡ new ++ o ∷ []) (so_far : all_closed os t ≡ total) where
   one_closed : (closed_by o t >>= all_closed new) ≡ total
   one_closed = sym (closed_last new o t) ∙ ap (λ l. all_closed l t) (sym is) ∙ so_far
@@ -100,7 +100,7 @@ module _ (os new : List Opener) (o : Opener) (t : TypeRead) (total : Result Type
   pub closes_on : (x : TypeRead) → closed_by o t ≡ Ok x → all_closed new x ≡ total
   closes_on x e = ap (λ r. r >>= all_closed new) (sym e) ∙ one_closed
 
-  pub closes_fails : (e : ParseStop) → Stops e (closed_by o t) → Stops e total
+  pub closes_fails : (e : ParseError) → Stops e (closed_by o t) → Stops e total
   closes_fails e h = subst (Stops e) one_closed (stops_on e (closed_by o t) (all_closed new) h)
 
 pub none_closed : (os : List Opener) (t : TypeRead) → length os ≡ 0 → all_closed os t ≡ Ok t

@@ -10,7 +10,7 @@ use Rattle.std.proofs.lemmas.Slice.Eq.{bytes_eq-Decides}
 use Rattle.giop_cdr.specs.declared.prim.Primitive.{Primitive}
 use Rattle.giop_cdr.specs.declared.prim.Primitive.TheVariants as prims
 use Rattle.giop_cdr.specs.declared.prim.Primitive.TheVariants.{Octet}
-use Rattle.giop_tokens.specs.declared.fault.Refusal.{Refusal}
+use Rattle.giop_tokens.specs.declared.fault.TokenError.{TokenError}
 use Rattle.giop_tokens.specs.declared.fault.SigFaultKind.TheVariants as kinds
 use Rattle.giop_tokens.specs.declared.marks.Mark.TheVariants as marks
 use Rattle.giop_sig.specs.declared.numbers.TheConstants.{IOR, TYPE_CODE, ANY, STRING, WIDE_CHAR, WIDE_STRING, CONTEXT_ID, THIRD_LEN}
@@ -26,7 +26,7 @@ use Rattle.giop_sig.specs.RequestList.{flat}
 use Rattle.giop_sig.specs.Grammar.{TypeExpr, Base, Text, Reference, AnyType, CodeType, WideChar, WideText, Named, SequenceOf, EncapsulationOf, base_word, spell_most, spell_type}
 use Rattle.giop_sig.specs.declared.read_types.Opener.{Opener}
 use Rattle.giop_sig.specs.declared.read_types.Opener.TheVariants as openers
-use Rattle.giop_sig.specs.Scopes.{Names, Announced, announced_as, announced_place, or_announced, sequence_by, type_named, has_encapsulations, is_third, Scope, AddedType, named, base_number, with_node, sequence_node, add_text_type, add_sequence_type, add_encapsulation_type, reference_number}
+use Rattle.giop_sig.specs.Scopes.{Names, Announced, announced_as, announced_index, or_announced, sequence_by, type_named, has_encapsulations, is_third, Scope, AddedType, named, base_number, with_node, sequence_node, add_text_type, add_sequence_type, add_encapsulation_type, reference_number}
 use Rattle.giop_sig.specs.Validity.{OfType}
 use Rattle.giop_sig.specs.ScopeViews.{CanStand, IsAnnounced, IsAnnouncedName, IsKnown, IsDeclaredName, IsScope}
 use Rattle.giop_sig.specs.Outcomes.{refused}
@@ -368,7 +368,7 @@ wide_by element s text w rest x t false true p q e =
 wide_by element s text w rest x t false false p q e = named_took element s text w rest x t e
 
 -- wide text for its word, or the type of a name
-abbrev wide_or_named : Bool → Scope → List ℕ → List ℕ → List ℕ → Result TypeRead Refusal
+abbrev wide_or_named : Bool → Scope → List ℕ → List ℕ → List ℕ → Result TypeRead TokenError
 wide_or_named element s text w rest =
     cond (is_later s w (codes "wchar")) (Ok (s, WIDE_CHAR, rest))
     (cond (is_later s w (codes "wstring")) (wide_text_at s rest) (named_type element s text w rest))
@@ -393,7 +393,7 @@ later_by element s text w rest x t false false p q e =
     (is_later s w (codes "wstring")) refl refl e
 
 -- a type for a word of version 3, or for a name
-abbrev later_or_named : Bool → Scope → List ℕ → List ℕ → List ℕ → Result TypeRead Refusal
+abbrev later_or_named : Bool → Scope → List ℕ → List ℕ → List ℕ → Result TypeRead TokenError
 later_or_named element s text w rest =
     cond (is_later s w (codes "any")) (Ok (s, ANY, rest))
     (cond (is_later s w (codes "TypeCode")) (Ok (s, TYPE_CODE, rest))
@@ -501,13 +501,13 @@ sequence_takes_octet : (bound : Option ℕ) (n : ℕ) (v : Bool) (o : Option ℕ
     → TakesOctet (cond v (nodes.octets bound) (sequence_by bound n o))
 sequence_takes_octet bound n true o = tt
 sequence_takes_octet bound n false None = tt
-sequence_takes_octet bound n false (Some place) = tt
+sequence_takes_octet bound n false (Some index) = tt
 
 -- a sequence takes an octet
 sequence_takes : (types : List Node) (bound : Option ℕ) (n : ℕ)
     → TakesOctet (sequence_node types bound n)
 sequence_takes types bound n =
-    sequence_takes_octet bound n (eqb n 0) (announced_place (node_in types n))
+    sequence_takes_octet bound n (eqb n 0) (announced_index (node_in types n))
 
 -- what was closed may be a part, too
 pub closed_sound : (o : Opener) (t x : TypeRead) → closed_by o t ≡ Ok x → IsScope t.0
@@ -570,7 +570,7 @@ closed_took s text openers.Encapsulation inner t x k u e =
       sound = λ is. let h = u.sound is in sound_node t.0 node h.scope tt;
     })
 
-type_by : (inner : Bool → List ℕ → Result TypeRead Refusal) (element : Bool) (s : Scope)
+type_by : (inner : Bool → List ℕ → Result TypeRead TokenError) (element : Bool) (s : Scope)
     (text : List ℕ) (o : Option Opened) (x : TypeRead)
     → ((b : Bool) (text : List ℕ) (y : TypeRead) → inner b text ≡ Ok y → TakenIn b s text y)
     → opener_at s text ≡ Ok o → type_after inner element s text o ≡ Ok x
@@ -587,7 +587,7 @@ nested_takes : (left : ℕ) (element : Bool) (s : Scope) (text : List ℕ) (x : 
 unfolding nested_at
 nested_takes zero element s text x e = absurd cc
 nested_takes (suc left) element s text x e =
-    let inner : Bool → List ℕ → Result TypeRead Refusal = λ b. nested_at left b s in
+    let inner : Bool → List ℕ → Result TypeRead TokenError = λ b. nested_at left b s in
     let o = bind_ok (opener_at s text) (type_after inner element s text) x e in
     type_by inner element s text o.0 x (λ b t y h. nested_takes left b s t y h) o.1 o.2
 
@@ -598,11 +598,11 @@ type_takes s text x e = taken_type s text x (nested_takes (length text) false s 
 -- ---- what the code requires of a sequence's elements
 
 -- a node that stands for an announcement
-pub node_announced : (s : Scope) (place : ℕ) → s.table.version ≡ 3
-    → IsAnnounced (with_node s (nodes.announced place)).0.table.version
-    (with_node s (nodes.announced place)).0.table.types (with_node s (nodes.announced place)).1
-node_announced s place third = record {
+pub node_announced : (s : Scope) (index : ℕ) → s.table.version ≡ 3
+    → IsAnnounced (with_node s (nodes.announced index)).0.table.version
+    (with_node s (nodes.announced index)).0.table.types (with_node s (nodes.announced index)).1
+node_announced s index third = record {
   third = third;
-  below = omega (arith, length-append s.table.types (nodes.announced place ∷ []));
-  is = (place, get_or-append_seam s.table.types (nodes.announced place) [] (nodes.prim Octet));
+  below = omega (arith, length-append s.table.types (nodes.announced index ∷ []));
+  is = (index, get_or-append_seam s.table.types (nodes.announced index) [] (nodes.prim Octet));
 }

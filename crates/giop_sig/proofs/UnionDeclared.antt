@@ -11,7 +11,7 @@ use Rattle.giop_sig.specs.declared.announced.TypeWord.TheVariants as type_words
 use Rattle.giop_sig.specs.Table.{Node, node_at, IsScalarNode, IsFormed}
 use Rattle.giop_sig.specs.Table as nodes
 use Rattle.giop_sig.specs.Grammar.{TypeExpr, DeclaredUnion, spell_type, spell_cases, spell_identity}
-use Rattle.giop_sig.specs.Scopes.{Scope, place, with_node, with_named}
+use Rattle.giop_sig.specs.Scopes.{Scope, add_type, with_node, with_named}
 use Rattle.giop_sig.specs.Validity.{OfType, IsDiscriminator, OfCases, OfDeclaration, placed_node}
 use Rattle.giop_sig.specs.ScopeViews.{IsScope}
 use Rattle.giop_sig.specs.Outcomes.{refused}
@@ -99,7 +99,7 @@ union_by s whole text d x before taken e =
     let u = (identity_takes s d.1 i.0 i.1).took in
     let k = switch_taken s b.0 t.0 t.1 in
     let c = cases_taken (t.0).1 (t.0).0 o.0 cs.0 cs.1 in
-    let node = placed_node (place s k.expr) in
+    let node = placed_node (add_type s k.expr) in
     record {
       declaration = DeclaredUnion n (i.0).0 k.expr c.cases;
       took = record {

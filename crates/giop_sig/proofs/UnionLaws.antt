@@ -2,7 +2,7 @@
 use Rattle.std.proofs.Common.{◌≡◌, ℕ, zero, suc, ◌+◌, ◌<◌, ◌≤◌, Bool, true, false, cond, List, [], ◌∷◌, ◌++◌, length, Some, None, Result, Ok, refl, sym, subst, ◌∙◌, arith}
 use Rattle.std.specs.List.{AllByRecursion}
 use Rattle.std.proofs.lemmas.List.{length-append, get_or_append_left}
-use Rattle.giop_tokens.specs.declared.fault.Refusal.{Refusal}
+use Rattle.giop_tokens.specs.declared.fault.TokenError.{TokenError}
 use Rattle.giop_tokens.specs.declared.fault.SigFaultKind.TheVariants as kinds
 use Rattle.giop_tokens.specs.declared.marks.Mark.TheVariants as marks
 use Rattle.giop_tokens.specs.Tokens.{Token, word, mark, AreTokens}
@@ -12,12 +12,12 @@ use Rattle.giop_tokens.proofs.ReaderLaws.{mark_again, mark_if_again}
 use Rattle.giop_sig.specs.declared.types.Selected.{Selected}
 use Rattle.giop_sig.specs.Table.{Case, Node, node_at}
 use Rattle.giop_sig.specs.Grammar.{TypeExpr, Text, SequenceOf, EncapsulationOf, Item, Label, Default, Of, UnionCase, spell_lengths, spell_item, spell_labels, spell_cases}
-use Rattle.giop_sig.specs.Scopes.{Names, is_third, Scope, has_default, labels_of, union_case, place, add_item}
-use Rattle.giop_sig.specs.Validity.{Kind, OfItem, OfLabels, OfCases}
+use Rattle.giop_sig.specs.Scopes.{Names, is_third, Scope, has_default, labels_of, union_case, add_type, add_item}
+use Rattle.giop_sig.specs.Validity.{FaultKind, OfItem, OfLabels, OfCases}
 use Rattle.giop_sig.specs.ItemReading.{item_at}
 use Rattle.giop_sig.specs.Repeats.{in_steps}
 use Rattle.giop_sig.specs.UnionReading.{labels_at, Cases, chosen, with_case, CasesRead, case_at, cases_step, too_many_cases}
-use Rattle.giop_sig.proofs.PlaceLaws.{size, within_same, within_on, Grown, item_more, item_names}
+use Rattle.giop_sig.proofs.AddTypeLaws.{size, within_same, within_on, Grown, item_more, item_names}
 use Rattle.giop_sig.proofs.ReadingLaws.{Out, good, out_bind, out_more, if_apart}
 use Rattle.giop_sig.proofs.TypeTaken.{Grows, grows_none, grows_on, node_grows}
 use Rattle.giop_sig.proofs.LengthLaws.{arrays_grow}
@@ -79,17 +79,17 @@ case_reads switch node s labels names cases otherwise c text more same all few f
 
 -- ---- the table only grows
 
-pub place_grows : (s : Scope) (e : TypeExpr) → Grows s (place s e).0
-unfolding place
-place_grows s (Text (Some n)) = search (arith, node_grows)
-place_grows s (SequenceOf e bound) = search (arith, grows_on, node_grows, place_grows s e)
-place_grows s (EncapsulationOf e) = search (arith, grows_on, node_grows, place_grows s e)
-place_grows s _ = grows_none s
+pub add_type_grows : (s : Scope) (e : TypeExpr) → Grows s (add_type s e).0
+unfolding add_type
+add_type_grows s (Text (Some n)) = search (arith, node_grows)
+add_type_grows s (SequenceOf e bound) = search (arith, grows_on, node_grows, add_type_grows s e)
+add_type_grows s (EncapsulationOf e) = search (arith, grows_on, node_grows, add_type_grows s e)
+add_type_grows s _ = grows_none s
 
 pub item_grows : (s : Scope) (i : Item) → Grows s (add_item s i).0
 item_grows s i =
-    grows_on s (place s i.type).0 (add_item s i).0 (place_grows s i.type)
-    (arrays_grow i.lengths (place s i.type))
+    grows_on s (add_type s i.type).0 (add_item s i).0 (add_type_grows s i.type)
+    (arrays_grow i.lengths (add_type s i.type))
 
 pub node_stays : (s t : Scope) (i : ℕ) → Grows s t → i < size s
     → node_at t.table i ≡ node_at s.table i
@@ -137,7 +137,7 @@ labels_apart Default ls text more h = if_apart marks.CloseBrace text
 labels_apart (Of v) ls text more h = if_apart marks.CloseBrace text (spell_labels (Of v ∷ ls) more)
     refl h
 
-abbrev pub then_cases : ℕ → ℕ → Bool × CasesRead → Result CasesRead Refusal
+abbrev pub then_cases : ℕ → ℕ → Bool × CasesRead → Result CasesRead TokenError
 then_cases switch left x =
     cond x.0 (Ok x.1) (in_steps (cases_step switch) too_many_cases left x.1)
 
@@ -165,7 +165,7 @@ case_step_reads switch node s labels names cases otherwise c text more same all 
     (λ rest m keeps. good rest m keeps) (λ k w. w) within_same)
 
 -- what is asked of a case
-abbrev OfCase : Kind → Names → Node → List Label → List (List ℕ) → UnionCase → Type 0
+abbrev OfCase : FaultKind → Names → Node → List Label → List (List ℕ) → UnionCase → Type 0
 OfCase k known node labels names c =
     OfLabels k (is_third known) node labels (labels_of c) × OfItem k known 256 names c.item
 

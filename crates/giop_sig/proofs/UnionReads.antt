@@ -15,13 +15,13 @@ use Rattle.giop_sig.specs.declared.announced.TypeWord.TheVariants as type_words
 use Rattle.giop_sig.specs.Table.{Case, Node, node_at}
 use Rattle.giop_sig.specs.Table as nodes
 use Rattle.giop_sig.specs.Grammar.{TypeExpr, Label, UnionCase, DeclaredUnion, spell_item, spell_type, spell_cases, spell_identity}
-use Rattle.giop_sig.specs.Scopes.{Names, Scope, AddedType, with_node, has_default, labels_of, union_case, place, add_item, add_cases, add_choice_type, default_from, with_named, declare}
-use Rattle.giop_sig.specs.Validity.{Kind, IsDiscriminator, OfType, OfSwitch, OfSome, OfCases, OfDeclaration, placed_node}
+use Rattle.giop_sig.specs.Scopes.{Names, Scope, AddedType, with_node, has_default, labels_of, union_case, add_type, add_item, add_cases, add_choice_type, default_from, with_named, declare}
+use Rattle.giop_sig.specs.Validity.{FaultKind, IsDiscriminator, OfType, OfSwitch, OfSome, OfCases, OfDeclaration, placed_node}
 use Rattle.giop_sig.specs.Outcomes.{refused}
 use Rattle.giop_sig.specs.TypeReading.{type_at}
 use Rattle.giop_sig.specs.ItemReading.{announces_at, announcement_at, declared_at, identity_at, Declared, type_end_at}
 use Rattle.giop_sig.specs.UnionReading.{Cases, chosen, CasesRead, cases_at, union_node, can_switch, switch_at, union_after, union_at}
-use Rattle.giop_sig.proofs.PlaceLaws.{size, within_same, within_on, Grown, node_more, place_more, place_names, named_more}
+use Rattle.giop_sig.proofs.AddTypeLaws.{size, within_same, within_on, Grown, node_more, add_type_more, add_type_names, named_more}
 use Rattle.giop_sig.proofs.ReadingLaws.{Out, good, broken, out_bind, out_more, Apart}
 use Rattle.giop_sig.proofs.TypeLaws.{placed, type_reads}
 use Rattle.giop_sig.proofs.ItemLaws.{declared_reads, some_keeps, filled_end, filled_on, end_reads}
@@ -55,11 +55,11 @@ default_end selecteds.Nothing i = refl
 default_end _ i = refl
 
 -- what was kept of the cases is what they make
-record MakesCases (node : Node) (s : Scope) (cases : List Case) (otherwise : Selected) (place : ℕ)
+record MakesCases (node : Node) (s : Scope) (cases : List Case) (otherwise : Selected) (index : ℕ)
     (cs : List UnionCase) (x : Scope × Cases) : Type 0 where
   scope : x.0 ≡ (add_cases s node cs).0
   cases-are : (x.1).cases ≡ cases ++ (add_cases s node cs).1
-  otherwise-is : (x.1).otherwise ≡ default_or otherwise place cs
+  otherwise-is : (x.1).otherwise ≡ default_or otherwise index cs
 
 made_is : (cs : List UnionCase) (node : Node) (s : Scope) (labels : List Label)
     (names : List (List ℕ)) (cases : List Case) (otherwise : Selected)
@@ -131,7 +131,7 @@ no_discriminator (nodes.prim prims.ULongLong) e is = absurd cc
 no_discriminator (nodes.enumeration names) e is = absurd cc
 no_discriminator _ e is = is
 
-switch_keeps : (node : Node) → IsDiscriminator node → (k : Kind) → OfSwitch k node
+switch_keeps : (node : Node) → IsDiscriminator node → (k : FaultKind) → OfSwitch k node
 switch_keeps node is kinds.Label = is
 switch_keeps node is _ = tt
 
@@ -145,25 +145,25 @@ pub below_size : (s : Scope) (i : ℕ) → IsDiscriminator (node_at s.table i) �
 below_size s i is = below_by s i (ltb i (size s)) refl is
 
 switch_by : (s : Scope) (e : TypeExpr) (text rest : List ℕ) (more : List Token) (v : Bool)
-    → can_switch (placed_node (place s e)) ≡ v → AreTokens rest more
-    → ((k : Kind) → OfType k false s.names e)
-    → Out (placed s e) (λ k. OfType k false s.names e × OfSwitch k (placed_node (place s e)))
-    (place s e).0.table.types more
-    (cond v (Ok ((place s e).0, (place s e).1, rest)) (Err (refused kinds.Label text)))
+    → can_switch (placed_node (add_type s e)) ≡ v → AreTokens rest more
+    → ((k : FaultKind) → OfType k false s.names e)
+    → Out (placed s e) (λ k. OfType k false s.names e × OfSwitch k (placed_node (add_type s e)))
+    (add_type s e).0.table.types more
+    (cond v (Ok ((add_type s e).0, (add_type s e).1, rest)) (Err (refused kinds.Label text)))
 switch_by s e text rest more true p m keeps = search (arith, good, switch_keeps, discriminates)
 switch_by s e text rest more false p m keeps = search (arith, broken, no_discriminator)
 
 switch_reads : (s : Scope) (e : TypeExpr) (text : List ℕ) (more : List Token)
     → OfType kinds.Syntax false s.names e → Apart marks.OpenAngle more
     → AreTokens text (spell_type e more)
-    → Out (placed s e) (λ k. OfType k false s.names e × OfSwitch k (placed_node (place s e)))
-    (place s e).0.table.types more (switch_at s text)
+    → Out (placed s e) (λ k. OfType k false s.names e × OfSwitch k (placed_node (add_type s e)))
+    (add_type s e).0.table.types more (switch_at s text)
 unfolding switch_at
 switch_reads s e text more free apart h =
     out_bind (type_at s text) (λ t. cond (can_switch (node_at (t.0).table t.1)) (Ok t)
     (Err (refused kinds.Label text)))
     (type_reads s e text more free apart h)
-    (λ rest m keeps. switch_by s e text rest more (can_switch (placed_node (place s e))) refl m
+    (λ rest m keeps. switch_by s e text rest more (can_switch (placed_node (add_type s e))) refl m
     keeps) (λ k w. w.0) within_same
 
 -- ---- a union
@@ -184,18 +184,19 @@ choice_reads : (n : List ℕ) (id : Option (List ℕ)) (switch : TypeExpr) (case
     ∷ spell_type switch (mark marks.CloseParenthesis ∷ mark marks.OpenBrace
     ∷ spell_cases cases (mark marks.Semicolon ∷ more))))
     → Out {X = Declared} (λ rest. (
-      with_named n id (kept_union (place s switch).1
-          (made_cases (placed_node (place s switch)) (place s switch).0 [] [] [] selecteds.Nothing
+      with_named n id (kept_union (add_type s switch).1
+          (made_cases (placed_node (add_type s switch)) (add_type s switch).0 [] [] []
+          selecteds.Nothing
           cases)),
       rest,
     )) (λ k. OfDeclaration k s (DeclaredUnion n id switch cases))
-    (with_named n id (kept_union (place s switch).1
-    (made_cases (placed_node (place s switch)) (place s switch).0 [] [] [] selecteds.Nothing
+    (with_named n id (kept_union (add_type s switch).1
+    (made_cases (placed_node (add_type s switch)) (add_type s switch).0 [] [] [] selecteds.Nothing
     cases))).table.types more (union_at s text)
 unfolding union_at union_after OfDeclaration
 choice_reads n id switch cases s text more free h =
     let at = left_of text in
-    let p = place s switch in
+    let p = add_type s switch in
     let node = placed_node p in
     let m = made_cases node p.0 [] [] [] selecteds.Nothing cases in
     let whole = nodes.union p.1 (m.1).cases (m.1).otherwise in
@@ -235,14 +236,14 @@ choice_reads n id switch cases s text more free h =
     )
     (out_bind (cases_at p.1 p.0 (tb.2).0) (λ cs. type_end_at at n id cs.0 (union_node p.1 cs) cs.2)
     (cases_reads p.1 node s.names p.0 cases (tb.2).0 (mark marks.Semicolon ∷ more)
-    (place_names s switch) below refl free.5 (tb.2).2)
+    (add_type_names s switch) below refl free.5 (tb.2).2)
     (λ c tc kc. end_reads at (with_named n id (with_node m.0 whole))
     (λ k. OfDeclaration k s (DeclaredUnion n id switch cases)) c more tc
     (λ k. (kd k, ka k, (kb k).0, (kb k).1, (kc k).0, (kc k).1)))
     (λ k w. (w.4, w.5)) last))
     (λ k w. (w.2, w.3)) made))
-    (λ k w. w.1) (within_on (place_more s switch) made)))
-    (λ k w. w.0) (within_on (place_more s switch) made)
+    (λ k w. w.1) (within_on (add_type_more s switch) made)))
+    (λ k w. w.0) (within_on (add_type_more s switch) made)
 
 -- what reading gives for a text that begins with a union, after its first word
 pub union_reads : (s : Scope) (n : List ℕ) (id : Option (List ℕ)) (switch : TypeExpr)
@@ -257,7 +258,7 @@ pub union_reads : (s : Scope) (n : List ℕ) (id : Option (List ℕ)) (switch : 
     (declare s (DeclaredUnion n id switch cases)).table.types more (union_at s text)
 unfolding declare
 union_reads s n id switch cases text more free h =
-    let p = place s switch in
+    let p = add_type s switch in
     let same = kept_is cases p (placed_node p) refl in
     out_as (union_at s text) (choice_reads n id switch cases s text more free h)
     (λ rest. ap (λ (q : AddedType). (with_named n id q, rest)) same) (λ k w. w) (λ k w. w)

@@ -36,7 +36,7 @@ grown_none room trees h (nodes.encapsulation held) plain = h held
 grown_none room trees h (nodes.tagged special tag inner other) plain =
     λ i. part_none trees h (part_at (nodes.tagged special tag inner other) i)
 grown_none room trees h (nodes.any code) plain = absurd plain
-grown_none room trees h (nodes.announced place) plain = absurd plain
+grown_none room trees h (nodes.announced index) plain = absurd plain
 grown_none room trees h (nodes.recursive bound element) plain = absurd plain
 grown_none room trees h (nodes.typecode wide kind cases) plain = absurd plain
 grown_none room trees h node plain = tt

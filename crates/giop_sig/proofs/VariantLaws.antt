@@ -6,7 +6,7 @@ use Rattle.std.specs.List.{list_any}
 use Rattle.std.specs.Option.{is_some}
 use Rattle.std.specs.Str.{bytes_eq}
 use Rattle.std.proofs.lemmas.Bool.{leb-true, leb-false, false≢true}
-use Rattle.giop_tokens.specs.declared.fault.Refusal.{Refusal}
+use Rattle.giop_tokens.specs.declared.fault.TokenError.{TokenError}
 use Rattle.giop_tokens.specs.declared.fault.SigFaultKind.TheVariants as kinds
 use Rattle.giop_tokens.specs.declared.marks.Mark.TheVariants as marks
 use Rattle.giop_tokens.specs.Tokens.{Token, repository, mark, AreTokens}
@@ -17,12 +17,12 @@ use Rattle.giop_sig.specs.Interfaces.{Interfaces, is_key, of_text}
 use Rattle.giop_sig.specs.Table.{Node, Table, operation_key, keyed_number, with_entry, with_variant, with_variants, with_listed}
 use Rattle.giop_sig.specs.Grammar.{spell_more_interfaces, spell_interfaces}
 use Rattle.giop_sig.specs.Scopes.{Names, is_third, Scope}
-use Rattle.giop_sig.specs.Validity.{Kind, OfInterface, OfNewKey, OfVariants, OfList}
+use Rattle.giop_sig.specs.Validity.{FaultKind, OfInterface, OfNewKey, OfVariants, OfList}
 use Rattle.giop_sig.specs.Outcomes.{refused}
-use Rattle.giop_sig.specs.CallReading.{interface_at, Called, Variants, with_listed_by, new_variant_at, after_comma, variant_end, variant_key, variant_step, too_many_variants, plain_by, listed_by, listed_at, new_key_at}
+use Rattle.giop_sig.specs.CallReading.{interface_at, Called, Variants, with_table_by, new_variant_at, after_comma, variant_end, variant_key, variant_step, too_many_variants, plain_by, listed_by, listed_at, new_key_at}
 use Rattle.giop_sig.specs.Repeats.{in_steps}
 use Rattle.giop_sig.proofs.TypeLaws.{third_keeps}
-use Rattle.giop_sig.proofs.PlaceLaws.{within_same}
+use Rattle.giop_sig.proofs.AddTypeLaws.{within_same}
 use Rattle.giop_sig.proofs.ReadingLaws.{Out, good, broken, out_bind, out_more, Apart, if_apart, Took}
 use Rattle.giop_sig.proofs.ItemLaws.{some_none}
 use Rattle.giop_sig.proofs.ItemTaken.{none_of, unused, unused_is}
@@ -33,7 +33,7 @@ use Rattle.giop_sig.proofs.TokensFew.{tokens_few}
 abbrev pub HasRoom : Interfaces → List ℕ → Type 0
 HasRoom i id = (list_any (bytes_eq id) i.names ≡ true) ⊎ (length i.names < 1024)
 
-interface_keeps : (i : Interfaces) (id : List ℕ) → length id ≤ 128 → HasRoom i id → (k : Kind)
+interface_keeps : (i : Interfaces) (id : List ℕ) → length id ≤ 128 → HasRoom i id → (k : FaultKind)
     → OfInterface k i id
 interface_keeps i id short room kinds.Limit = (short, room)
 interface_keeps i id short room _ = tt
@@ -102,7 +102,8 @@ interface_takes i text x e =
 
 -- ---- the interfaces in a list, as they are spelled
 
-new_keeps : (t : Table) (key : List ℕ) → keyed_number t key ≡ None → (k : Kind) → OfNewKey k t key
+new_keeps : (t : Table) (key : List ℕ) → keyed_number t key ≡ None → (k : FaultKind) →
+    OfNewKey k t key
 new_keeps t key new kinds.Duplicate = new
 new_keeps t key new _ = tt
 
@@ -116,17 +117,17 @@ is_last [] = true
 is_last (id ∷ ids) = false
 
 abbrev with_one : Called → List ℕ → Scope → Scope
-with_one c id s = with_listed_by (with_variant c.name c.request c.reply id) s
+with_one c id s = with_table_by (with_variant c.name c.request c.reply id) s
 
 abbrev made_variant : Called → Scope → List ℕ → List (List ℕ) → List ℕ → Bool × Variants
 made_variant c s id ids rest = (is_last ids, (with_one c id s, rest))
 
-abbrev OfOne : Kind → Called → Table → List ℕ → Type 0
+abbrev OfOne : FaultKind → Called → Table → List ℕ → Type 0
 OfOne k c t id = OfInterface k t.interfaces id × OfNewKey k t (variant_key c t id)
 
 new_by : (c : Called) (s : Scope) (text id rest : List ℕ) (more : List Token) (v : Bool)
     → is_some (keyed_number s.table (variant_key c s.table id)) ≡ v → AreTokens rest more
-    → ((k : Kind) → OfInterface k s.table.interfaces id)
+    → ((k : FaultKind) → OfInterface k s.table.interfaces id)
     → Out (made_interface id) (λ k. OfOne k c s.table id) s.table.types more
     (cond v (Err (refused kinds.Duplicate text)) (Ok (id, rest)))
 new_by c s text id rest more true e h keeps =
@@ -154,7 +155,7 @@ new_reads c s text id more h =
 
 comma_reads : (c : Called) (s : Scope) (id : List ℕ) (ids : List (List ℕ)) (text rest : List ℕ)
     (more : List Token) → Apart marks.Comma more → AreTokens rest (spell_more_interfaces ids more)
-    → ((k : Kind) → OfOne k c s.table id)
+    → ((k : FaultKind) → OfOne k c s.table id)
     → Out (made_variant c s id ids) (λ k. OfOne k c s.table id) s.table.types
     (after_variant ids more) (mark_if marks.Comma rest >>= λ comma.
     Ok (variant_end c id (s, text) (after_comma rest comma)))
@@ -180,9 +181,9 @@ variant_reads c s id ids text more apart h =
 
 abbrev made_variants : Called → Scope → List (List ℕ) → List ℕ → Variants
 made_variants c s ids rest =
-    (with_listed_by (with_variants c.name c.request c.reply ids) s, rest)
+    (with_table_by (with_variants c.name c.request c.reply ids) s, rest)
 
-abbrev then_variants : Called → ℕ → Bool × Variants → Result Variants Refusal
+abbrev then_variants : Called → ℕ → Bool × Variants → Result Variants TokenError
 then_variants c n x =
     cond x.0 (Ok x.1) (in_steps (variant_step c) too_many_variants n x.1)
 
@@ -212,10 +213,10 @@ variants_reads (j ∷ js) id (suc n) c s text more lt apart h =
 plain_reads : (c : Called) (s : Scope) (at text : List ℕ) (more : List Token) (v : Bool)
     → is_some (keyed_number s.table (operation_key 0 c.name)) ≡ v → AreTokens text more
     → Out {X = Variants}
-    (λ rest. (with_listed_by (with_entry 0 c.name c.request c.reply) s, rest))
+    (λ rest. (with_table_by (with_entry 0 c.name c.request c.reply) s, rest))
     (λ k. OfNewKey k s.table (operation_key 0 c.name)) s.table.types more
     (cond v (Err (refused kinds.Duplicate at))
-    (Ok (with_listed_by (with_entry 0 c.name c.request c.reply) s, text)))
+    (Ok (with_table_by (with_entry 0 c.name c.request c.reply) s, text)))
 plain_reads c s at text more true e h =
     broken (refused kinds.Duplicate at)
     (some_none (keyed_number s.table (operation_key 0 c.name)) e)
@@ -231,7 +232,7 @@ not_of text more h =
 none_by : (c : Called) (s : Scope) (at text : List ℕ) (more : List Token) (v : Bool)
     → is_third s.names ≡ v → AreTokens text (mark marks.Semicolon ∷ more)
     → Out {X = Variants}
-    (λ rest. (with_listed_by (with_entry 0 c.name c.request c.reply) s, rest))
+    (λ rest. (with_table_by (with_entry 0 c.name c.request c.reply) s, rest))
     (λ k. OfNewKey k s.table (operation_key 0 c.name)) s.table.types (mark marks.Semicolon ∷ more)
     (cond v (keyword_if (codes "of") text >>= listed_by at c (s, text)) (plain_by at c (s, text)))
 none_by c s at text more true e h =
@@ -251,7 +252,7 @@ pub listed_reads : (ids : List (List ℕ)) (c : Called) (s : Scope) (at text : L
     (more : List Token) → OfList kinds.Syntax s.names c.name c.request c.reply ids s.table
     → AreTokens text (spell_interfaces ids (mark marks.Semicolon ∷ more))
     → Out {X = Variants}
-    (λ rest. (with_listed_by (with_listed c.name c.request c.reply ids) s, rest))
+    (λ rest. (with_table_by (with_listed c.name c.request c.reply ids) s, rest))
     (λ k. OfList k s.names c.name c.request c.reply ids s.table) s.table.types
     (mark marks.Semicolon ∷ more) (listed_at at c (s, text))
 unfolding listed_at
@@ -355,12 +356,12 @@ pub record TakenListed (names : Names) (text : List ℕ) (x : Variants) : Type 0
 
 plain_taken : (c : Called) (s : Scope) (at text : List ℕ) (v : Bool) (x : Variants)
     → cond v (Err (refused kinds.Duplicate at))
-    (Ok (with_listed_by (with_entry 0 c.name c.request c.reply) s, text)) ≡ Ok x
+    (Ok (with_table_by (with_entry 0 c.name c.request c.reply) s, text)) ≡ Ok x
     → TakenListed s.names text x
 plain_taken c s at text true x e = absurd cc
 plain_taken c s at text false x e =
     subst (TakenListed s.names text)
-    (ok_is (with_listed_by (with_entry 0 c.name c.request c.reply) s, text) x e) (record {
+    (ok_is (with_table_by (with_entry 0 c.name c.request c.reply) s, text) x e) (record {
       ids = [];
       took = record { free = tt; front = λ more m. m };
     })

@@ -1,6 +1,6 @@
 -- Reading an enum from left to right, and what it adds to the scope (steps).
 use Rattle.std.specs.Prelude.{ℕ, Bool, true, false, List, [], ◌∷◌, ◌++◌, Option, Some, None, Result, Ok}
-use Rattle.giop_tokens.specs.declared.fault.Refusal.{Refusal}
+use Rattle.giop_tokens.specs.declared.fault.TokenError.{TokenError}
 use Rattle.giop_tokens.specs.declared.fault.SigFaultKind.TheVariants as kinds
 use Rattle.giop_tokens.specs.declared.marks.Mark.TheVariants as marks
 use Rattle.giop_tokens.specs.Tokens.{left_of}
@@ -17,36 +17,36 @@ abbrev pub NamesRead : Type 0
 NamesRead = List (List ℕ) × List ℕ
 
 -- one more enumerator
-unfoldable pub enumerator_at : Bool → List (List ℕ) → List ℕ → Result NamesRead Refusal
+unfoldable pub enumerator_at : Bool → List (List ℕ) → List ℕ → Result NamesRead TokenError
 enumerator_at third seen text = do
   w ← new_name_at third 1024 seen text
   Ok (seen ++ w.0 ∷ [], w.1)
 
 -- a comma, after which another enumerator comes, or the closing mark
-abbrev pub names_end : NamesRead → Option (List ℕ) → Result (Bool × NamesRead) Refusal
+abbrev pub names_end : NamesRead → Option (List ℕ) → Result (Bool × NamesRead) TokenError
 names_end names (Some rest) = Ok (false, (names.0, rest))
 names_end names None = do
   rest ← mark_at marks.CloseBrace names.1
   Ok (true, (names.0, rest))
 
 -- an enumerator, and the mark after it
-unfoldable pub names_step : Bool → NamesRead → Result (Bool × NamesRead) Refusal
+unfoldable pub names_step : Bool → NamesRead → Result (Bool × NamesRead) TokenError
 names_step third seen = do
   names ← enumerator_at third seen.0 seen.1
   comma ← mark_if marks.Comma names.1
   names_end names comma
 
-abbrev pub too_many_names : NamesRead → Refusal
+abbrev pub too_many_names : NamesRead → TokenError
 too_many_names names = refused kinds.Limit names.1
 
 -- the enumerators of an enum, after its opening mark
-unfoldable pub names_at : Bool → List ℕ → Result NamesRead Refusal
+unfoldable pub names_at : Bool → List ℕ → Result NamesRead TokenError
 names_at third text = do
   some ← filled_at text
   in_steps (names_step third) too_many_names 1025 ([], some)
 
 -- an enum, after its first word
-unfoldable pub enumeration_at : Scope → List ℕ → Result Declared Refusal
+unfoldable pub enumeration_at : Scope → List ℕ → Result Declared TokenError
 enumeration_at s text = do
   n ← declared_at s None s.table.declared text
   i ← identity_at s n.1

@@ -2,7 +2,7 @@
 -- (meaning).
 use Rattle.std.specs.Prelude.{◌≡◌, ◌⊎◌, ℕ, ◌&&◌, nat_lt, Bool, true, false, if◌then◌else◌, List, [], ◌∷◌, ◌++◌, length, slice_index_or, Option, None, Some, Result, Ok, Err, codes}
 use Rattle.std.specs.Str.{bytes_eq}
-use Rattle.giop_tokens.specs.declared.fault.Refusal.{Refusal}
+use Rattle.giop_tokens.specs.declared.fault.TokenError.{TokenError}
 use Rattle.giop_tokens.specs.declared.fault.SigFault.{SigFault}
 use Rattle.giop_tokens.specs.declared.fault.SigFaultKind.TheVariants as kinds
 use Rattle.giop_tokens.specs.declared.marks.Mark.TheVariants as marks
@@ -20,7 +20,7 @@ use Rattle.giop_sig.specs.EnumReading.{enumeration_at}
 use Rattle.giop_sig.specs.UnionReading.{union_at}
 use Rattle.giop_sig.specs.Repeats.{in_steps}
 
-abbrev pub declaration_after : Scope → List ℕ → List ℕ → List ℕ → Result Declared Refusal
+abbrev pub declaration_after : Scope → List ℕ → List ℕ → List ℕ → Result Declared TokenError
 declaration_after s text w rest =
     if bytes_eq w (codes "enum") then enumeration_at s rest else
     (if bytes_eq w (codes "struct") then structure_at s rest else
@@ -30,13 +30,13 @@ declaration_after s text w rest =
     (if is_third s.names && bytes_eq w (codes "key") then key_at s rest
     else Err (misplaced text))))))
 
-unfoldable pub declaration_at : Scope → List ℕ → Result Declared Refusal
+unfoldable pub declaration_at : Scope → List ℕ → Result Declared TokenError
 declaration_at s text = do
   w ← word_at text
   declaration_after s text w.0 w.1
 
--- the scope after declarations, the places of the announced names in order, and the rest of the
--- text
+-- the scope after declarations, how many octets are left from each announced name on, and the rest
+-- of the text
 abbrev pub DeclarationsRead : Type 0
 DeclarationsRead = Scope × List ℕ × List ℕ
 
@@ -44,49 +44,50 @@ DeclarationsRead = Scope × List ℕ × List ℕ
 abbrev pub announcements : Scope → ℕ
 announcements s = length s.names.announced
 
--- The places after the declaration that a text begins with: it announced its name if more names are
--- announced after it than before it.
-unfoldable pub places_after : ℕ → ℕ → List ℕ → List ℕ → Result (List ℕ) Refusal
-places_after before after places text = do
+-- What is left from each announced name on, after the declaration that a text begins with: it
+-- announced its name if more names are announced after it than before it.
+unfoldable pub lefts_after : ℕ → ℕ → List ℕ → List ℕ → Result (List ℕ) TokenError
+lefts_after before after lefts text = do
   w ← word_at text
-  Ok (if nat_lt before after then places ++ left_of w.1 ∷ [] else places)
+  Ok (if nat_lt before after then lefts ++ left_of w.1 ∷ [] else lefts)
 
-abbrev pub declaration_or_end : DeclarationsRead → Bool → Result (Bool × DeclarationsRead) Refusal
+abbrev pub declaration_or_end : DeclarationsRead → Bool → Result (Bool × DeclarationsRead)
+    TokenError
 declaration_or_end d true = Ok (true, d)
 declaration_or_end d false = do
   next ← declaration_at d.0 d.2
-  places ← places_after (announcements d.0) (announcements next.0) d.1 d.2
-  Ok (false, (next.0, places, next.1))
+  lefts ← lefts_after (announcements d.0) (announcements next.0) d.1 d.2
+  Ok (false, (next.0, lefts, next.1))
 
 -- the end of the text, or one more declaration
-unfoldable pub declarations_step : DeclarationsRead → Result (Bool × DeclarationsRead) Refusal
+unfoldable pub declarations_step : DeclarationsRead → Result (Bool × DeclarationsRead) TokenError
 declarations_step d = do
   over ← end_at d.2
   declaration_or_end d over
 
-abbrev pub misplaced_after : DeclarationsRead → Refusal
+abbrev pub misplaced_after : DeclarationsRead → TokenError
 misplaced_after d = misplaced d.2
 
--- a refusal for a name that isn't declared, at the place of its announcement
-abbrev pub undeclared : List ℕ → ℕ → Refusal
-undeclared places i = record { kind = kinds.UnknownType; left = slice_index_or places i 0 }
+-- a refusal for a name that isn't declared, where it is announced
+abbrev pub undeclared : List ℕ → ℕ → TokenError
+undeclared lefts i = record { kind = kinds.UnknownType; left = slice_index_or lefts i 0 }
 
-abbrev pub settled_unless : Scope → List ℕ → Option ℕ → Result Scope Refusal
-settled_unless s places None = Ok (settled s)
-settled_unless s places (Some i) = Err (undeclared places i)
+abbrev pub settled_unless : Scope → List ℕ → Option ℕ → Result Scope TokenError
+settled_unless s lefts None = Ok (settled s)
+settled_unless s lefts (Some i) = Err (undeclared lefts i)
 
 -- the end of the text: each name that is announced is declared
-unfoldable pub settled_at : Scope → List ℕ → Result Scope Refusal
-settled_at s places = settled_unless s places (first_undeclared s.names)
+unfoldable pub settled_at : Scope → List ℕ → Result Scope TokenError
+settled_at s lefts = settled_unless s lefts (first_undeclared s.names)
 
 -- the version of the format, which is at most `latest`
-unfoldable pub version_at : ℕ → List ℕ → Result (ℕ × List ℕ) Refusal
+unfoldable pub version_at : ℕ → List ℕ → Result (ℕ × List ℕ) TokenError
 version_at latest text = do
   n ← number_at text
   if is_version latest n.0 then Ok (n.0, n.1) else Err (misplaced text)
 
 -- what comes before the declarations
-unfoldable pub head_at : ℕ → List ℕ → Result (ℕ × List ℕ) Refusal
+unfoldable pub head_at : ℕ → List ℕ → Result (ℕ × List ℕ) TokenError
 head_at latest text = do
   k ← keyword_at (codes "signatures") text
   v ← version_at latest k
@@ -94,7 +95,7 @@ head_at latest text = do
   Ok (v.0, r)
 
 -- what a file declares whose version is at most `latest`
-unfoldable pub file_at : ℕ → List ℕ → Result Scope Refusal
+unfoldable pub file_at : ℕ → List ℕ → Result Scope TokenError
 file_at latest text = do
   h ← head_at latest text
   d ← in_steps declarations_step misplaced_after (length text) (first_scope h.0, [], h.1)
@@ -108,7 +109,7 @@ text_too_long = record { line = 1; kind = kinds.Limit }
 -- memory may be refused at any time
 abbrev pub IsFirstRefusalUpTo : ℕ → List ℕ → SigFault → Type 0
 IsFirstRefusalUpTo latest text f =
-    (f ≡ no_memory) ⊎ ((r : Refusal) × (file_at latest text ≡ Err r) × (f ≡ fault_of text r))
+    (f ≡ no_memory) ⊎ ((r : TokenError) × (file_at latest text ≡ Err r) × (f ≡ fault_of text r))
 
 -- the same for a file of version 1 or 2
 abbrev pub IsFirstRefusal : List ℕ → SigFault → Type 0

@@ -2,7 +2,7 @@
 use Rattle.std.specs.Prelude.{◌≡◌, ℕ, zero, suc, ◌<◌, ◌⊎◌, true}
 use Rattle.giop_sig.specs.declared.types.Selected.{Selected}
 use Rattle.giop_sig.specs.declared.types.Selected.TheVariants.{Case}
-use Rattle.giop_sig.specs.Types.{Ty, places_of, Struct, Union, Sequence, Array, Encapsulation, Recursive, Led, Told, Then, sequel}
+use Rattle.giop_sig.specs.Types.{Ty, case_count, Struct, Union, Sequence, Array, Encapsulation, Recursive, Led, Told, Then, sequel}
 
 -- each case that is selected is one of the first `count`
 abbrev pub SelectsBelow : ℕ → (ℕ → Selected) → Type 0
@@ -18,7 +18,7 @@ IsFit (suc d) (Recursive bound fits T) = fits ≡ true → IsFit d T
 IsFit (suc d) (Led h F parts) =
     IsFit d F × ((told : Told) (i : ℕ) → sequel h told ≡ Then i → IsFit d (parts i))
 IsFit (suc d) (Union choice scalar select names cases) =
-    SelectsBelow (places_of choice) select × ((i : ℕ) → i < places_of choice → IsFit d (cases i))
+    SelectsBelow (case_count choice) select × ((i : ℕ) → i < case_count choice → IsFit d (cases i))
 IsFit (suc d) T = Unit {0}
 IsFit zero T = ⊥
 

@@ -97,14 +97,14 @@ IsPlain nodes.wide_text = ⊥
 IsPlain nodes.wide_char = ⊥
 IsPlain (nodes.marked mark) = ⊥
 IsPlain (nodes.any code) = ⊥
-IsPlain (nodes.announced place) = ⊥
+IsPlain (nodes.announced index) = ⊥
 IsPlain (nodes.recursive bound element) = ⊥
 IsPlain (nodes.typecode wide kind cases) = ⊥
 IsPlain node = Unit {0}
 
 -- a node that a declaration in a file of a version may add
 abbrev pub IsAddable : ℕ → Node → Type 0
-IsAddable version (nodes.announced place) = version ≡ 3
+IsAddable version (nodes.announced index) = version ≡ 3
 IsAddable version (nodes.recursive bound element) = version ≡ 3
 IsAddable version node = IsPlain node
 

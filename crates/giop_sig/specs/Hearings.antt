@@ -36,14 +36,14 @@ sign_is (signs.Marked mark n) = types.MarkedNumber mark n
 sign_is (signs.Counted n) = types.Counted n
 sign_is (signs.Spelt held rest more) = types.Spelt (held.now ++ rest.now) more
 
--- what a following of the code stands for; the part that tells has place 0
+-- what a following of the code stands for; the part that tells has index 0
 abbrev pub sequel_of : Following → Sequel
-sequel_of (followings.Then place) = types.Then (place - 1)
+sequel_of (followings.Then index) = types.Then (index - 1)
 sequel_of followings.Ends = types.Ends
 sequel_of followings.Stops = types.Stops
 
 abbrev pub HasPart : Following → Type 0
-HasPart (followings.Then place) = 0 < place
+HasPart (followings.Then index) = 0 < index
 HasPart following = Unit {0}
 
 -- a type that doesn't begin with such a part tells nothing

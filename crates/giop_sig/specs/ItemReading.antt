@@ -1,7 +1,7 @@
 -- Reading items, structs and exceptions from left to right (steps).
 use Rattle.std.specs.Prelude.{ℕ, zero, suc, Bool, true, false, if◌then◌else◌, nat_le, List, [], ◌∷◌, ◌++◌, length, Option, Some, None, Result, Ok, Err, option_and_then}
 use Rattle.std.specs.Option.{is_some}
-use Rattle.giop_tokens.specs.declared.fault.Refusal.{Refusal}
+use Rattle.giop_tokens.specs.declared.fault.TokenError.{TokenError}
 use Rattle.giop_tokens.specs.declared.fault.SigFaultKind.TheVariants as kinds
 use Rattle.giop_tokens.specs.declared.marks.Mark.TheVariants as marks
 use Rattle.giop_tokens.specs.Tokens.{left_of, next}
@@ -23,7 +23,7 @@ use Rattle.giop_sig.specs.Repeats.{in_steps}
 
 -- a name that isn't in `seen`, which may have `most` names
 unfoldable pub new_name_at : Bool → ℕ → List (List ℕ) → List ℕ
-    → Result (List ℕ × List ℕ) Refusal
+    → Result (List ℕ × List ℕ) TokenError
 new_name_at third most seen text = do
   n ← identifier_at third text
   if is_among seen n.0 then Err (refused kinds.Duplicate text)
@@ -32,7 +32,7 @@ new_name_at third most seen text = do
 -- the new name of an enum, struct, union or exception; the scope has `count` of these, and `word`
 -- is the first word of a struct or union
 unfoldable pub declared_at : Scope → Option TypeWord → ℕ → List ℕ
-    → Result (List ℕ × List ℕ) Refusal
+    → Result (List ℕ × List ℕ) TokenError
 declared_at s word count text = do
   n ← identifier_at (is_third s.names) text
   if is_taken s.names word n.0 then Err (refused kinds.Duplicate text)
@@ -51,15 +51,15 @@ abbrev pub onto_lengths : ℕ → LengthsRead → LengthsRead
 onto_lengths n ls = (n ∷ ls.0, ls.1)
 
 -- a length, if there is one, and the others
-abbrev pub lengths_after : (List ℕ → Result LengthsRead Refusal) → Option ℕ × List ℕ
-    → Result LengthsRead Refusal
+abbrev pub lengths_after : (List ℕ → Result LengthsRead TokenError) → Option ℕ × List ℕ
+    → Result LengthsRead TokenError
 lengths_after others (None, rest) = Ok ([], rest)
 lengths_after others (Some n, rest) = do
   ls ← others rest
   Ok (onto_lengths n ls)
 
 -- the lengths that come next, at most `most`
-unfoldable pub lengths_at : ℕ → List ℕ → Result LengthsRead Refusal
+unfoldable pub lengths_at : ℕ → List ℕ → Result LengthsRead TokenError
 lengths_at zero text = Ok ([], text)
 lengths_at (suc most) text = do
   l ← enclosed_at marks.OpenBracket marks.CloseBracket text
@@ -74,7 +74,7 @@ most_lengths third text = if third then length text else 1
 abbrev pub read_item : AddedType → List ℕ → List ℕ → ItemRead
 read_item p w rest = (p.0, part w p.1, rest)
 
-unfoldable pub item_at : ℕ → List (List ℕ) → Scope → List ℕ → Result ItemRead Refusal
+unfoldable pub item_at : ℕ → List (List ℕ) → Scope → List ℕ → Result ItemRead TokenError
 item_at most seen s text = do
   t ← type_at s text
   n ← new_name_at (is_third s.names) most seen t.2
@@ -87,44 +87,44 @@ item_at most seen s text = do
 abbrev pub Members : Type 0
 Members = Scope × List (List ℕ) × List Part × List ℕ
 
-unfoldable pub member_at : Members → Result (Bool × Members) Refusal
+unfoldable pub member_at : Members → Result (Bool × Members) TokenError
 member_at m = do
   i ← item_at 256 m.1 m.0 m.3
   r ← mark_at marks.Semicolon i.2
   Ok (false, (i.0, m.1 ++ (i.1).name ∷ [], m.2 ++ i.1 ∷ [], r))
 
-abbrev pub member_after : Members → Option (List ℕ) → Result (Bool × Members) Refusal
+abbrev pub member_after : Members → Option (List ℕ) → Result (Bool × Members) TokenError
 member_after m (Some r) = Ok (true, (m.0, m.1, m.2, r))
 member_after m None = member_at m
 
 -- the closing mark, or one more member
-unfoldable pub member_step : Members → Result (Bool × Members) Refusal
+unfoldable pub member_step : Members → Result (Bool × Members) TokenError
 member_step m = do
   c ← mark_if marks.CloseBrace m.3
   member_after m c
 
-abbrev pub too_many_members : Members → Refusal
+abbrev pub too_many_members : Members → TokenError
 too_many_members m = refused kinds.Limit m.3
 
 abbrev pub MembersRead : Type 0
 MembersRead = Scope × List Part × List ℕ
 
-abbrev pub members_read : Members → Result MembersRead Refusal
+abbrev pub members_read : Members → Result MembersRead TokenError
 members_read m = Ok (m.0, m.2, m.3)
 
 -- members up to the closing mark, in at most n steps
-abbrev pub members_run : ℕ → Members → Result MembersRead Refusal
+abbrev pub members_run : ℕ → Members → Result MembersRead TokenError
 members_run n m = in_steps member_step too_many_members n m >>= members_read
 
-abbrev pub members_at : Scope → List ℕ → Result MembersRead Refusal
+abbrev pub members_at : Scope → List ℕ → Result MembersRead TokenError
 members_at s text = members_run 257 (s, [], [], text)
 
-abbrev pub unless_closed : List ℕ → Option (List ℕ) → Result (List ℕ) Refusal
+abbrev pub unless_closed : List ℕ → Option (List ℕ) → Result (List ℕ) TokenError
 unless_closed text None = Ok text
 unless_closed text (Some r) = Err (refused kinds.Empty text)
 
 -- a list that doesn't end at once
-unfoldable pub filled_at : List ℕ → Result (List ℕ) Refusal
+unfoldable pub filled_at : List ℕ → Result (List ℕ) TokenError
 filled_at text = do
   c ← mark_if marks.CloseBrace text
   unless_closed text c
@@ -136,19 +136,20 @@ abbrev pub IdentityRead : Type 0
 IdentityRead = Option (List ℕ) × List ℕ
 
 -- a new repository id, which is the first token of the text; nothing if that is another token
-abbrev pub identity_after : Scope → List ℕ → Option (List ℕ) → List ℕ → Result IdentityRead Refusal
+abbrev pub identity_after : Scope → List ℕ → Option (List ℕ) → List ℕ →
+    Result IdentityRead TokenError
 identity_after s text None rest = Ok (None, text)
 identity_after s text (Some id) rest =
     if is_some (identified_in s.table id) then Err (refused kinds.Duplicate text)
     else Ok (Some id, rest)
 
-abbrev pub identity_by : Scope → List ℕ → Result IdentityRead Refusal
+abbrev pub identity_by : Scope → List ℕ → Result IdentityRead TokenError
 identity_by s text = do
   t ← next text
   identity_after s text (option_and_then as_repository t.0) t.1
 
 -- the repository id of a type, if one comes; it may come in a file of version 3 only
-unfoldable pub identity_at : Scope → List ℕ → Result IdentityRead Refusal
+unfoldable pub identity_at : Scope → List ℕ → Result IdentityRead TokenError
 identity_at s text = if is_third s.names then identity_by s text else Ok (None, text)
 
 -- ---- the end of a declaration
@@ -157,37 +158,37 @@ identity_at s text = if is_third s.names then identity_by s text else Ok (None, 
 abbrev pub Declared : Type 0
 Declared = Scope × List ℕ
 
--- a type is too deep in the declaration whose name is at this place
-abbrev pub too_deep : ℕ → Refusal
+-- a type is too deep in the declaration from whose name on this many octets are left
+abbrev pub too_deep : ℕ → TokenError
 too_deep at = record { kind = kinds.Depth; left = at }
 
--- the end of a declaration whose name is at this place, with the scope that it makes: a semicolon,
--- and no type is too deep
-unfoldable pub end_of : ℕ → Scope → List ℕ → Result Declared Refusal
+-- the end of a declaration from whose name on this many octets are left, with the scope that it
+-- makes: a semicolon, and no type is too deep
+unfoldable pub end_of : ℕ → Scope → List ℕ → Result Declared TokenError
 end_of at s text = do
   r ← mark_at marks.Semicolon text
   if nat_le (depth_of s.table.types) 24 then Ok (s, r) else Err (too_deep at)
 
 -- the end of an enum, struct or union, whose type has this node, and a repository id if it has one
 abbrev pub type_end_at : ℕ → List ℕ → Option (List ℕ) → Scope → Node → List ℕ
-    → Result Declared Refusal
+    → Result Declared TokenError
 type_end_at at name id s node text = end_of at (with_named name id (with_node s node)) text
 
 -- ---- announcements
 
-abbrev pub announces_by : List ℕ → Result Bool Refusal
+abbrev pub announces_by : List ℕ → Result Bool TokenError
 announces_by text = do
   rest ← mark_if marks.Semicolon text
   Ok (is_some rest)
 
 -- whether a declaration ends after its name, and so announces it; it may do so in a file of version
 -- 3 only
-unfoldable pub announces_at : Scope → List ℕ → Result Bool Refusal
+unfoldable pub announces_at : Scope → List ℕ → Result Bool TokenError
 announces_at s text = if is_third s.names then announces_by text else Ok false
 
 -- the end of an announcement, whose name is at the front of `text` and must not be announced yet
 unfoldable pub announcement_at : Scope → TypeWord → List ℕ → List ℕ → List ℕ
-    → Result Declared Refusal
+    → Result Declared TokenError
 announcement_at s word text w rest =
     if is_some (announced_as s.names w) then Err (refused kinds.Duplicate text)
     else end_of (left_of text) (with_announced word w (add_announced_type s)) rest
@@ -195,7 +196,7 @@ announcement_at s word text w rest =
 -- ---- declarations of members, each after its first word
 
 -- a struct, after its name, which is at the front of `text`
-unfoldable pub structure_after : Scope → List ℕ → List ℕ → List ℕ → Result Declared Refusal
+unfoldable pub structure_after : Scope → List ℕ → List ℕ → List ℕ → Result Declared TokenError
 structure_after s text w rest = do
   i ← identity_at s rest
   o ← mark_at marks.OpenBrace i.1
@@ -204,7 +205,7 @@ structure_after s text w rest = do
   type_end_at (left_of text) w i.0 m.0 (nodes.members m.1) m.2
 
 -- a struct, or its announcement
-unfoldable pub structure_at : Scope → List ℕ → Result Declared Refusal
+unfoldable pub structure_at : Scope → List ℕ → Result Declared TokenError
 structure_at s text = do
   n ← declared_at s (Some type_words.Struct) s.table.declared text
   a ← announces_at s n.1
@@ -212,12 +213,12 @@ structure_at s text = do
       else structure_after s text n.0 n.1
 
 -- a new repository id of an exception
-unfoldable pub new_repository_at : Scope → List ℕ → Result (List ℕ × List ℕ) Refusal
+unfoldable pub new_repository_at : Scope → List ℕ → Result (List ℕ × List ℕ) TokenError
 new_repository_at s text = do
   i ← repository_at text
   if is_some (exception_in s.table i.0) then Err (refused kinds.Duplicate text) else Ok (i.0, i.1)
 
-unfoldable pub exception_at : Scope → List ℕ → Result Declared Refusal
+unfoldable pub exception_at : Scope → List ℕ → Result Declared TokenError
 exception_at s text = do
   n ← declared_at s None (length s.table.exceptions) text
   i ← new_repository_at s n.1

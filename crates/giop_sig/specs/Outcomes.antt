@@ -1,21 +1,21 @@
 -- How the result of a function of the code compares with what reading gives (steps).
 use Rattle.std.specs.Prelude.{◌≡◌, ℕ, List, Result, Ok, Err}
-use Rattle.giop_tokens.specs.declared.fault.Refusal.{Refusal}
+use Rattle.giop_tokens.specs.declared.fault.TokenError.{TokenError}
 use Rattle.giop_tokens.specs.declared.fault.SigFaultKind.{SigFaultKind}
 use Rattle.giop_tokens.specs.Tokens.{left_of}
-use Rattle.giop_sig.specs.declared.parse_stop.ParseStop.{ParseStop}
-use Rattle.giop_sig.specs.declared.parse_stop.ParseStop.TheVariants as stops
+use Rattle.giop_sig.specs.declared.parse_stop.ParseError.{ParseError}
+use Rattle.giop_sig.specs.declared.parse_stop.ParseError.TheVariants as stops
 
 -- the refusal is that of reading, unless memory was refused
-abbrev pub Stops : {Y : Type 0} → ParseStop → Result Y Refusal → Type 0
+abbrev pub Stops : {Y : Type 0} → ParseError → Result Y TokenError → Type 0
 Stops stops.Memory read = Unit {0}
 Stops (stops.Refused r) read = read ≡ Err r
 
 -- what a function answered, as contracts see it, is what reading gives, unless memory was refused
-abbrev pub Gives : {X Y : Type 0} → (X → Y) → Result X ParseStop → Result Y Refusal → Type 0
+abbrev pub Gives : {X Y : Type 0} → (X → Y) → Result X ParseError → Result Y TokenError → Type 0
 Gives view (Ok x) read = read ≡ Ok (view x)
 Gives view (Err e) read = Stops e read
 
 -- a refusal at the first token of a text
-abbrev pub refused : SigFaultKind → List ℕ → Refusal
+abbrev pub refused : SigFaultKind → List ℕ → TokenError
 refused k text = record { kind = k; left = left_of text }

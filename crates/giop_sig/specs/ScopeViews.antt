@@ -51,7 +51,7 @@ IsKnownType types (Some i) = IsKnown types i
 pub record IsAnnounced (version : ℕ) (types : List Node) (i : ℕ) : Type 0 where
   pub third : version ≡ 3
   pub below : i < length types
-  pub is : (place : ℕ) × (node_in types i ≡ announced place)
+  pub is : (index : ℕ) × (node_in types i ≡ announced index)
 
 -- a type that the elements of a sequence may have
 abbrev pub IsElement : ℕ → List Node → ℕ → Type 0

@@ -108,21 +108,21 @@ base_number prims.Double = 10
 abbrev pub reference_number : Names → ℕ
 reference_number names = number_in names.version IOR
 
--- the place of the announcement, if a node stands for one
-abbrev pub announced_place : Node → Option ℕ
-announced_place (nodes.announced place) = Some place
-announced_place node = None
+-- the index of the announcement, if a node stands for one
+abbrev pub announced_index : Node → Option ℕ
+announced_index (nodes.announced index) = Some index
+announced_index node = None
 
 abbrev pub sequence_by : Option ℕ → ℕ → Option ℕ → Node
 sequence_by bound element None = nodes.sequence bound element
-sequence_by bound element (Some place) = nodes.recursive bound place
+sequence_by bound element (Some index) = nodes.recursive bound index
 
 -- a sequence of octets (type number 0) has a node of its own, and so has one of a type that is
 -- announced
 abbrev pub sequence_node : List Node → Option ℕ → ℕ → Node
 sequence_node types bound element =
     if element == 0 then nodes.octets bound
-    else sequence_by bound element (announced_place (node_in types element))
+    else sequence_by bound element (announced_index (node_in types element))
 
 abbrev pub add_text_type : Scope → Option ℕ → AddedType
 add_text_type s None = (s, STRING)
@@ -135,17 +135,17 @@ abbrev pub add_encapsulation_type : AddedType → AddedType
 add_encapsulation_type p = with_node p.0 (nodes.encapsulation p.1)
 
 -- the types that an expression adds, and the number of its own type
-unfoldable pub place : Scope → TypeExpr → AddedType
-place s (Base p) = (s, base_number p)
-place s (Text bound) = add_text_type s bound
-place s Reference = (s, reference_number s.names)
-place s AnyType = (s, ANY)
-place s CodeType = (s, TYPE_CODE)
-place s WideChar = (s, WIDE_CHAR)
-place s (WideText bound) = (s, WIDE_STRING)
-place s (Named w) = (s, number_or (type_named true s.names w))
-place s (SequenceOf e bound) = add_sequence_type bound (place s e)
-place s (EncapsulationOf e) = add_encapsulation_type (place s e)
+unfoldable pub add_type : Scope → TypeExpr → AddedType
+add_type s (Base p) = (s, base_number p)
+add_type s (Text bound) = add_text_type s bound
+add_type s Reference = (s, reference_number s.names)
+add_type s AnyType = (s, ANY)
+add_type s CodeType = (s, TYPE_CODE)
+add_type s WideChar = (s, WIDE_CHAR)
+add_type s (WideText bound) = (s, WIDE_STRING)
+add_type s (Named w) = (s, number_or (type_named true s.names w))
+add_type s (SequenceOf e bound) = add_sequence_type bound (add_type s e)
+add_type s (EncapsulationOf e) = add_encapsulation_type (add_type s e)
 
 -- ---- items
 
@@ -158,7 +158,7 @@ add_arrays [] p = p
 add_arrays (n ∷ ns) p = add_array n (add_arrays ns p)
 
 abbrev pub add_item : Scope → Item → AddedType
-add_item s i = add_arrays i.lengths (place s i.type)
+add_item s i = add_arrays i.lengths (add_type s i.type)
 
 abbrev pub part : List ℕ → ℕ → Part
 part w number = record { name = w; type = number }
@@ -184,7 +184,7 @@ below n = pos 0 -ℤ pos n
 abbrev pub if_at_most : ℕ → ℕ → Number → Option Number
 if_at_most most n number = if nat_le n most then Some number else None
 
--- the enumerator at a place
+-- the enumerator at an index
 abbrev pub numbered : Option ℕ → Option Number
 numbered None = None
 numbered (Some i) = Some (numbers.Unsigned i)
@@ -274,7 +274,7 @@ add_params s (p ∷ ps) =
 -- what an operation returns, as a member of its replies
 abbrev pub add_return : Scope → Option TypeExpr → Scope × List Part
 add_return s None = (s, [])
-add_return s (Some e) = ((place s e).0, part (codes "return") (place s e).1 ∷ [])
+add_return s (Some e) = ((add_type s e).0, part (codes "return") (add_type s e).1 ∷ [])
 
 -- ---- declarations
 
@@ -360,7 +360,7 @@ unfoldable pub declare : Scope → Declaration → Scope
 declare s (Enumeration n id names) = with_named n id (with_node s (nodes.enumeration names))
 declare s (Structure n id items) = with_named n id (add_struct_type (add_items s items))
 declare s (DeclaredUnion n id switch cases) =
-    with_named n id (add_choice_type cases (place s switch))
+    with_named n id (add_choice_type cases (add_type s switch))
 declare s (Announcement word n) = with_announced word n (add_announced_type s)
 declare s (DeclaredException n repository items) =
     with_raised n repository (add_struct_type (add_items s items))
@@ -382,13 +382,13 @@ last_scope file = scope_after (first_scope file.version) file.declarations
 abbrev pub targets : Names → List (Option ℕ)
 targets names = map (λ e. named names e.0) names.announced
 
--- the type that was declared for the announcement at a place
+-- the type that was declared for the announcement at an index
 abbrev pub target : List (Option ℕ) → ℕ → ℕ
-target types place = number_or (flat (slice_get types place))
+target types index = number_or (flat (slice_get types index))
 
 -- a recursive sequence gets the type that was declared for its elements
 abbrev pub settled_node : List (Option ℕ) → Node → Node
-settled_node types (nodes.recursive bound place) = nodes.recursive bound (target types place)
+settled_node types (nodes.recursive bound index) = nodes.recursive bound (target types index)
 settled_node types node = node
 
 abbrev pub with_settled : List (Option ℕ) → Table → Table

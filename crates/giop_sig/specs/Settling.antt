@@ -10,13 +10,13 @@ abbrev pub type_or : Option TypeId → TypeId
 type_or None = record { 0 = 0 }
 type_or (Some t) = t
 
--- the type that was declared for the announcement at a place
+-- the type that was declared for the announcement at an index
 abbrev pub target_of : List (Option TypeId) → TypeId → TypeId
-target_of targets place = type_or (flat (slice_get targets place.0))
+target_of targets index = type_or (flat (slice_get targets index.0))
 
 abbrev pub settled_kind : List (Option TypeId) → Entry → Entry
-settled_kind targets (entries.Recursive bound place) =
-    entries.Recursive bound (target_of targets place)
+settled_kind targets (entries.Recursive bound index) =
+    entries.Recursive bound (target_of targets index)
 settled_kind targets entry = entry
 
 abbrev pub settled_entry : List (Option TypeId) → EntryWithDepth → EntryWithDepth

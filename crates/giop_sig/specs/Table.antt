@@ -54,10 +54,10 @@ pub data Node : Type 0 where
   marked : ℕ → Node
   -- an any: the type of the TypeCode that tells the type of its value
   any : ℕ → Node
-  -- a struct or union that is announced, with its place among these; no type has it as a part
+  -- a struct or union that is announced, with its index among these; no type has it as a part
   announced : ℕ → Node
   -- A sequence, perhaps with a bound, whose elements have a type that was announced. It has the
-  -- number of that type; until the file ends, it has the place of the announcement.
+  -- number of that type; until the file ends, it has the index of the announcement.
   recursive : Option ℕ → ℕ → Node
   -- A TypeCode: the type of its kind, and what comes after each kind. If there is little room,
   -- parts whose types have the first number or a greater one are octets.
@@ -82,7 +82,7 @@ shape_of (encapsulation held) = shapes.Encapsulation
 shape_of (tagged special tag inner other) = shapes.Tagged
 shape_of (marked mark) = shapes.Marked mark
 shape_of (any code) = shapes.Led
-shape_of (announced place) = shapes.Members 0
+shape_of (announced index) = shapes.Members 0
 shape_of (recursive bound element) = shapes.Recursive bound
 shape_of (typecode wide kind cases) = shapes.Union (length cases)
 
@@ -101,12 +101,12 @@ narrowed (Some wide) type = cond (nat_lt type wide) type OCTETS
 abbrev pub narrow_part : Option ℕ → Part → Part
 narrow_part wide p = record { name = p.name; type = narrowed wide p.type }
 
--- an any has its TypeCode at place 0, and the type with number n at place n + 1
+-- an any has its TypeCode at index 0, and the type with number n at index n + 1
 abbrev pub any_part : ℕ → ℕ → Part
 any_part code zero = element_part code
 any_part code (suc i) = element_part i
 
--- the part at a place; an element and the value in an encapsulation are at each place and have no
+-- the part at an index; an element and the value in an encapsulation are at each index and have no
 -- name
 abbrev pub part_at : Node → ℕ → Option Part
 part_at (members parts) i = slice_get parts i
@@ -237,7 +237,7 @@ op_id i = record { 0 = i }
 abbrev pub type_id : ℕ → TypeId
 type_id i = record { 0 = i }
 
--- the place of the operation with a key among the operations
+-- the index of the operation with a key among the operations
 abbrev pub keyed_number : Table → List ℕ → Option ℕ
 keyed_number t key = position (λ o. bytes_eq key o.key) t.operations
 
@@ -362,13 +362,13 @@ with_declared t = record t { declared = t.declared + 1 }
 -- whether a type takes an octet
 abbrev pub takes_octet : Node → Bool
 takes_octet (members []) = false
-takes_octet (announced place) = false
+takes_octet (announced index) = false
 takes_octet node = true
 
 -- a type that takes an octet
 abbrev pub TakesOctet : Node → Type 0
 TakesOctet (members []) = ⊥
-TakesOctet (announced place) = ⊥
+TakesOctet (announced index) = ⊥
 TakesOctet node = Unit {0}
 
 -- a type that the type with number n may have as a part: it has a smaller number, and takes an
@@ -415,7 +415,7 @@ IsFormed types n (tagged special tag inner other) =
     IsSwitch types n tag.type × IsPart types n tag × IsPart types n inner × IsPart types n other
 IsFormed types n (marked mark) = Unit {0}
 IsFormed types n (any code) = IsInner types n code
-IsFormed types n (announced place) = Unit {0}
+IsFormed types n (announced index) = Unit {0}
 -- its announcement comes before it
 IsFormed types n (recursive bound element) = 0 < n
 IsFormed types n (typecode wide kind cases) =

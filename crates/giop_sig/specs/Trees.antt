@@ -56,7 +56,7 @@ abbrev pub grow : Room → (ℕ → Ty) → Node → Ty
 grow h tree (nodes.prim p) = Single (Plain p)
 grow h tree (nodes.marked mark) = Single (Marked mark)
 grow h tree (nodes.any code) = Led h.hearing (tree code) tree
-grow h tree (nodes.announced place) = Struct 0 (λ i. []) (λ i. octet_type)
+grow h tree (nodes.announced index) = Struct 0 (λ i. []) (λ i. octet_type)
 grow h tree (nodes.recursive bound element) = Recursive bound (h.fits element) (tree element)
 grow h tree (nodes.typecode wide kind cases) =
     grown_union tree (Cases (length cases)) (nodes.typecode wide kind cases)
@@ -107,7 +107,7 @@ depth_at types (suc n) i =
 abbrev pub depth_in : List Node → ℕ → ℕ
 depth_in types i = depth_at types (i + suc greatest_depth) i
 
--- the depth of the part at a place of a node
+-- the depth of the part at an index of a node
 abbrev pub part_depth : List Node → Node → ℕ → ℕ
 part_depth types node k = depth_in types (type_of (part_at node k))
 
@@ -150,7 +150,7 @@ wide_at types (suc n) i =
 abbrev pub wide_in : List Node → ℕ → Bool
 wide_in types i = wide_at types (i + suc greatest_depth) i
 
--- whether the part at a place of a node has wide text
+-- whether the part at an index of a node has wide text
 abbrev pub part_wide : List Node → Node → ℕ → Bool
 part_wide types node k = wide_in types (type_of (part_at node k))
 

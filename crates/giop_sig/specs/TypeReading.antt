@@ -1,7 +1,7 @@
 -- Reading a type from left to right, and what it adds to the scope (steps).
 use Rattle.std.specs.Prelude.{ℕ, zero, suc, ◌-◌, slice_get, Bool, true, false, ◌&&◌, ◌==◌, if◌then◌else◌, nat_lt, List, [], ◌∷◌, ◌++◌, length, Option, Some, None, Result, Ok, Err, codes}
 use Rattle.std.specs.Str.{bytes_eq}
-use Rattle.giop_tokens.specs.declared.fault.Refusal.{Refusal}
+use Rattle.giop_tokens.specs.declared.fault.TokenError.{TokenError}
 use Rattle.giop_tokens.specs.declared.fault.SigFaultKind.TheVariants as kinds
 use Rattle.giop_tokens.specs.declared.marks.Mark.{Mark}
 use Rattle.giop_tokens.specs.declared.marks.Mark.TheVariants as marks
@@ -17,14 +17,14 @@ use Rattle.giop_sig.specs.Outcomes.{refused}
 -- ---- sizes
 
 -- a length or bound
-unfoldable pub size_at : List ℕ → Result (ℕ × List ℕ) Refusal
+unfoldable pub size_at : List ℕ → Result (ℕ × List ℕ) TokenError
 size_at text = do
   n ← number_at text
   if n.0 == 0 then Err (refused kinds.Empty text)
       else (if nat_lt 4294967295 n.0 then Err (refused kinds.Limit text) else Ok (n.0, n.1))
 
 -- what was found by looking at the next token
-abbrev pub size_within : Mark → List ℕ → Option (List ℕ) → Result (Option ℕ × List ℕ) Refusal
+abbrev pub size_within : Mark → List ℕ → Option (List ℕ) → Result (Option ℕ × List ℕ) TokenError
 size_within close text None = Ok (None, text)
 size_within close text (Some inner) = do
   n ← size_at inner
@@ -32,19 +32,19 @@ size_within close text (Some inner) = do
   Ok (Some n.0, r)
 
 -- a size between two marks, if the first mark comes next
-unfoldable pub enclosed_at : Mark → Mark → List ℕ → Result (Option ℕ × List ℕ) Refusal
+unfoldable pub enclosed_at : Mark → Mark → List ℕ → Result (Option ℕ × List ℕ) TokenError
 enclosed_at open_mark close text = do
   inner ← mark_if open_mark text
   size_within close text inner
 
-abbrev pub size_after : List ℕ → Option (List ℕ) → Result (Option ℕ × List ℕ) Refusal
+abbrev pub size_after : List ℕ → Option (List ℕ) → Result (Option ℕ × List ℕ) TokenError
 size_after text None = Ok (None, text)
 size_after text (Some inner) = do
   n ← size_at inner
   Ok (Some n.0, n.1)
 
 -- a size after a comma, if a comma comes next
-unfoldable pub most_at : List ℕ → Result (Option ℕ × List ℕ) Refusal
+unfoldable pub most_at : List ℕ → Result (Option ℕ × List ℕ) TokenError
 most_at text = do
   inner ← mark_if marks.Comma text
   size_after text inner
@@ -74,41 +74,41 @@ abbrev pub read_as : AddedType → List ℕ → TypeRead
 read_as p rest = (p.0, p.1, rest)
 
 -- a string, after its word
-unfoldable pub text_at : Scope → List ℕ → Result TypeRead Refusal
+unfoldable pub text_at : Scope → List ℕ → Result TypeRead TokenError
 text_at s rest = do
   b ← enclosed_at marks.OpenAngle marks.CloseAngle rest
   Ok (read_as (add_text_type s b.0) b.1)
 
 -- a wide string, after its word
-unfoldable pub wide_text_at : Scope → List ℕ → Result TypeRead Refusal
+unfoldable pub wide_text_at : Scope → List ℕ → Result TypeRead TokenError
 wide_text_at s rest = do
   b ← enclosed_at marks.OpenAngle marks.CloseAngle rest
   Ok (s, WIDE_STRING, b.1)
 
 -- what comes after the element type of a sequence: perhaps a bound, and the closing mark
-abbrev pub after_element : TypeRead → Result TypeRead Refusal
+abbrev pub after_element : TypeRead → Result TypeRead TokenError
 after_element e = do
   b ← most_at e.2
   r ← mark_at marks.CloseAngle b.1
   Ok (read_as (add_sequence_type b.0 (e.0, e.1)) r)
 
 -- what comes after the type in an encapsulation: the closing mark
-abbrev pub after_held : TypeRead → Result TypeRead Refusal
+abbrev pub after_held : TypeRead → Result TypeRead TokenError
 after_held h = do
   r ← mark_at marks.CloseAngle h.2
   Ok (read_as (add_encapsulation_type (h.0, h.1)) r)
 
 -- what closes a type with another one in it, after that one
-unfoldable pub closed_by : Opener → TypeRead → Result TypeRead Refusal
+unfoldable pub closed_by : Opener → TypeRead → Result TypeRead TokenError
 closed_by openers.Sequence t = after_element t
 closed_by openers.Encapsulation t = after_held t
 
-abbrev pub found_type : Scope → List ℕ → List ℕ → Option ℕ → Result TypeRead Refusal
+abbrev pub found_type : Scope → List ℕ → List ℕ → Option ℕ → Result TypeRead TokenError
 found_type s text rest None = Err (refused kinds.UnknownType text)
 found_type s text rest (Some n) = Ok (s, n, rest)
 
 -- the type of a name, which is the first word of the text, perhaps as that of a sequence's elements
-unfoldable pub named_type : Bool → Scope → List ℕ → List ℕ → List ℕ → Result TypeRead Refusal
+unfoldable pub named_type : Bool → Scope → List ℕ → List ℕ → List ℕ → Result TypeRead TokenError
 named_type element s text w rest =
     if is_reserved (is_third s.names) w then Err (misplaced text) else
     (if nat_lt 64 (length w) then Err (refused kinds.Limit text)
@@ -119,7 +119,7 @@ abbrev pub is_later : Scope → List ℕ → List ℕ → Bool
 is_later s w v = is_third s.names && bytes_eq w v
 
 abbrev pub leaf_after : Bool → Scope → List ℕ → List ℕ → List ℕ → Option ℕ
-    → Result TypeRead Refusal
+    → Result TypeRead TokenError
 leaf_after element s text w rest (Some base) = Ok (s, base, rest)
 leaf_after element s text w rest None =
     if bytes_eq w (codes "string") then text_at s rest else
@@ -131,7 +131,7 @@ leaf_after element s text w rest None =
     else named_type element s text w rest)))))
 
 -- a type without another one in angle brackets, perhaps that of a sequence's elements
-unfoldable pub leaf_at : Bool → Scope → List ℕ → Result TypeRead Refusal
+unfoldable pub leaf_at : Bool → Scope → List ℕ → Result TypeRead TokenError
 leaf_at element s text = do
   w ← word_at text
   leaf_after element s text w.0 w.1 (base_of w.0)
@@ -140,14 +140,14 @@ leaf_at element s text = do
 abbrev pub Opened : Type 0
 Opened = Opener × List ℕ
 
-abbrev pub opened_by : Opener → List ℕ → Result (Option Opened) Refusal
+abbrev pub opened_by : Opener → List ℕ → Result (Option Opened) TokenError
 opened_by o rest = do
   inner ← mark_at marks.OpenAngle rest
   Ok (Some (o, inner))
 
 -- the first word of a text, if it begins a type with another one in it; an encapsulation is a type
 -- since version 2
-abbrev pub opener_after : Scope → List ℕ → List ℕ → List ℕ → Result (Option Opened) Refusal
+abbrev pub opener_after : Scope → List ℕ → List ℕ → List ℕ → Result (Option Opened) TokenError
 opener_after s text w rest =
     if bytes_eq w (codes "sequence") then opened_by openers.Sequence rest else
     (if bytes_eq w (codes "encapsulation")
@@ -155,7 +155,7 @@ opener_after s text w rest =
     else Err (misplaced text)) else Ok None)
 
 -- a word that begins a type with another one in it, if one comes first
-unfoldable pub opener_at : Scope → List ℕ → Result (Option Opened) Refusal
+unfoldable pub opener_at : Scope → List ℕ → Result (Option Opened) TokenError
 opener_at s text = do
   w ← word_at text
   opener_after s text w.0 w.1
@@ -165,21 +165,21 @@ abbrev pub opens_element : Opener → Bool
 opens_element openers.Sequence = true
 opens_element openers.Encapsulation = false
 
-abbrev pub type_after : (Bool → List ℕ → Result TypeRead Refusal) → Bool → Scope → List ℕ
-    → Option Opened → Result TypeRead Refusal
+abbrev pub type_after : (Bool → List ℕ → Result TypeRead TokenError) → Bool → Scope → List ℕ
+    → Option Opened → Result TypeRead TokenError
 type_after inner element s text None = leaf_at element s text
 type_after inner element s text (Some o) = inner (opens_element o.0) o.1 >>= closed_by o.0
 
 -- a type with fewer than n words that begin types with others in them, perhaps that of a sequence's
 -- elements
-unfoldable pub nested_at : ℕ → Bool → Scope → List ℕ → Result TypeRead Refusal
+unfoldable pub nested_at : ℕ → Bool → Scope → List ℕ → Result TypeRead TokenError
 nested_at zero element s text = Err (misplaced text)
 nested_at (suc left) element s text = do
   o ← opener_at s text
   type_after (λ inner. nested_at left inner s) element s text o
 
 -- a type; there are fewer words than octets in the text
-abbrev pub type_at : Scope → List ℕ → Result TypeRead Refusal
+abbrev pub type_at : Scope → List ℕ → Result TypeRead TokenError
 type_at s text = nested_at (length text) false s text
 
 -- ---- a type as the code reads it: all openers, a leaf, and what closes them
@@ -193,12 +193,12 @@ opener_or_leaf os None = (true, os)
 opener_or_leaf os (Some o) = (false, (os.0 ++ o.0 ∷ [], o.1))
 
 -- one more opener, if one comes
-unfoldable pub openers_step : Scope → Openers → Result (Bool × Openers) Refusal
+unfoldable pub openers_step : Scope → Openers → Result (Bool × Openers) TokenError
 openers_step s os = do
   o ← opener_at s os.1
   Ok (opener_or_leaf os o)
 
-abbrev pub too_many_openers : Openers → Refusal
+abbrev pub too_many_openers : Openers → TokenError
 too_many_openers os = misplaced os.1
 
 abbrev pub opens_elements : Option Opener → Bool
@@ -210,6 +210,6 @@ abbrev pub element_after : List Opener → Bool
 element_after os = opens_elements (slice_get os (length os - 1))
 
 -- what closes these openers, the outermost first, around a type
-unfoldable pub all_closed : List Opener → TypeRead → Result TypeRead Refusal
+unfoldable pub all_closed : List Opener → TypeRead → Result TypeRead TokenError
 all_closed [] t = Ok t
 all_closed (o ∷ os) t = all_closed os t >>= closed_by o

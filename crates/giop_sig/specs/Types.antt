@@ -1,5 +1,5 @@
 -- CDR's types as finite trees (CDR Transfer Syntax, Constructed Types; meaning). The parts of a
--- type are named by their places, from 0 on. What a union's discriminator selects depends on the
+-- type are named by their indices, from 0 on. What a union's discriminator selects depends on the
 -- whole number that its octets spell. A label of a signed type is compared with that number taken
 -- in two's complement, so that label -1 of a short is selected by the octets of 65535.
 use Rattle.std.specs.Prelude.{◌≡◌, ℕ, zero, suc, ◌+◌, ◌<◌, max, cond, nat_lt, Bool, true, codes, List, [], Option, Some, None}
@@ -40,9 +40,9 @@ pub data Choice : Type 0 where
   Tag : Choice
 
 -- how many parts there are
-abbrev pub places_of : Choice → ℕ
-places_of (Cases n) = n
-places_of Tag = 3
+abbrev pub case_count : Choice → ℕ
+case_count (Cases n) = n
+case_count Tag = 3
 
 -- The name of the discriminator, if it has one: a tag has that of a member, and a number with a
 -- mark is the `kind` of a TypeCode.
@@ -135,12 +135,12 @@ pub data Ty : Type 0 where
 
 -- ---- the parts of a type
 
--- the part that tells is at place 0, and what may come after it is at the places from 1 on
+-- the part that tells is at index 0, and what may come after it is at the indices from 1 on
 abbrev pub led_part : Ty → (ℕ → Ty) → ℕ → Ty
 led_part F parts zero = F
 led_part F parts (suc i) = parts i
 
--- the part at a place; an element is at each place
+-- the part at an index; an element is at each index
 abbrev pub part_of : Ty → ℕ → Ty
 part_of (Struct count names parts) i = parts i
 part_of (Union choice scalar select names cases) i = cases i
@@ -151,7 +151,7 @@ part_of (Recursive bound fits T) i = T
 part_of (Led h F parts) i = led_part F parts i
 part_of T i = T
 
--- the name of the part at a place; an element has none
+-- the name of the part at an index; an element has none
 abbrev pub name_in : Ty → ℕ → List ℕ
 name_in (Struct count names parts) i = names i
 name_in (Union choice scalar select names cases) i = names i
@@ -183,7 +183,7 @@ abbrev pub interpreted_in : Ty → ℕ → Option Number
 interpreted_in (Single scalar) n = interpreted_by scalar n
 interpreted_in T n = None
 
--- ---- shapes and places
+-- ---- shapes and indices
 
 abbrev pub union_shape : Choice → Shape
 union_shape (Cases n) = shapes.Union n
@@ -232,31 +232,31 @@ HasShape T shapes.Tagged =
     (scalar : Scalar) × (select : ℕ → Selected) × (names : ℕ → List ℕ) × (cases : ℕ → Ty)
     × (T ≡ Union Tag scalar select names cases)
 
--- a shape whose parts have names has a part at this place
+-- a shape whose parts have names has a part at this index
 abbrev pub HasMember : Shape → ℕ → Type 0
 HasMember (shapes.Members count) i = i < count
 HasMember (shapes.Union count) i = i < count
 HasMember shapes.Tagged i = i < 3
 HasMember s i = ⊥
 
--- a shape has a part at this place; elements are at each place
-abbrev pub HasPlace : Shape → ℕ → Type 0
-HasPlace (shapes.Members count) i = i < count
-HasPlace (shapes.Union count) i = i < count
-HasPlace (shapes.Sequence bound) i = Unit {0}
-HasPlace (shapes.Array count) i = Unit {0}
-HasPlace shapes.Encapsulation i = Unit {0}
-HasPlace (shapes.Recursive bound) i = Unit {0}
-HasPlace shapes.Led i = Unit {0}
-HasPlace shapes.Tagged i = i < 3
-HasPlace s i = ⊥
+-- a shape has a part at this index; elements are at each index
+abbrev pub HasIndex : Shape → ℕ → Type 0
+HasIndex (shapes.Members count) i = i < count
+HasIndex (shapes.Union count) i = i < count
+HasIndex (shapes.Sequence bound) i = Unit {0}
+HasIndex (shapes.Array count) i = Unit {0}
+HasIndex shapes.Encapsulation i = Unit {0}
+HasIndex (shapes.Recursive bound) i = Unit {0}
+HasIndex shapes.Led i = Unit {0}
+HasIndex shapes.Tagged i = i < 3
+HasIndex s i = ⊥
 
--- The part at this place has a smaller number than the type. All parts have, apart from what may
+-- The part at this index has a smaller number than the type. All parts have, apart from what may
 -- come after a part that tells it, and from the elements of a recursive sequence.
 abbrev pub HasInner : Shape → ℕ → Type 0
 HasInner shapes.Led i = i ≡ 0
 HasInner (shapes.Recursive bound) i = ⊥
-HasInner s i = HasPlace s i
+HasInner s i = HasIndex s i
 
 abbrev pub IsUnion : Shape → Type 0
 IsUnion (shapes.Union count) = Unit {0}
@@ -278,7 +278,7 @@ depth (Text bound) = 1
 depth (Octets kind) = 1
 depth (Struct count names parts) = 1 + most count (λ i. depth (parts i))
 depth (Union choice scalar select names cases) =
-    1 + max 1 (most (places_of choice) (λ i. depth (cases i)))
+    1 + max 1 (most (case_count choice) (λ i. depth (cases i)))
 depth (Sequence bound T) = 1 + depth T
 depth (Array count T) = 1 + depth T
 depth (Encapsulation T) = 1 + depth T

@@ -30,7 +30,7 @@ Rise ls = (i j : ℕ) (d : PlacedLabel) → i < j → j < length ls
     → key_of (slice_index_or ls i d).number < key_of (slice_index_or ls j d).number
 
 abbrev pub placed : ℕ → Number → PlacedLabel
-placed i n = record { number = n; place = i }
+placed i n = record { number = n; index = i }
 
 -- each number of the list selects a case, and the case that a number selects is with it in the list
 pub record AreLabels (cases : List Case) (ls : List PlacedLabel) : Type 0 where

@@ -4,7 +4,7 @@ use Rattle.std.specs.List.{list_any}
 use Rattle.std.specs.Str.{bytes_eq}
 use Rattle.giop_cdr.specs.declared.number.Number.{Number}
 use Rattle.giop_cdr.specs.declared.prim.Primitive.TheVariants as prims
-use Rattle.giop_tokens.specs.declared.fault.Refusal.{Refusal}
+use Rattle.giop_tokens.specs.declared.fault.TokenError.{TokenError}
 use Rattle.giop_tokens.specs.declared.fault.SigFaultKind.TheVariants as kinds
 use Rattle.giop_tokens.specs.declared.marks.Mark.TheVariants as marks
 use Rattle.giop_tokens.specs.Tokens.{Token, word, number, negative, repository, mark, left_of, next}
@@ -26,14 +26,14 @@ use Rattle.giop_sig.specs.Repeats.{in_steps}
 -- ---- a label
 
 -- the value of a word
-abbrev pub word_value : Bool → List ℕ → List ℕ → List ℕ → Result (Value × List ℕ) Refusal
+abbrev pub word_value : Bool → List ℕ → List ℕ → List ℕ → Result (Value × List ℕ) TokenError
 word_value third text w rest =
     if bytes_eq w (codes "true") then Ok (Truth true, rest) else
     (if bytes_eq w (codes "false") then Ok (Truth false, rest) else
     (if is_reserved third w then Err (misplaced text) else
     (if nat_lt 64 (length w) then Err (refused kinds.Limit text) else Ok (Enumerator w, rest))))
 
-abbrev pub token_value : Bool → List ℕ → Option Token → List ℕ → Result (Value × List ℕ) Refusal
+abbrev pub token_value : Bool → List ℕ → Option Token → List ℕ → Result (Value × List ℕ) TokenError
 token_value third text None rest = Err (misplaced text)
 token_value third text (Some (word w)) rest = word_value third text w rest
 token_value third text (Some (number n)) rest = Ok (Plain n, rest)
@@ -42,7 +42,7 @@ token_value third text (Some (repository r)) rest = Err (misplaced text)
 token_value third text (Some (mark m)) rest = Err (misplaced text)
 
 -- the value of a label
-unfoldable pub value_at : Bool → List ℕ → Result (Value × List ℕ) Refusal
+unfoldable pub value_at : Bool → List ℕ → Result (Value × List ℕ) TokenError
 value_at third text = do
   t ← next text
   token_value third text t.0 t.1
@@ -59,24 +59,24 @@ same_mark _ _ = false
 abbrev pub LabelRead : Type 0
 LabelRead = Mark × List ℕ
 
-abbrev pub fitting : List ℕ → List ℕ → Option Number → Result LabelRead Refusal
+abbrev pub fitting : List ℕ → List ℕ → Option Number → Result LabelRead TokenError
 fitting text rest None = Err (refused kinds.Label text)
 fitting text rest (Some n) = Ok (Some n, rest)
 
 -- the value of the discriminator's type that the next value names
-unfoldable pub number_of_value : Bool → Node → List ℕ → Result LabelRead Refusal
+unfoldable pub number_of_value : Bool → Node → List ℕ → Result LabelRead TokenError
 number_of_value third node text = do
   v ← value_at third text
   fitting text v.1 (label_number node v.0)
 
 -- a label that isn't among those of its union
-unfoldable pub unseen_label : List Mark → Mark → List ℕ → Result Mark Refusal
+unfoldable pub unseen_label : List Mark → Mark → List ℕ → Result Mark TokenError
 unseen_label seen m text =
     if list_any (λ s. same_mark s m) seen then Err (refused kinds.Duplicate text)
     else (if nat_le 1024 (length seen) then Err (refused kinds.Limit text) else Ok m)
 
 abbrev pub label_by : Bool → Node → List Mark → List ℕ → Option (List ℕ)
-    → Result LabelRead Refusal
+    → Result LabelRead TokenError
 label_by third node seen text (Some inner) = do
   v ← number_of_value third node inner
   m ← unseen_label seen v.0 inner
@@ -89,7 +89,7 @@ label_by third node seen text None = do
   Ok (m, rest)
 
 -- a label with its colon
-unfoldable pub label_at : Bool → Node → List Mark → List ℕ → Result LabelRead Refusal
+unfoldable pub label_at : Bool → Node → List Mark → List ℕ → Result LabelRead TokenError
 label_at third node seen text = do
   value ← keyword_if (codes "case") text
   label_by third node seen text value
@@ -106,34 +106,34 @@ with_label ls (None, rest) = (ls.0 ++ None ∷ [], ls.1, true, rest)
 with_label ls (Some n, rest) = (ls.0 ++ Some n ∷ [], ls.1 ++ n ∷ [], ls.2, rest)
 
 -- whether a label comes next
-unfoldable pub begins_label : List ℕ → Result Bool Refusal
+unfoldable pub begins_label : List ℕ → Result Bool TokenError
 begins_label text = do
   value ← keyword_if (codes "case") text
   default ← keyword_if (codes "default") text
   Ok (is_some value || is_some default)
 
-abbrev pub label_or_end : Bool → Node → LabelsRead → Bool → Result (Bool × LabelsRead) Refusal
+abbrev pub label_or_end : Bool → Node → LabelsRead → Bool → Result (Bool × LabelsRead) TokenError
 label_or_end third node ls false = Ok (true, ls)
 label_or_end third node ls true = do
   l ← label_at third node ls.0 ls.3
   Ok (false, with_label ls l)
 
 -- one more label, if one comes
-unfoldable pub labels_step : Bool → Node → LabelsRead → Result (Bool × LabelsRead) Refusal
+unfoldable pub labels_step : Bool → Node → LabelsRead → Result (Bool × LabelsRead) TokenError
 labels_step third node ls = do
   more ← begins_label ls.3
   label_or_end third node ls more
 
-abbrev pub too_many_labels : LabelsRead → Refusal
+abbrev pub too_many_labels : LabelsRead → TokenError
 too_many_labels ls = refused kinds.Limit ls.3
 
-abbrev pub labels_by : Bool → Node → List Mark → List ℕ → Bool → Result LabelsRead Refusal
+abbrev pub labels_by : Bool → Node → List Mark → List ℕ → Bool → Result LabelsRead TokenError
 labels_by third node seen text false = Err (misplaced text)
 labels_by third node seen text true =
     in_steps (labels_step third node) too_many_labels 1025 (seen, [], false, text)
 
 -- the labels of a case, at least one
-unfoldable pub labels_at : Bool → Node → List Mark → List ℕ → Result LabelsRead Refusal
+unfoldable pub labels_at : Bool → Node → List Mark → List ℕ → Result LabelsRead TokenError
 labels_at third node seen text = do
   some ← begins_label text
   labels_by third node seen text some
@@ -169,30 +169,30 @@ abbrev pub CasesRead : Type 0
 CasesRead = Scope × Cases × List ℕ
 
 -- a case of a union whose discriminator has the type with this number
-unfoldable pub case_at : ℕ → CasesRead → Result CasesRead Refusal
+unfoldable pub case_at : ℕ → CasesRead → Result CasesRead TokenError
 case_at switch x = do
   ls ← labels_at (is_third (x.0).names) (node_at (x.0).table switch) (x.1).labels x.2
   i ← item_at 256 (x.1).names x.0 ls.3
   rest ← mark_at marks.Semicolon i.2
   Ok (i.0, with_case x.1 ls i.1, rest)
 
-abbrev pub case_or_end : ℕ → CasesRead → Option (List ℕ) → Result (Bool × CasesRead) Refusal
+abbrev pub case_or_end : ℕ → CasesRead → Option (List ℕ) → Result (Bool × CasesRead) TokenError
 case_or_end switch x (Some rest) = Ok (true, (x.0, x.1, rest))
 case_or_end switch x None = do
   c ← case_at switch x
   Ok (false, c)
 
 -- the closing mark, or one more case
-unfoldable pub cases_step : ℕ → CasesRead → Result (Bool × CasesRead) Refusal
+unfoldable pub cases_step : ℕ → CasesRead → Result (Bool × CasesRead) TokenError
 cases_step switch x = do
   closed ← mark_if marks.CloseBrace x.2
   case_or_end switch x closed
 
-abbrev pub too_many_cases : CasesRead → Refusal
+abbrev pub too_many_cases : CasesRead → TokenError
 too_many_cases x = refused kinds.Limit x.2
 
 -- cases up to the closing mark, at least one
-unfoldable pub cases_at : ℕ → Scope → List ℕ → Result CasesRead Refusal
+unfoldable pub cases_at : ℕ → Scope → List ℕ → Result CasesRead TokenError
 cases_at switch s text = do
   some ← filled_at text
   in_steps (cases_step switch) too_many_cases 257 (s, no_cases, some)
@@ -213,13 +213,13 @@ abbrev pub union_node : ℕ → CasesRead → Node
 union_node switch x = nodes.union switch (x.1).cases (x.1).otherwise
 
 -- the type of a discriminator
-unfoldable pub switch_at : Scope → List ℕ → Result TypeRead Refusal
+unfoldable pub switch_at : Scope → List ℕ → Result TypeRead TokenError
 switch_at s text = do
   t ← type_at s text
   if can_switch (node_at (t.0).table t.1) then Ok t else Err (refused kinds.Label text)
 
 -- a union, after its name, which is at the front of `text`
-unfoldable pub union_after : Scope → List ℕ → List ℕ → List ℕ → Result Declared Refusal
+unfoldable pub union_after : Scope → List ℕ → List ℕ → List ℕ → Result Declared TokenError
 union_after s text w rest = do
   i ← identity_at s rest
   k ← keyword_at (codes "switch") i.1
@@ -231,7 +231,7 @@ union_after s text w rest = do
   type_end_at (left_of text) w i.0 cs.0 (union_node t.1 cs) cs.2
 
 -- a union, or its announcement, after its first word
-unfoldable pub union_at : Scope → List ℕ → Result Declared Refusal
+unfoldable pub union_at : Scope → List ℕ → Result Declared TokenError
 union_at s text = do
   n ← declared_at s (Some type_words.Union) s.table.declared text
   a ← announces_at s n.1

@@ -33,7 +33,7 @@ node_view (entries.Sequence bound element) = sequence bound element.0
 node_view (entries.Array count element) = array count element.0
 node_view (entries.Encapsulation held) = encapsulation held.0
 node_view (entries.Tagged t) = tag_view t
-node_view (entries.Announced place) = announced place
+node_view (entries.Announced index) = announced index
 node_view (entries.Recursive bound element) = recursive bound element.0
 
 -- an entry with at most as many parts or names as a shape can count

@@ -9,11 +9,11 @@ use giop_cdr::Number;
 use std::alloc::{AllocError, Global};
 use std::marker::Model;
 
-/// A label, and the place of the case that it selects.
+/// A label, and the index of the case that it selects.
 #[derive(Clone, Copy)]
 pub(crate) struct PlacedLabel {
     pub(crate) number: Number,
-    pub(crate) place: usize,
+    pub(crate) index: usize,
 }
 
 /// The cases of a union, in order. A contract sees a list of `Case`.
@@ -63,13 +63,13 @@ impl UnionCases {
         self.cases.len() as u32
     }
 
-    /// The case at a place: its name and its type.
+    /// The case at an index: its name and its type.
     #[inline(always)]
-    pub(crate) fn part(&self, place: u32) -> &PartEntry
-        requires { place < length self.now }
-        ensures { case_part (slice_get self.now place) ≡ Some (part_view result.now) }
+    pub(crate) fn part(&self, index: u32) -> &PartEntry
+        requires { index < length self.now }
+        ensures { case_part (slice_get self.now index) ≡ Some (part_view result.now) }
     {
-        &self.cases[place as usize].part
+        &self.cases[index as usize].part
     }
 
     /// The first case with this number among its labels.
@@ -85,7 +85,7 @@ impl UnionCases {
         };
         match found {
             None => None,
-            Some(place) => Some(place as u32),
+            Some(index) => Some(index as u32),
         }
     }
 }
@@ -103,19 +103,19 @@ fn key_of(number: Number) -> u64
     }
 }
 
-/// Adds the labels of the case at a place.
+/// Adds the labels of the case at an index.
 fn add_labels(
     labels: &mut Vec<PlacedLabel>,
     numbers: &[Number],
-    place: usize,
+    index: usize,
 ) -> Result<(), AllocError>
     ensures { OnOk result
-        (labels.new.items ≡ labels.old.items ++ map (placed place) numbers.now) }
+        (labels.new.items ≡ labels.old.items ++ map (placed index) numbers.now) }
 {
     for number in numbers {
         labels.push(PlacedLabel {
             number: *number,
-            place,
+            index,
         })?;
     }
     Ok(())
@@ -126,8 +126,8 @@ fn labels_of(alloc: Global, cases: &[CaseEntry]) -> Result<Vec<PlacedLabel>, All
     ensures { IfOk result (λ labels. AreLabels (map case_view cases.now) labels.items) }
 {
     let mut labels = Vec::new(alloc);
-    for place in 0..cases.len() {
-        add_labels(&mut labels, &cases[place].labels, place)?;
+    for index in 0..cases.len() {
+        add_labels(&mut labels, &cases[index].labels, index)?;
     }
     Ok(labels)
 }
@@ -136,15 +136,15 @@ fn labels_of(alloc: Global, cases: &[CaseEntry]) -> Result<Vec<PlacedLabel>, All
 fn rise(labels: &[PlacedLabel]) -> bool
     ensures { result ≡ true → Rise labels.now }
 {
-    for place in 1..labels.len() {
-        if key_of(labels[place].number) <= key_of(labels[place - 1].number) {
+    for index in 1..labels.len() {
+        if key_of(labels[index].number) <= key_of(labels[index - 1].number) {
             return false;
         }
     }
     true
 }
 
-/// The place of the first label whose key isn't less than `key`.
+/// The index of the first label whose key isn't less than `key`.
 fn first_from(labels: &[PlacedLabel], key: u64) -> usize
     requires { Rise labels.now }
     ensures bound { result ≤ length labels.now }
@@ -171,7 +171,7 @@ fn searched(labels: &[PlacedLabel], number: Number) -> Option<usize>
 {
     let at = first_from(labels, key_of(number));
     if at < labels.len() && is_same(labels[at].number, number) {
-        Some(labels[at].place)
+        Some(labels[at].index)
     } else {
         None
     }

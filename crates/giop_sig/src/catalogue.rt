@@ -2,7 +2,7 @@
 //! exceptions by name.
 ghost use Rattle.std.specs.Prelude.{◌≡◌, ℕ, suc, ◌+◌, ◌^◌, ◌<◌, ◌≤◌, ◌++◌, ◌↔◌, List, false, codes, drop, nat_le, length, IsTrue, IfSome, IfOk, IfErr, OnOk, OnErr, None, MatchOption};
 ghost use Rattle.std.specs.Option.{option_map};
-ghost use Rattle.giop_sig.specs.Types.{sequel, depth, part_of, name_in, enum_name_in, switch_of, select_in, interpreted_in, shape_in, HasShape, HasMember, HasPlace, HasInner, IsUnion};
+ghost use Rattle.giop_sig.specs.Types.{sequel, depth, part_of, name_in, enum_name_in, switch_of, select_in, interpreted_in, shape_in, HasShape, HasMember, HasIndex, HasInner, IsUnion};
 ghost use Rattle.giop_sig.specs.Fits.{IsFit, IsRoot};
 ghost use Rattle.giop_sig.specs.Interfaces.{IsInterfaceOf};
 ghost use Rattle.giop_sig.specs.Table.{node_at, shape_of, part_number, part_at, name_of, name_at, switch_at, selected, op_id, operation_key, keyed_number, operation_in, operation_for, interface_in, has_keys, named_interface, interface_name, operation_at, exception_in, identified_in, IsFormed, with_type, with_declared, with_operation, with_exception};
@@ -170,51 +170,51 @@ impl Catalogue {
         self.seen(false).shape(t)
     }
 
-    /// The type of the part at a place. Members, cases and the parts of a tagged type have their
-    /// places from 0 on. The element of a sequence or array and the value in an encapsulation are
-    /// at each place. An any has its TypeCode at place 0, and the type with number n at place n +
+    /// The type of the part at an index. Members, cases and the parts of a tagged type have their
+    /// indices from 0 on. The element of a sequence or array and the value in an encapsulation are
+    /// at each index. An any has its TypeCode at index 0, and the type with number n at index n +
     /// 1.
     #[inline(always)]
-    pub fn part(&self, t: TypeId, place: u32) -> TypeId
+    pub fn part(&self, t: TypeId, index: u32) -> TypeId
         requires known { t.0 < length self.now.types }
-        requires place { HasPlace (shape_in (tree self.now t.0)) place }
-        requires led { shape_in (tree self.now t.0) ≡ Shape.Led → place ≤ length self.now.types }
-        ensures number { result.0 ≡ part_number self.now t.0 place }
+        requires index { HasIndex (shape_in (tree self.now t.0)) index }
+        requires led { shape_in (tree self.now t.0) ≡ Shape.Led → index ≤ length self.now.types }
+        ensures number { result.0 ≡ part_number self.now t.0 index }
         ensures known { result.0 < length self.now.types }
-        ensures below { HasInner (shape_in (tree self.now t.0)) place → result.0 < t.0 }
+        ensures below { HasInner (shape_in (tree self.now t.0)) index → result.0 < t.0 }
         // A part has one level of room less than its whole. Only the parts of a union may differ
         // with the room.
         ensures rooms { (IsUnion (shape_in (tree self.now t.0)) → ⊥) → (n : ℕ) →
-            tree_at self.now n result.0 ≡ part_of (tree_at self.now (suc n) t.0) place }
+            tree_at self.now n result.0 ≡ part_of (tree_at self.now (suc n) t.0) index }
     {
-        self.seen(false).part(t, place)
+        self.seen(false).part(t, index)
     }
 
-    /// The name at a place: of a member, a case, or a part of a tagged type.
-    pub fn part_name(&self, t: TypeId, place: u32) -> &[u8]
+    /// The name at an index: of a member, a case, or a part of a tagged type.
+    pub fn part_name(&self, t: TypeId, index: u32) -> &[u8]
         requires known { t.0 < length self.now.types }
-        requires place { HasMember (shape_in (tree self.now t.0)) place }
-        ensures name { result.now ≡ name_of (part_at (node_at self.now t.0) place) }
-        ensures tree { result.now ≡ name_in (tree self.now t.0) place }
-        ensures rooms { (n : ℕ) → result.now ≡ name_in (tree_at self.now n t.0) place }
+        requires index { HasMember (shape_in (tree self.now t.0)) index }
+        ensures name { result.now ≡ name_of (part_at (node_at self.now t.0) index) }
+        ensures tree { result.now ≡ name_in (tree self.now t.0) index }
+        ensures rooms { (n : ℕ) → result.now ≡ name_in (tree_at self.now n t.0) index }
         ensures short { length result.now ≤ 64 }
     {
-        self.seen(false).part_name(t, place)
+        self.seen(false).part_name(t, index)
     }
 
     /// The same name after a dot. The dot is the 16th octet, and the octets before it mean nothing,
     /// so that a short name with its dot is the end of a block of 16 octets.
     #[inline(always)]
-    pub fn dotted_name(&self, t: TypeId, place: u32) -> &[u8]
+    pub fn dotted_name(&self, t: TypeId, index: u32) -> &[u8]
         requires known { t.0 < length self.now.types }
-        requires place { HasMember (shape_in (tree self.now t.0)) place }
-        ensures tree { drop 15 result.now ≡ codes "." ++ name_in (tree self.now t.0) place }
+        requires index { HasMember (shape_in (tree self.now t.0)) index }
+        ensures tree { drop 15 result.now ≡ codes "." ++ name_in (tree self.now t.0) index }
         ensures rooms { (n : ℕ) →
-            drop 15 result.now ≡ codes "." ++ name_in (tree_at self.now n t.0) place }
+            drop 15 result.now ≡ codes "." ++ name_in (tree_at self.now n t.0) index }
         ensures size { 16 ≤ length result.now }
         ensures short { length result.now ≤ 80 }
     {
-        self.seen(false).dotted_name(t, place)
+        self.seen(false).dotted_name(t, index)
     }
 
     /// The name of an enum's number, or of a kind. None if the number has no name.
@@ -254,7 +254,7 @@ impl Catalogue {
             → result ≡ select_in (tree self.now t.0) n }
         ensures rooms { (m n : ℕ) → interpreted_in (switch_of (tree_at self.now m t.0)) n
             ≡ Some number → result ≡ select_in (tree_at self.now m t.0) n }
-        ensures place { (i : ℕ) → result ≡ Selected.Case i
+        ensures index { (i : ℕ) → result ≡ Selected.Case i
             → HasMember (shape_in (tree self.now t.0)) i }
     {
         self.seen(false).select(t, number)
@@ -323,8 +323,8 @@ impl Catalogue {
         if name.len() > 128 {
             return None;
         }
-        let place = operations.get_index_of(&call_key(interface, name))?;
-        Some(OpId(place as u32))
+        let index = operations.get_index_of(&call_key(interface, name))?;
+        Some(OpId(index as u32))
     }
 
     /// The interface of an object key: that of the KEY with just this key, or else of the longest
@@ -449,18 +449,18 @@ impl Catalogue {
         self.types.depth_at(t)
     }
 
-    /// The type of the part at a place, if it has this room. It is that of `part`, apart from what
+    /// The type of the part at an index, if it has this room. It is that of `part`, apart from what
     /// comes after the kind of a TypeCode.
-    pub fn part_in(&self, t: TypeId, place: u32, room: u8) -> TypeId
+    pub fn part_in(&self, t: TypeId, index: u32, room: u8) -> TypeId
         requires known { t.0 < length self.now.types }
-        requires place { HasPlace (shape_in (tree self.now t.0)) place }
-        requires led { shape_in (tree self.now t.0) ≡ Shape.Led → place ≤ length self.now.types }
-        ensures number { result.0 ≡ part_number_in self.now room t.0 place }
+        requires index { HasIndex (shape_in (tree self.now t.0)) index }
+        requires led { shape_in (tree self.now t.0) ≡ Shape.Led → index ≤ length self.now.types }
+        ensures number { result.0 ≡ part_number_in self.now room t.0 index }
         ensures known { result.0 < length self.now.types }
         ensures tree { tree_at self.now room result.0
-            ≡ part_of (tree_at self.now (suc room) t.0) place }
+            ≡ part_of (tree_at self.now (suc room) t.0) index }
     {
-        self.seen(false).part_in(t, place, room)
+        self.seen(false).part_in(t, index, room)
     }
 
     /// The entry of a type.

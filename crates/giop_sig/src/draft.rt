@@ -10,7 +10,7 @@ ghost use Rattle.giop_sig.specs.Interfaces.{with_interface, of_text};
 ghost use Rattle.giop_sig.specs.Table.{IsFormed, node_at, prim, operation_key, keyed_number, exception_in, identified_in, with_identity, with_called, with_entry, with_exception};
 ghost use Rattle.giop_sig.specs.HeaderTypes.{IsAddable};
 ghost use Rattle.giop_sig.specs.Trees.{AreSettled, depth_in, depth_of};
-ghost use Rattle.giop_sig.specs.Scopes.{type_named, add_announced_type, announced_as, announced_place, settled, targets, with_announced, first_scope, has_encapsulations, is_third, reference_number, named, with_node, with_name, with_named, with_identified, with_id_fronts, with_sequence, with_raised, with_key_of};
+ghost use Rattle.giop_sig.specs.Scopes.{type_named, add_announced_type, announced_as, announced_index, settled, targets, with_announced, first_scope, has_encapsulations, is_third, reference_number, named, with_node, with_name, with_named, with_identified, with_id_fronts, with_sequence, with_raised, with_key_of};
 ghost use Rattle.giop_sig.specs.FileReading.{announcements};
 ghost use Rattle.giop_sig.specs.RequestList.{flat};
 ghost use Rattle.giop_sig.specs.ScopeViews.{announcement_view, key_is, number_of_id, IsDraft, IsKnown, IsKnownType, IsNewIdentity};
@@ -25,7 +25,7 @@ use crate::entries::{Entry, Types};
 use crate::fronts::{Front, add_fronts, first_fronts};
 use crate::interfaces::InterfaceTable;
 use crate::numbers::IOR;
-use crate::parse_stop::ParseStop;
+use crate::parse_stop::ParseError;
 use crate::types::TypeId;
 use arrayvec::ArrayVec;
 use indexmap::{IndexMap, IndexSet};
@@ -88,10 +88,10 @@ fn declared_types(
     alloc: Global,
     names: &IndexMap<Key, Option<TypeId>>,
     announced: &IndexMap<Key, Announcement>,
-) -> Result<Vec<Option<TypeId>>, ParseStop>
+) -> Result<Vec<Option<TypeId>>, ParseError>
     ensures ok { IfOk result (λ ts. ts.items
         ≡ map (λ e. flat (lookup (key_is e.0) names.now.entries)) announced.now.entries) }
-    ensures err { IfErr result (λ stop. stop ≡ ParseStop.Memory) }
+    ensures err { IfErr result (λ stop. stop ≡ ParseError.Memory) }
 {
     let mut types = Vec::new(alloc);
     for (key, _) in announced.iter() {
@@ -109,9 +109,9 @@ fn declared_type(names: &IndexMap<Key, Option<TypeId>>, key: &Key) -> Option<Typ
 
 impl Draft {
     /// The draft without declarations, for a file of this version.
-    pub(crate) fn new(alloc: Global, version: u8) -> Result<Draft, ParseStop>
+    pub(crate) fn new(alloc: Global, version: u8) -> Result<Draft, ParseError>
         ensures ok { IfOk result (λ draft. draft ≡ first_scope version) }
-        ensures err { IfErr result (λ stop. stop ≡ ParseStop.Memory) }
+        ensures err { IfErr result (λ stop. stop ≡ ParseError.Memory) }
     {
         let types = first_list(alloc, version)?;
         let fronts = first_fronts(alloc)?;
@@ -219,19 +219,19 @@ impl Draft {
         self.announced.len()
     }
 
-    /// The place of the announcement that a type stands for. None for other types.
-    pub(crate) fn announced_place(&self, t: TypeId) -> Option<u32>
-        ensures { result ≡ announced_place (node_at self.now.table t.0) }
+    /// The index of the announcement that a type stands for. None for other types.
+    pub(crate) fn announced_index(&self, t: TypeId) -> Option<u32>
+        ensures { result ≡ announced_index (node_at self.now.table t.0) }
     {
         match self.entry(t) {
-            Some(Entry::Announced(place)) => Some(*place),
+            Some(Entry::Announced(index)) => Some(*index),
             _ => None,
         }
     }
 
     /// Adds a type. If no number is left for it, memory is refused: no text is long enough for so
     /// many types.
-    pub(crate) fn add(&mut self, entry: Entry) -> Result<TypeId, ParseStop>
+    pub(crate) fn add(&mut self, entry: Entry) -> Result<TypeId, ParseError>
         requires formed { IsFormed self.old.table.types (length self.old.table.types)
             (node_view entry) }
         requires addable { IsAddable self.old.table.version (node_view entry) }
@@ -240,7 +240,7 @@ impl Draft {
         // They are read so that the prover knows what is true of each map of names.
         let _names = &self.names;
         if self.types.len() == u32::MAX {
-            return Err(ParseStop::Memory);
+            return Err(ParseError::Memory);
         }
         let t = self.types.add(entry)?;
         self.types.laws();
@@ -344,13 +344,13 @@ impl Draft {
     }
 
     /// Adds a new name, with its type if it is that of a type.
-    fn add_name(&mut self, name: &[u8], t: Option<TypeId>) -> Result<(), ParseStop>
+    fn add_name(&mut self, name: &[u8], t: Option<TypeId>) -> Result<(), ParseError>
         requires short { length name.now ≤ 64 }
         requires new { lookup (bytes_eq name.now) self.old.names.known ≡ None }
         requires known { IsKnownType self.old.table.types (option_map (λ t. t.0) t) }
         ensures added { OnOk result (self.new
             ≡ with_name self.old name.now (option_map (λ t. t.0) t)) }
-        ensures err { IfErr result (λ stop. stop ≡ ParseStop.Memory) }
+        ensures err { IfErr result (λ stop. stop ≡ ParseError.Memory) }
     {
         let key: Key = ArrayVec::try_from(name).unwrap();
         self.names.insert(key, t)?;
@@ -358,14 +358,14 @@ impl Draft {
     }
 
     /// Adds a new repository id of a type.
-    fn add_identity(&mut self, id: &[u8], t: TypeId) -> Result<(), ParseStop>
+    fn add_identity(&mut self, id: &[u8], t: TypeId) -> Result<(), ParseError>
         requires identity { length id.now ≤ 128 }
         requires different { identified_in self.old.table id.now ≡ None }
         requires known { t.0 < length self.old.table.types }
         ensures added { OnOk result (self.new ≡ record (self.old) {
           table = with_identity self.old.table (record { repository = id.now; type = t.0 });
         }) }
-        ensures err { IfErr result (λ stop. stop ≡ ParseStop.Memory) }
+        ensures err { IfErr result (λ stop. stop ≡ ParseError.Memory) }
     {
         // They are read so that the prover knows what is true of each map of names.
         let _names = &self.names;
@@ -375,13 +375,13 @@ impl Draft {
     }
 
     /// Adds the fronts of a type's repository id.
-    fn add_id_fronts(&mut self, id: &[u8], t: TypeId) -> Result<(), ParseStop>
+    fn add_id_fronts(&mut self, id: &[u8], t: TypeId) -> Result<(), ParseError>
         requires identity { length id.now ≤ 128 }
         requires known { t.0 < length self.old.table.types }
         ensures added { OnOk result (self.new ≡ record (self.old) {
           table = with_id_fronts self.old.table id.now t.0;
         }) }
-        ensures err { IfErr result (λ stop. stop ≡ ParseStop.Memory) }
+        ensures err { IfErr result (λ stop. stop ≡ ParseError.Memory) }
     {
         // They are read so that the prover knows what is true of each map of names.
         let _names = &self.names;
@@ -401,12 +401,12 @@ impl Draft {
     }
 
     /// Adds the sequence of a type, unless it would be too deep.
-    fn add_sequence(&mut self, t: TypeId) -> Result<(), ParseStop>
+    fn add_sequence(&mut self, t: TypeId) -> Result<(), ParseError>
         requires { IsKnown self.old.table.types t.0 }
         ensures added { OnOk result (self.new ≡ record (self.old) {
           table = with_sequence self.old.table t.0;
         }) }
-        ensures err { IfErr result (λ stop. stop ≡ ParseStop.Memory) }
+        ensures err { IfErr result (λ stop. stop ≡ ParseError.Memory) }
     {
         if self.depth_at(t) < DEPTH_MAX {
             self.add(Entry::Sequence(None, t))?;
@@ -415,13 +415,13 @@ impl Draft {
     }
 
     /// Adds the repository id of a type, if it has one.
-    fn identify(&mut self, id: Option<&[u8]>, t: TypeId) -> Result<(), ParseStop>
+    fn identify(&mut self, id: Option<&[u8]>, t: TypeId) -> Result<(), ParseError>
         requires identity { IsNewIdentity self.old.table (option_map (λ x. x.now) id) }
         requires known { IsKnown self.old.table.types t.0 }
         ensures added { OnOk result (self.new ≡ record (self.old) {
           table = with_identified self.old.table (option_map (λ x. x.now) id.entry) t.0;
         }) }
-        ensures err { IfErr result (λ stop. stop ≡ ParseStop.Memory) }
+        ensures err { IfErr result (λ stop. stop ≡ ParseError.Memory) }
     {
         match id {
             None => Ok(()),
@@ -440,7 +440,7 @@ impl Draft {
         name: &[u8],
         id: Option<&[u8]>,
         t: TypeId,
-    ) -> Result<(), ParseStop>
+    ) -> Result<(), ParseError>
         requires short { length name.now ≤ 64 }
         requires new { lookup (bytes_eq name.now) self.old.names.known ≡ None }
         requires few { self.old.table.declared < 4096 }
@@ -448,7 +448,7 @@ impl Draft {
         requires identity { IsNewIdentity self.old.table (option_map (λ x. x.now) id) }
         ensures added { OnOk result (self.new
             ≡ with_named name.now (option_map (λ x. x.now) id.entry) (self.old, t.0)) }
-        ensures err { IfErr result (λ stop. stop ≡ ParseStop.Memory) }
+        ensures err { IfErr result (λ stop. stop ≡ ParseError.Memory) }
     {
         self.add_name(name, Some(t))?;
         self.identify(id, t)?;
@@ -457,7 +457,7 @@ impl Draft {
     }
 
     /// Adds an exception with a new repository id.
-    fn add_exception(&mut self, repository: &[u8], t: TypeId) -> Result<(), ParseStop>
+    fn add_exception(&mut self, repository: &[u8], t: TypeId) -> Result<(), ParseError>
         requires few { length self.old.table.exceptions < 4096 }
         requires identity { length repository.now ≤ 128 }
         requires different { exception_in self.old.table repository.now ≡ None }
@@ -466,7 +466,7 @@ impl Draft {
           table = with_exception self.old.table
               (record { repository = repository.now; members = t.0 });
         }) }
-        ensures err { IfErr result (λ stop. stop ≡ ParseStop.Memory) }
+        ensures err { IfErr result (λ stop. stop ≡ ParseError.Memory) }
     {
         // They are read so that the prover knows what is true of each map of names.
         let _names = &self.names;
@@ -481,7 +481,7 @@ impl Draft {
         name: &[u8],
         repository: &[u8],
         t: TypeId,
-    ) -> Result<(), ParseStop>
+    ) -> Result<(), ParseError>
         requires short { length name.now ≤ 64 }
         requires new { lookup (bytes_eq name.now) self.old.names.known ≡ None }
         requires few { length self.old.table.exceptions < 4096 }
@@ -490,7 +490,7 @@ impl Draft {
         requires known { t.0 < length self.old.table.types }
         ensures added { OnOk result (self.new
             ≡ with_raised name.now repository.now (self.old, t.0)) }
-        ensures err { IfErr result (λ stop. stop ≡ ParseStop.Memory) }
+        ensures err { IfErr result (λ stop. stop ≡ ParseError.Memory) }
     {
         self.add_name(name, None)?;
         self.add_exception(repository, t)
@@ -502,7 +502,7 @@ impl Draft {
         interface: u32,
         name: &[u8],
         signature: Signature,
-    ) -> Result<(), ParseStop>
+    ) -> Result<(), ParseError>
         requires short { length name.now ≤ 128 }
         requires few { interface ≤ 1024 }
         requires new { keyed_number self.old.table (operation_key interface name.now) ≡ None }
@@ -512,12 +512,12 @@ impl Draft {
           table = with_entry interface name.now signature.request.0 signature.reply.0
               self.old.table;
         }) }
-        ensures err { IfErr result (λ stop. stop ≡ ParseStop.Memory) }
+        ensures err { IfErr result (λ stop. stop ≡ ParseError.Memory) }
     {
         // They are read so that the prover knows what is true of each map of names.
         let _names = &self.names;
         if self.operations.len() >= u32::MAX as usize {
-            return Err(ParseStop::Memory);
+            return Err(ParseError::Memory);
         }
         let key = call_key(interface, name);
         self.operations.insert(key, signature)?;
@@ -525,7 +525,7 @@ impl Draft {
     }
 
     /// Adds an interface, if it is new.
-    pub(crate) fn add_interface(&mut self, id: &[u8]) -> Result<(), ParseStop>
+    pub(crate) fn add_interface(&mut self, id: &[u8]) -> Result<(), ParseError>
         requires short { length id.now ≤ 128 }
         requires few { (list_any (bytes_eq id.now) self.old.table.interfaces.names ≡ true)
             ⊎ (length self.old.table.interfaces.names < 1024) }
@@ -534,7 +534,7 @@ impl Draft {
             interfaces = with_interface self.old.table.interfaces id.now;
           };
         }) }
-        ensures err { IfErr result (λ stop. stop ≡ ParseStop.Memory) }
+        ensures err { IfErr result (λ stop. stop ≡ ParseError.Memory) }
     {
         // They are read so that the prover knows what is true of each map of names.
         let _names = &self.names;
@@ -542,14 +542,14 @@ impl Draft {
     }
 
     /// Declares a KEY of an interface.
-    pub(crate) fn add_key(&mut self, text: &[u8], id: &[u8]) -> Result<(), ParseStop>
+    pub(crate) fn add_key(&mut self, text: &[u8], id: &[u8]) -> Result<(), ParseError>
         requires short { length text.now ≤ 128 }
         requires new { of_text self.old.table.interfaces text.now ≡ None }
         requires identity { length id.now ≤ 128 }
         requires few { (list_any (bytes_eq id.now) self.old.table.interfaces.names ≡ true)
             ⊎ (length self.old.table.interfaces.names < 1024) }
         ensures added { OnOk result (self.new ≡ with_key_of self.old text.now id.now) }
-        ensures err { IfErr result (λ stop. stop ≡ ParseStop.Memory) }
+        ensures err { IfErr result (λ stop. stop ≡ ParseError.Memory) }
     {
         // They are read so that the prover knows what is true of each map of names.
         let _names = &self.names;
@@ -567,30 +567,30 @@ impl Draft {
     }
 
     /// Announces a struct or union with a new name.
-    pub(crate) fn announce(&mut self, name: &[u8], word: TypeWord) -> Result<(), ParseStop>
+    pub(crate) fn announce(&mut self, name: &[u8], word: TypeWord) -> Result<(), ParseError>
         requires short { length name.now ≤ 64 }
         requires new { announced_as self.old.names name.now ≡ None }
         requires third { is_third self.old.names ≡ true }
         ensures added { OnOk result (self.new
             ≡ with_announced word name.now (add_announced_type self.old)) }
-        ensures err { IfErr result (λ stop. stop ≡ ParseStop.Memory) }
+        ensures err { IfErr result (λ stop. stop ≡ ParseError.Memory) }
     {
         // They are read so that the prover knows what is true of each map of names.
         let _names = &self.names;
-        let place = self.announcements();
-        if place >= u32::MAX as usize {
-            return Err(ParseStop::Memory);
+        let index = self.announcements();
+        if index >= u32::MAX as usize {
+            return Err(ParseError::Memory);
         }
-        let type_id = self.add(Entry::Announced(place as u32))?;
+        let type_id = self.add(Entry::Announced(index as u32))?;
         let key: Key = ArrayVec::try_from(name).unwrap();
         self.announced.insert(key, Announcement { word, type_id })?;
         Ok(())
     }
 
     /// The types that were declared for the announced names, in order.
-    pub(crate) fn targets(&self, alloc: Global) -> Result<Vec<Option<TypeId>>, ParseStop>
+    pub(crate) fn targets(&self, alloc: Global) -> Result<Vec<Option<TypeId>>, ParseError>
         ensures ok { IfOk result (λ ts. map number_of_id ts.items ≡ targets self.now.names) }
-        ensures err { IfErr result (λ stop. stop ≡ ParseStop.Memory) }
+        ensures err { IfErr result (λ stop. stop ≡ ParseError.Memory) }
     {
         declared_types(alloc, &self.names, &self.announced)
     }

@@ -1,7 +1,7 @@
 //! The types of a catalogue as they are kept: an entry for each, with its depth.
 ghost use Rattle.std.specs.Prelude.{◌≡◌, ℕ, ◌+◌, ◌^◌, ◌<◌, ◌≤◌, ◌++◌, ◌∷◌, [], length, map, Some, IfOk, OnOk, OnErr, max};
 ghost use Rattle.std.specs.Option.{option_map};
-ghost use Rattle.giop_sig.specs.Types.{most, HasPlace, HasMember, IsUnion};
+ghost use Rattle.giop_sig.specs.Types.{most, HasIndex, HasMember, IsUnion};
 ghost use Rattle.giop_sig.specs.Heard.{has_count, is_sequence_of, kind_of, of_kind};
 ghost use Rattle.giop_sig.specs.Hearings.{signal_of};
 ghost use Rattle.giop_sig.specs.Table.{takes_octet, node_in, IsFormed, shape_of, part_at, type_of, name_of, name_at, switch_at, selected};
@@ -52,13 +52,13 @@ pub(crate) struct TagEntry {
 impl TagEntry {
     ghost use Rattle.giop_sig.specs.Views.{tag_view};
 
-    /// The part at a place: 0 is the tag, 1 the encapsulation, and 2 the octets after any other
+    /// The part at an index: 0 is the tag, 1 the encapsulation, and 2 the octets after any other
     /// tag.
-    fn part(&self, place: u32) -> &PartEntry
-        requires { place < 3 }
-        ensures { part_at (tag_view self.now) place ≡ Some (part_view result.now) }
+    fn part(&self, index: u32) -> &PartEntry
+        requires { index < 3 }
+        ensures { part_at (tag_view self.now) index ≡ Some (part_view result.now) }
     {
-        match place {
+        match index {
             0 => &self.tag,
             1 => &self.inner,
             2 => &self.other,
@@ -112,10 +112,10 @@ pub(crate) enum Entry {
     Any(TypeId),
     /// A TypeCode.
     TypeCode(TypeCodeEntry),
-    /// A struct or union that is announced, with its place among these. No type has it as a part.
+    /// A struct or union that is announced, with its index among these. No type has it as a part.
     Announced(u32),
     /// A sequence, perhaps with a bound, whose elements have a type that was announced. It has the
-    /// number of that type; until the file ends, it has the place of the announcement.
+    /// number of that type; until the file ends, it has the index of the announcement.
     Recursive(Option<u32>, TypeId),
 }
 
@@ -136,12 +136,12 @@ const WIDE_ROOM: u8 = 7;
 impl TypeCodeEntry {
     ghost use Rattle.giop_sig.specs.Views.{code_view};
 
-    /// The type of the case at a place, if there is little room.
-    fn narrow_part(&self, place: u32) -> TypeId
-        requires { place < length self.now.cases }
-        ensures { result.0 ≡ type_of (part_at (code_view self.now) place) }
+    /// The type of the case at an index, if there is little room.
+    fn narrow_part(&self, index: u32) -> TypeId
+        requires { index < length self.now.cases }
+        ensures { result.0 ≡ type_of (part_at (code_view self.now) index) }
     {
-        let part = self.cases.part(place).type_id;
+        let part = self.cases.part(index).type_id;
         if part.0 < self.wide.0 {
             part
         } else {
@@ -149,15 +149,15 @@ impl TypeCodeEntry {
         }
     }
 
-    /// The type of the case at a place, if it has this room.
-    fn part_in(&self, place: u32, room: u8) -> TypeId
-        requires { place < length self.now.cases }
-        ensures { result.0 ≡ type_of (part_at (in_room room (code_view self.now)) place) }
+    /// The type of the case at an index, if it has this room.
+    fn part_in(&self, index: u32, room: u8) -> TypeId
+        requires { index < length self.now.cases }
+        ensures { result.0 ≡ type_of (part_at (in_room room (code_view self.now)) index) }
     {
         if room < WIDE_ROOM {
-            self.narrow_part(place)
+            self.narrow_part(index)
         } else {
-            self.cases.part(place).type_id
+            self.cases.part(index).type_id
         }
     }
 }
@@ -192,35 +192,35 @@ impl Entry {
         }
     }
 
-    /// The type of the part at a place. An element and the value in an encapsulation are at each
-    /// place.
+    /// The type of the part at an index. An element and the value in an encapsulation are at each
+    /// index.
     #[inline(always)]
-    pub(crate) fn part(&self, place: u32) -> TypeId
-        requires { HasPlace (shape_of (node_view self.now)) place }
-        ensures { result.0 ≡ type_of (part_at (node_view self.now) place) }
+    pub(crate) fn part(&self, index: u32) -> TypeId
+        requires { HasIndex (shape_of (node_view self.now)) index }
+        ensures { result.0 ≡ type_of (part_at (node_view self.now) index) }
     {
         match self {
-            Entry::Members(parts) => parts[place as usize].type_id,
-            Entry::Union(_, cases, _) => cases.part(place).type_id,
+            Entry::Members(parts) => parts[index as usize].type_id,
+            Entry::Union(_, cases, _) => cases.part(index).type_id,
             Entry::Sequence(_, element) => *element,
             Entry::Recursive(_, element) => *element,
             Entry::Array(_, element) => *element,
             Entry::Encapsulation(held) => *held,
-            Entry::Tagged(tagged) => tagged.part(place).type_id,
-            Entry::Any(code) => { if place == 0 { *code } else { TypeId(place - 1) } }
-            Entry::TypeCode(code) => code.narrow_part(place),
+            Entry::Tagged(tagged) => tagged.part(index).type_id,
+            Entry::Any(code) => { if index == 0 { *code } else { TypeId(index - 1) } }
+            Entry::TypeCode(code) => code.narrow_part(index),
             _ => unreachable!(),
         }
     }
 
-    /// The type of the part at a place, if it has this room.
-    pub(crate) fn part_in(&self, place: u32, room: u8) -> TypeId
-        requires { HasPlace (shape_of (node_view self.now)) place }
-        ensures { result.0 ≡ type_of (part_at (in_room room (node_view self.now)) place) }
+    /// The type of the part at an index, if it has this room.
+    pub(crate) fn part_in(&self, index: u32, room: u8) -> TypeId
+        requires { HasIndex (shape_of (node_view self.now)) index }
+        ensures { result.0 ≡ type_of (part_at (in_room room (node_view self.now)) index) }
     {
         match self {
-            Entry::TypeCode(code) => code.part_in(place, room),
-            _ => self.part(place),
+            Entry::TypeCode(code) => code.part_in(index, room),
+            _ => self.part(index),
         }
     }
 
@@ -279,17 +279,17 @@ impl Entry {
         }
     }
 
-    /// The name at a place: of a member, a case, or a part of a tagged type.
+    /// The name at an index: of a member, a case, or a part of a tagged type.
     #[inline(always)]
-    pub(crate) fn part_name(&self, place: u32) -> &PartName
-        requires { HasMember (shape_of (node_view self.now)) place }
-        ensures { result.now ≡ name_of (part_at (node_view self.now) place) }
+    pub(crate) fn part_name(&self, index: u32) -> &PartName
+        requires { HasMember (shape_of (node_view self.now)) index }
+        ensures { result.now ≡ name_of (part_at (node_view self.now) index) }
     {
         match self {
-            Entry::Members(parts) => &parts[place as usize].name,
-            Entry::Union(_, cases, _) => &cases.part(place).name,
-            Entry::Tagged(tagged) => &tagged.part(place).name,
-            Entry::TypeCode(code) => &code.cases.part(place).name,
+            Entry::Members(parts) => &parts[index as usize].name,
+            Entry::Union(_, cases, _) => &cases.part(index).name,
+            Entry::Tagged(tagged) => &tagged.part(index).name,
+            Entry::TypeCode(code) => &code.cases.part(index).name,
             _ => unreachable!(),
         }
     }
@@ -328,12 +328,12 @@ impl Entry {
     {
         match self {
             Entry::Union(_, cases, otherwise) => match cases.find(number) {
-                Some(place) => Selected::Case(place),
+                Some(index) => Selected::Case(index),
                 None => *otherwise,
             },
             Entry::Tagged(tagged) => tagged.select(number),
             Entry::TypeCode(code) => match code.cases.find(number) {
-                Some(place) => Selected::Case(place),
+                Some(index) => Selected::Case(index),
                 None => Selected::Nothing,
             },
             _ => Selected::Nothing,
@@ -369,11 +369,11 @@ impl Model for Types {
     ghost invariant = { λ a. IsKept a.placed.items a.deepest };
 }
 
-/// The type that was declared for the announcement at a place.
-fn target(targets: &[Option<TypeId>], place: TypeId) -> TypeId
-    ensures { result ≡ target_of targets.now place }
+/// The type that was declared for the announcement at an index.
+fn target(targets: &[Option<TypeId>], index: TypeId) -> TypeId
+    ensures { result ≡ target_of targets.now index }
 {
-    match targets.get(place.0 as usize) {
+    match targets.get(index.0 as usize) {
         Some(Some(t)) => *t,
         _ => TypeId(0),
     }
@@ -496,15 +496,15 @@ impl Types {
 
     /// The depth of the deepest of an entry's first `count` parts; 0 if there are none.
     fn deepest_part(&self, entry: &Entry, count: u32) -> u32
-        requires place { (i : ℕ) → i < count → HasPlace (shape_of (node_view entry.now)) i }
+        requires index { (i : ℕ) → i < count → HasIndex (shape_of (node_view entry.now)) i }
         requires below { (i : ℕ) → i < count
             → type_of (part_at (node_view entry.now) i) < length self.now }
         ensures depth { result ≡ most count (part_depth self.now (node_view entry.now)) }
         ensures small { result ≤ length self.now }
     {
         let mut deepest = 0;
-        for place in 0..count {
-            deepest = self.depth_at(entry.part(place)).max(deepest);
+        for index in 0..count {
+            deepest = self.depth_at(entry.part(index)).max(deepest);
         }
         deepest
     }
@@ -529,14 +529,14 @@ impl Types {
 
     /// Whether one of an entry's first `count` parts has wide text.
     fn some_wide(&self, entry: &Entry, count: u32) -> bool
-        requires place { (i : ℕ) → i < count → HasPlace (shape_of (node_view entry.now)) i }
+        requires index { (i : ℕ) → i < count → HasIndex (shape_of (node_view entry.now)) i }
         requires below { (i : ℕ) → i < count
             → type_of (part_at (node_view entry.now) i) < length self.now }
         ensures { result ≡ some_of count (part_wide self.now (node_view entry.now)) }
     {
         let mut wide = false;
-        for place in 0..count {
-            wide = wide || self.is_wide(entry.part(place));
+        for index in 0..count {
+            wide = wide || self.is_wide(entry.part(index));
         }
         wide
     }

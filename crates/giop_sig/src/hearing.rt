@@ -163,9 +163,9 @@ impl Catalogue {
         requires { t.0 < length self.now.types }
         ensures is { sequel (hearing_in (tree_at self.now (suc room) t.0)) (told_of told)
             ≡ sequel_of result }
-        ensures place { HasPart result }
-        ensures known { (place : ℕ) → result ≡ Following.Then place →
-            place ≤ length self.now.types }
+        ensures index { HasPart result }
+        ensures known { (index : ℕ) → result ≡ Following.Then index →
+            index ≤ length self.now.types }
     {
         self.seen(false).following(t, told, room)
     }

@@ -7,7 +7,7 @@ ghost use Rattle.giop_sig.specs.Table.{interface_id};
 ghost use Rattle.giop_sig.specs.Interfaces.{no_interfaces, digit, hex, whole_text, front_text, is_digit, digits_of, is_key, number_of, with_interface, with_key, of_text, longest_front, of_key};
 
 use crate::catalogue::Name;
-use crate::parse_stop::ParseStop;
+use crate::parse_stop::ParseError;
 use crate::types::InterfaceId;
 use arrayvec::ArrayVec;
 use indexmap::{IndexMap, IndexSet};
@@ -118,7 +118,7 @@ impl InterfaceTable {
     {
         let key: Name = ArrayVec::try_from(id).unwrap();
         match self.names.get_index_of(&key) {
-            Some(place) => place as u32,
+            Some(index) => index as u32,
             None => self.names.len() as u32,
         }
     }
@@ -134,8 +134,8 @@ impl InterfaceTable {
             return None;
         }
         let key: Name = ArrayVec::try_from(id).unwrap();
-        let place = names.get_index_of(&key)?;
-        Some(InterfaceId(place as u32))
+        let index = names.get_index_of(&key)?;
+        Some(InterfaceId(index as u32))
     }
 
     /// How many interfaces there are.
@@ -174,13 +174,13 @@ impl InterfaceTable {
     }
 
     /// Adds an interface, if it is new.
-    pub(crate) fn add(&mut self, id: &[u8]) -> Result<(), ParseStop>
+    pub(crate) fn add(&mut self, id: &[u8]) -> Result<(), ParseError>
         requires short { length id.now ≤ 128 }
         requires few { (list_any (bytes_eq id.now) self.old.names ≡ true)
             ⊎ (length self.old.names < 1024) }
         ensures added { OnOk result (self.new ≡ with_interface self.old id.now) }
         ensures many { length self.new.names ≤ 1024 }
-        ensures err { IfErr result (λ stop. stop ≡ ParseStop.Memory) }
+        ensures err { IfErr result (λ stop. stop ≡ ParseError.Memory) }
     {
         let key: Name = ArrayVec::try_from(id).unwrap();
         self.names.insert_full(key)?;
@@ -188,7 +188,7 @@ impl InterfaceTable {
     }
 
     /// Adds a new KEY of an interface.
-    pub(crate) fn add_key(&mut self, text: &[u8], id: &[u8]) -> Result<(), ParseStop>
+    pub(crate) fn add_key(&mut self, text: &[u8], id: &[u8]) -> Result<(), ParseError>
         requires short { length text.now ≤ 128 }
         requires new { of_text self.old text.now ≡ None }
         requires identity { length id.now ≤ 128 }
@@ -196,7 +196,7 @@ impl InterfaceTable {
             ⊎ (length self.old.names < 1024) }
         ensures added { OnOk result (self.new ≡ with_key self.old text.now id.now) }
         ensures many { length self.new.names ≤ 1024 }
-        ensures err { IfErr result (λ stop. stop ≡ ParseStop.Memory) }
+        ensures err { IfErr result (λ stop. stop ≡ ParseError.Memory) }
     {
         let interface = InterfaceId(self.number_of(id));
         self.add(id)?;
@@ -204,7 +204,7 @@ impl InterfaceTable {
     }
 
     /// Adds a new KEY of a known interface.
-    fn put_key(&mut self, text: &[u8], interface: InterfaceId) -> Result<(), ParseStop>
+    fn put_key(&mut self, text: &[u8], interface: InterfaceId) -> Result<(), ParseError>
         requires short { length text.now ≤ 128 }
         requires new { of_text self.old text.now ≡ None }
         requires known { interface.0 < length self.old.names }
@@ -212,7 +212,7 @@ impl InterfaceTable {
           keys = self.old.keys ++ (text.now, interface.0) ∷ [];
         }) }
         ensures many { length self.new.names ≤ 1024 }
-        ensures err { IfErr result (λ stop. stop ≡ ParseStop.Memory) }
+        ensures err { IfErr result (λ stop. stop ≡ ParseError.Memory) }
     {
         let key: Name = ArrayVec::try_from(text).unwrap();
         // The text of a front, which ends with *, has an odd length.

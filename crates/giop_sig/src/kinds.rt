@@ -76,13 +76,13 @@ fn word_of(n: u32) -> Option<&'static [u8]>
     }
 }
 
-/// The word at a place, if there is one.
-fn word_at(words: &[&'static [u8]], place: u32) -> Option<&'static [u8]>
-    ensures { option_map (λ x. x.now) result ≡ slice_get (map (λ w. w.now) words.now) place }
+/// The word at an index, if there is one.
+fn word_at(words: &[&'static [u8]], index: u32) -> Option<&'static [u8]>
+    ensures { option_map (λ x. x.now) result ≡ slice_get (map (λ w. w.now) words.now) index }
 {
-    let place = place as usize;
-    if place < words.len() {
-        Some(words[place])
+    let index = index as usize;
+    if index < words.len() {
+        Some(words[index])
     } else {
         None
     }

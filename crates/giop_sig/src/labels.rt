@@ -10,7 +10,7 @@ ghost use Rattle.giop_sig.specs.Labels.{value_view};
 ghost use Rattle.giop_sig.specs.UnionReading.{word_value, value_at};
 
 use crate::entries::Entry;
-use crate::parse_stop::ParseStop;
+use crate::parse_stop::ParseError;
 use crate::read_types::refused;
 use giop_cdr::{Number, Prim};
 use giop_tokens::{SigFaultKind, Token, is_reserved, misplaced, next};
@@ -37,7 +37,7 @@ fn word_value<'a>(
     text: &[u8],
     name: &'a [u8],
     rest: &'a [u8],
-) -> Result<(LabelValue<'a>, &'a [u8]), ParseStop>
+) -> Result<(LabelValue<'a>, &'a [u8]), ParseError>
     ensures { Gives (λ x. (value_view x.0, x.1.now)) result
         (word_value third text.now name.now rest.now) }
 {
@@ -48,17 +48,17 @@ fn word_value<'a>(
         return Ok((LabelValue::Truth(false), rest));
     }
     if is_reserved(third, name) {
-        return Err(ParseStop::Refused(misplaced(text)));
+        return Err(ParseError::Refused(misplaced(text)));
     }
     if name.len() > NAME_MAX {
-        return Err(ParseStop::Refused(refused(SigFaultKind::Limit, text)));
+        return Err(ParseError::Refused(refused(SigFaultKind::Limit, text)));
     }
     Ok((LabelValue::Enumerator(name), rest))
 }
 
 /// The value of the label that the text begins with. `third` says whether the file is of version 3.
 #[tactic(auto, unfolding(crate::specs::UnionReading::value_at))]
-pub(crate) fn value_at(third: bool, text: &[u8]) -> Result<(LabelValue<'_>, &[u8]), ParseStop>
+pub(crate) fn value_at(third: bool, text: &[u8]) -> Result<(LabelValue<'_>, &[u8]), ParseError>
     ensures { Gives (λ x. (value_view x.0, x.1.now)) result (value_at third text.now) }
 {
     let (token, rest) = next(text)?;
@@ -66,7 +66,7 @@ pub(crate) fn value_at(third: bool, text: &[u8]) -> Result<(LabelValue<'_>, &[u8
         Some(Token::Word(name)) => word_value(third, text, name, rest),
         Some(Token::Number(n)) => Ok((LabelValue::Plain(n), rest)),
         Some(Token::Negative(n)) => Ok((LabelValue::Below(n), rest)),
-        _ => Err(ParseStop::Refused(misplaced(text))),
+        _ => Err(ParseError::Refused(misplaced(text))),
     }
 }
 
@@ -161,8 +161,8 @@ fn enumerator(names: &[Vec<u8>], name: &[u8]) -> Option<Number>
     requires { length names.now ≤ 1024 }
     ensures { result ≡ numbered (position (bytes_eq name.now) (map (λ n. n.items) names.now)) }
 {
-    let place = names.iter().position(|one| name == one.as_slice())?;
-    Some(Number::Unsigned(place as u64))
+    let index = names.iter().position(|one| name == one.as_slice())?;
+    Some(Number::Unsigned(index as u64))
 }
 
 /// The value of a discriminator's type that the value of a label names.

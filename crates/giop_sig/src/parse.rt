@@ -9,19 +9,19 @@ ghost use Rattle.giop_sig.specs.Trees.{AreSettled};
 ghost use Rattle.giop_sig.specs.Validity.{IsValid, Spells, SpellsUpTo, Refuses};
 ghost use Rattle.giop_sig.specs.Outcomes.{Gives};
 ghost use Rattle.giop_sig.specs.Repeats.{in_steps};
-ghost use Rattle.giop_sig.specs.FileReading.{announcements, declaration_at, places_after, settled_at, declarations_step, misplaced_after, version_at, head_at, file_at, text_too_long, IsFirstRefusal, IsFirstRefusalUpTo};
+ghost use Rattle.giop_sig.specs.FileReading.{announcements, declaration_at, lefts_after, settled_at, declarations_step, misplaced_after, version_at, head_at, file_at, text_too_long, IsFirstRefusal, IsFirstRefusalUpTo};
 
 use crate::catalogue::Catalogue;
 use crate::draft::{Draft, THIRD_VERSION};
-use crate::parse_stop::ParseStop;
+use crate::parse_stop::ParseError;
 use crate::read_calls::{key_at, operation_at};
 use crate::read_enums::enumeration;
 use crate::read_items::{exception_at, structure_at};
 use crate::read_unions::union;
 use crate::types::TypeId;
 use giop_tokens::{
-    Mark, Refusal, SigFault, SigFaultKind, ends, fault_in, keyword, left_of, mark, misplaced,
-    number, word,
+    Mark, SigFault, SigFaultKind, TokenError, fault_in, is_at_end, keyword, left_of, mark,
+    misplaced, number, word,
 };
 use std::alloc::Global;
 
@@ -38,7 +38,7 @@ fn declaration_at<'a>(
     alloc: Global,
     draft: &mut Draft,
     text: &'a [u8],
-) -> Result<&'a [u8], ParseStop>
+) -> Result<&'a [u8], ParseError>
     ensures { Gives (λ x. (draft.new, x.now)) result (declaration_at draft.old text.now) }
 {
     let (name, rest) = word(text)?;
@@ -55,25 +55,25 @@ fn declaration_at<'a>(
     } else if draft.is_third() && name == b"key".as_slice() {
         key_at(draft, rest)
     } else {
-        Err(ParseStop::Refused(misplaced(text)))
+        Err(ParseError::Refused(misplaced(text)))
     }
 }
 
-/// Adds the place of the name in the declaration that a text begins with, if the declaration
-/// announced it. `before` names were announced before it.
-#[tactic(auto, unfolding(crate::specs::FileReading::places_after))]
-fn add_place(
+/// Adds how many octets are left from the name on in the declaration that a text begins with, if
+/// the declaration announced it. `before` names were announced before it.
+#[tactic(auto, unfolding(crate::specs::FileReading::lefts_after))]
+fn add_left(
     before: usize,
     draft: &Draft,
-    places: &mut Vec<usize>,
+    lefts: &mut Vec<usize>,
     text: &[u8],
-) -> Result<(), ParseStop>
-    ensures { Gives (λ x. places.new.items) result
-        (places_after before (announcements draft.now) places.old.items text.now) }
+) -> Result<(), ParseError>
+    ensures { Gives (λ x. lefts.new.items) result
+        (lefts_after before (announcements draft.now) lefts.old.items text.now) }
 {
     let (_, rest) = word(text)?;
     if before < draft.announcements() {
-        places.push(left_of(rest))?;
+        lefts.push(left_of(rest))?;
     }
     Ok(())
 }
@@ -84,61 +84,61 @@ fn add_place(
 fn declarations_step<'a>(
     alloc: Global,
     draft: &mut Draft,
-    places: &mut Vec<usize>,
+    lefts: &mut Vec<usize>,
     text: &'a [u8],
-) -> Result<(bool, &'a [u8]), ParseStop>
-    ensures { Gives (λ x. (x.0, (draft.new, places.new.items, x.1.now))) result
-        (declarations_step (draft.old, places.old.items, text.now)) }
+) -> Result<(bool, &'a [u8]), ParseError>
+    ensures { Gives (λ x. (x.0, (draft.new, lefts.new.items, x.1.now))) result
+        (declarations_step (draft.old, lefts.old.items, text.now)) }
 {
-    if ends(text)? {
+    if is_at_end(text)? {
         return Ok((true, text));
     }
     let before = draft.announcements();
     let rest = declaration_at(alloc, draft, text)?;
-    add_place(before, draft, places, text)?;
+    add_left(before, draft, lefts, text)?;
     Ok((false, rest))
 }
 
-/// Declarations up to the end of the text, in at most this many steps. The places of the names that
-/// they announce are added. Answers what comes after them.
+/// Declarations up to the end of the text, in at most this many steps. How many octets are left
+/// from each name that they announce is added. Answers what comes after them.
 fn declarations<'a>(
     alloc: Global,
     draft: &mut Draft,
-    places: &mut Vec<usize>,
+    lefts: &mut Vec<usize>,
     steps: usize,
     text: &'a [u8],
-) -> Result<&'a [u8], ParseStop>
-    ensures { Gives (λ x. (draft.new, places.new.items, x.now)) result
+) -> Result<&'a [u8], ParseError>
+    ensures { Gives (λ x. (draft.new, lefts.new.items, x.now)) result
         (in_steps declarations_step misplaced_after steps
-        (draft.old, places.old.items, text.now)) }
+        (draft.old, lefts.old.items, text.now)) }
 {
     let mut rest = text;
     for _ in 0..steps {
-        let (over, after) = declarations_step(alloc, draft, places, rest)?;
+        let (over, after) = declarations_step(alloc, draft, lefts, rest)?;
         if over {
             return Ok(after);
         }
         rest = after;
     }
-    Err(ParseStop::Refused(misplaced(rest)))
+    Err(ParseError::Refused(misplaced(rest)))
 }
 
 /// The version of the format, which is at most `latest`.
 #[tactic(auto, unfolding(crate::specs::FileReading::version_at))]
-fn version_at(latest: u8, text: &[u8]) -> Result<(u8, &[u8]), ParseStop>
+fn version_at(latest: u8, text: &[u8]) -> Result<(u8, &[u8]), ParseError>
     ensures { Gives (λ x. (x.0, x.1.now)) result (version_at latest text.now) }
 {
     let (n, rest) = number(text)?;
     if n >= FIRST_VERSION && n <= u64::from(latest) {
         Ok((n as u8, rest))
     } else {
-        Err(ParseStop::Refused(misplaced(text)))
+        Err(ParseError::Refused(misplaced(text)))
     }
 }
 
 /// What comes before the declarations: the version.
 #[tactic(auto, unfolding(crate::specs::FileReading::head_at))]
-fn head_at(latest: u8, text: &[u8]) -> Result<(u8, &[u8]), ParseStop>
+fn head_at(latest: u8, text: &[u8]) -> Result<(u8, &[u8]), ParseError>
     ensures { Gives (λ x. (x.0, x.1.now)) result (head_at latest text.now) }
 {
     let rest = keyword(text, b"signatures")?;
@@ -149,22 +149,22 @@ fn head_at(latest: u8, text: &[u8]) -> Result<(u8, &[u8]), ParseStop>
 
 /// The draft of a file whose version is at most `latest`.
 #[tactic(auto, unfolding(crate::specs::FileReading::file_at))]
-fn draft_of(alloc: Global, latest: u8, text: &[u8]) -> Result<Draft, ParseStop>
+fn draft_of(alloc: Global, latest: u8, text: &[u8]) -> Result<Draft, ParseError>
     ensures gives { Gives (λ x. x) result (file_at latest text.now) }
     ensures settled { IfOk result (λ draft. AreSettled draft.table.types) }
 {
     let (version, rest) = head_at(latest, text)?;
     let mut draft = Draft::new(alloc, version)?;
-    let mut places = Vec::new(alloc);
-    declarations(alloc, &mut draft, &mut places, text.len(), rest)?;
-    settle(alloc, &mut draft, places.as_slice())?;
+    let mut lefts = Vec::new(alloc);
+    declarations(alloc, &mut draft, &mut lefts, text.len(), rest)?;
+    settle(alloc, &mut draft, lefts.as_slice())?;
     Ok(draft)
 }
 
-/// The end of the text. Each name that is announced, at one of these places, must be declared.
+/// The end of the text. Each name that is announced must be declared.
 #[tactic(auto, unfolding(crate::specs::FileReading::settled_at))]
-fn settle(alloc: Global, draft: &mut Draft, places: &[usize]) -> Result<(), ParseStop>
-    ensures gives { Gives (λ x. draft.new) result (settled_at draft.old places.now) }
+fn settle(alloc: Global, draft: &mut Draft, lefts: &[usize]) -> Result<(), ParseError>
+    ensures gives { Gives (λ x. draft.new) result (settled_at draft.old lefts.now) }
     ensures settled { OnOk result (AreSettled draft.new.table.types) }
 {
     let targets = draft.targets(alloc)?;
@@ -173,9 +173,9 @@ fn settle(alloc: Global, draft: &mut Draft, places: &[usize]) -> Result<(), Pars
             draft.settle(targets.as_slice());
             Ok(())
         }
-        Some(i) => Err(ParseStop::Refused(Refusal {
+        Some(i) => Err(ParseError::Refused(TokenError {
             kind: SigFaultKind::UnknownType,
-            left: place_at(places, i),
+            left: left_at(lefts, i),
         })),
     }
 }
@@ -187,12 +187,12 @@ fn first_none(types: &[Option<TypeId>]) -> Option<usize>
     types.iter().position(|t| t.is_none())
 }
 
-/// The place of an announcement.
-fn place_at(places: &[usize], i: usize) -> usize
-    ensures { result ≡ slice_index_or places.now i 0 }
+/// How many octets are left from the name of an announcement on.
+fn left_at(lefts: &[usize], i: usize) -> usize
+    ensures { result ≡ slice_index_or lefts.now i 0 }
 {
-    match places.get(i) {
-        Some(place) => *place,
+    match lefts.get(i) {
+        Some(index) => *index,
         None => 0,
     }
 }
@@ -271,11 +271,11 @@ impl Catalogue {
                 catalogue.laws();
                 Ok(catalogue)
             }
-            Err(ParseStop::Memory) => Err(SigFault {
+            Err(ParseError::Memory) => Err(SigFault {
                 line: 0,
                 kind: SigFaultKind::OutOfMemory,
             }),
-            Err(ParseStop::Refused(refusal)) => Err(fault_in(text, refusal)),
+            Err(ParseError::Refused(refusal)) => Err(fault_in(text, refusal)),
         }
     }
 }

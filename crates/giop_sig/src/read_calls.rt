@@ -13,7 +13,7 @@ use crate::catalogue::Signature;
 use crate::draft::Draft;
 use crate::entries::{Entry, PartEntry};
 use crate::interfaces::is_key;
-use crate::parse_stop::ParseStop;
+use crate::parse_stop::ParseError;
 use crate::read_items::{DECLARED_MAX, add_part, end_of, item_at, part_of};
 use crate::read_types::{refused, type_at};
 use crate::types::TypeId;
@@ -44,7 +44,7 @@ fn return_at<'a>(
     alloc: Global,
     draft: &mut Draft,
     text: &'a [u8],
-) -> Result<(Vec<PartEntry>, &'a [u8]), ParseStop>
+) -> Result<(Vec<PartEntry>, &'a [u8]), ParseError>
     ensures { Gives (λ x. (draft.new, map part_view x.0.items, x.1.now)) result
         (return_at draft.old text.now) }
 {
@@ -59,15 +59,15 @@ fn return_at<'a>(
 
 /// The name of an operation. If the file can't have interfaces, the name must be new.
 #[tactic(auto, unfolding(crate::specs::CallReading::new_operation_at))]
-fn new_operation_at<'a>(draft: &Draft, text: &'a [u8]) -> Result<(&'a [u8], &'a [u8]), ParseStop>
+fn new_operation_at<'a>(draft: &Draft, text: &'a [u8]) -> Result<(&'a [u8], &'a [u8]), ParseError>
     ensures { Gives (λ x. (x.0.now, x.1.now)) result (new_operation_at draft.now text.now) }
 {
     let (name, rest) = operation_name(text)?;
     if !draft.is_third() && draft.has_operation(0, name) {
-        return Err(ParseStop::Refused(refused(SigFaultKind::Duplicate, text)));
+        return Err(ParseError::Refused(refused(SigFaultKind::Duplicate, text)));
     }
     if draft.operations_declared() >= DECLARED_MAX {
-        return Err(ParseStop::Refused(refused(SigFaultKind::Limit, text)));
+        return Err(ParseError::Refused(refused(SigFaultKind::Limit, text)));
     }
     Ok((name, rest))
 }
@@ -89,12 +89,12 @@ fn direction_of(name: &[u8]) -> Option<Direction>
 
 /// The direction of a parameter.
 #[tactic(auto, unfolding(crate::specs::CallReading::direction_at))]
-fn direction_at(text: &[u8]) -> Result<(Direction, &[u8]), ParseStop>
+fn direction_at(text: &[u8]) -> Result<(Direction, &[u8]), ParseError>
     ensures { Gives (λ x. (x.0, x.1.now)) result (direction_at text.now) }
 {
     let (name, rest) = word(text)?;
     match direction_of(name) {
-        None => Err(ParseStop::Refused(misplaced(text))),
+        None => Err(ParseError::Refused(misplaced(text))),
         Some(direction) => Ok((direction, rest)),
     }
 }
@@ -106,7 +106,7 @@ fn add_to_request(
     direction: Direction,
     name: &[u8],
     t: TypeId,
-) -> Result<(), ParseStop>
+) -> Result<(), ParseError>
     ensures { Gives (λ x. map part_view parts.new.items) result
         (Ok (in_request direction (part name.now t.0) (map part_view parts.old.items))) }
 {
@@ -123,7 +123,7 @@ fn add_to_reply(
     direction: Direction,
     name: &[u8],
     t: TypeId,
-) -> Result<(), ParseStop>
+) -> Result<(), ParseError>
     ensures { Gives (λ x. map part_view parts.new.items) result
         (Ok (in_reply direction (part name.now t.0) (map part_view parts.old.items))) }
 {
@@ -148,7 +148,7 @@ fn keep_param<'a>(
     direction: Direction,
     name: &'a [u8],
     t: TypeId,
-) -> Result<(), ParseStop>
+) -> Result<(), ParseError>
     ensures { Gives (λ x. parameter_lists_view parameters.new) result
         (Ok (with_param (parameter_lists_view parameters.old) direction (part name.now t.0))) }
 {
@@ -164,7 +164,7 @@ fn param_step<'a>(
     draft: &mut Draft,
     parameters: &mut Parameters<'a>,
     text: &'a [u8],
-) -> Result<(bool, &'a [u8]), ParseStop>
+) -> Result<(bool, &'a [u8]), ParseError>
     ensures { Gives (λ x. (x.0, (draft.new, parameter_lists_view parameters.new, x.1.now))) result
         (param_step (draft.old, parameter_lists_view parameters.old, text.now)) }
 {
@@ -185,7 +185,7 @@ fn params_at<'a>(
     draft: &mut Draft,
     returned: Vec<PartEntry>,
     text: &'a [u8],
-) -> Result<(Vec<PartEntry>, Vec<PartEntry>, &'a [u8]), ParseStop>
+) -> Result<(Vec<PartEntry>, Vec<PartEntry>, &'a [u8]), ParseError>
     ensures { Gives (λ x. (draft.new, map part_view x.0.items, map part_view x.1.items, x.2.now))
         result (params_at (map part_view returned.items) draft.old text.now) }
 {
@@ -201,7 +201,7 @@ fn params_run<'a>(
     draft: &mut Draft,
     returned: Vec<PartEntry>,
     text: &'a [u8],
-) -> Result<(Vec<PartEntry>, Vec<PartEntry>, &'a [u8]), ParseStop>
+) -> Result<(Vec<PartEntry>, Vec<PartEntry>, &'a [u8]), ParseError>
     ensures { Gives (λ x. (draft.new, map part_view x.0.items, map part_view x.1.items, x.2.now))
         result (params_run 256
         (draft.old, no_parameters (map part_view returned.items), text.now)) }
@@ -219,18 +219,18 @@ fn params_run<'a>(
         }
         rest = after;
     }
-    Err(ParseStop::Refused(refused(SigFaultKind::Limit, rest)))
+    Err(ParseError::Refused(refused(SigFaultKind::Limit, rest)))
 }
 
 /// An interface, which may be new.
 #[tactic(auto, unfolding(crate::specs::CallReading::interface_at))]
-fn interface_at<'a>(draft: &Draft, text: &'a [u8]) -> Result<(&'a [u8], &'a [u8]), ParseStop>
+fn interface_at<'a>(draft: &Draft, text: &'a [u8]) -> Result<(&'a [u8], &'a [u8]), ParseError>
     ensures { Gives (λ x. (x.0.now, x.1.now)) result
         (interface_at draft.now.table.interfaces text.now) }
 {
     let (id, rest) = repository_id(text)?;
     if !draft.interfaces().has(id) && draft.interfaces().len() >= INTERFACES_MAX {
-        return Err(ParseStop::Refused(refused(SigFaultKind::Limit, text)));
+        return Err(ParseError::Refused(refused(SigFaultKind::Limit, text)));
     }
     Ok((id, rest))
 }
@@ -249,7 +249,7 @@ fn new_variant<'a>(
     draft: &Draft,
     called: Called<'_>,
     text: &'a [u8],
-) -> Result<(u32, &'a [u8], &'a [u8]), ParseStop>
+) -> Result<(u32, &'a [u8], &'a [u8]), ParseError>
     requires short { length called.name.now ≤ 128 }
     ensures gives { Gives (λ x. (x.1.now, x.2.now)) result
         (new_variant_at (called_view called.entry) draft.now.table text.now) }
@@ -261,7 +261,7 @@ fn new_variant<'a>(
     let (id, rest) = interface_at(draft, text)?;
     let interface = draft.interfaces().number_of(id) + 1;
     if draft.has_operation(interface, called.name) {
-        return Err(ParseStop::Refused(refused(SigFaultKind::Duplicate, text)));
+        return Err(ParseError::Refused(refused(SigFaultKind::Duplicate, text)));
     }
     Ok((interface, id, rest))
 }
@@ -284,7 +284,7 @@ fn variant_step<'a>(
     draft: &mut Draft,
     called: Called<'_>,
     text: &'a [u8],
-) -> Result<(bool, &'a [u8]), ParseStop>
+) -> Result<(bool, &'a [u8]), ParseError>
     requires short { length called.name.now ≤ 128 }
     requires request { called.signature.request.0 < length draft.old.table.types }
     requires reply { called.signature.reply.0 < length draft.old.table.types }
@@ -304,7 +304,7 @@ fn variants_at<'a>(
     draft: &mut Draft,
     called: Called<'_>,
     text: &'a [u8],
-) -> Result<&'a [u8], ParseStop>
+) -> Result<&'a [u8], ParseError>
     requires short { length called.name.now ≤ 128 }
     requires request { called.signature.request.0 < length draft.old.table.types }
     requires reply { called.signature.reply.0 < length draft.old.table.types }
@@ -321,7 +321,7 @@ fn variants_at<'a>(
         }
         rest = after;
     }
-    Err(ParseStop::Refused(misplaced(rest)))
+    Err(ParseError::Refused(misplaced(rest)))
 }
 
 /// An operation without interfaces, whose name is at the front of `at`.
@@ -330,7 +330,7 @@ fn plain_by<'a>(
     at: &[u8],
     called: Called<'_>,
     text: &'a [u8],
-) -> Result<&'a [u8], ParseStop>
+) -> Result<&'a [u8], ParseError>
     requires short { length called.name.now ≤ 128 }
     requires request { called.signature.request.0 < length draft.old.table.types }
     requires reply { called.signature.reply.0 < length draft.old.table.types }
@@ -339,7 +339,7 @@ fn plain_by<'a>(
     ensures keeps { OnOk result (KeepsTypes draft.old draft.new) }
 {
     if draft.has_operation(0, called.name) {
-        return Err(ParseStop::Refused(refused(SigFaultKind::Duplicate, at)));
+        return Err(ParseError::Refused(refused(SigFaultKind::Duplicate, at)));
     }
     draft.add_operation(0, called.name, called.signature)?;
     Ok(text)
@@ -353,7 +353,7 @@ fn listed_at<'a>(
     at: &[u8],
     called: Called<'_>,
     text: &'a [u8],
-) -> Result<&'a [u8], ParseStop>
+) -> Result<&'a [u8], ParseError>
     requires short { length called.name.now ≤ 128 }
     requires request { called.signature.request.0 < length draft.old.table.types }
     requires reply { called.signature.reply.0 < length draft.old.table.types }
@@ -371,25 +371,25 @@ fn listed_at<'a>(
 
 /// A new KEY.
 #[tactic(auto, unfolding(crate::specs::CallReading::new_key_at))]
-fn new_key_at<'a>(draft: &Draft, text: &'a [u8]) -> Result<(&'a [u8], &'a [u8]), ParseStop>
+fn new_key_at<'a>(draft: &Draft, text: &'a [u8]) -> Result<(&'a [u8], &'a [u8]), ParseError>
     ensures { Gives (λ x. (x.0.now, x.1.now)) result (new_key_at draft.now text.now) }
 {
     let (key, rest) = repository_id(text)?;
     if !is_key(key) {
-        return Err(ParseStop::Refused(misplaced(text)));
+        return Err(ParseError::Refused(misplaced(text)));
     }
     if draft.interfaces().has_key(key) {
-        return Err(ParseStop::Refused(refused(SigFaultKind::Duplicate, text)));
+        return Err(ParseError::Refused(refused(SigFaultKind::Duplicate, text)));
     }
     if draft.interfaces().keys_len() >= KEYS_MAX {
-        return Err(ParseStop::Refused(refused(SigFaultKind::Limit, text)));
+        return Err(ParseError::Refused(refused(SigFaultKind::Limit, text)));
     }
     Ok((key, rest))
 }
 
 /// A KEY and its interface, after the first word. Answers the rest.
 #[tactic(auto, unfolding(crate::specs::CallReading::key_at))]
-pub(crate) fn key_at<'a>(draft: &mut Draft, text: &'a [u8]) -> Result<&'a [u8], ParseStop>
+pub(crate) fn key_at<'a>(draft: &mut Draft, text: &'a [u8]) -> Result<&'a [u8], ParseError>
     ensures { Gives (λ x. (draft.new, x.now)) result (key_at draft.old text.now) }
 {
     let at = left_of(text);
@@ -406,7 +406,7 @@ pub(crate) fn operation_at<'a>(
     alloc: Global,
     draft: &mut Draft,
     text: &'a [u8],
-) -> Result<&'a [u8], ParseStop>
+) -> Result<&'a [u8], ParseError>
     ensures { Gives (λ x. (draft.new, x.now)) result (operation_at draft.old text.now) }
 {
     draft.laws();

@@ -7,7 +7,7 @@ ghost use Rattle.giop_sig.specs.EnumReading.{names_step, too_many_names, names_a
 use crate::builtin::names_of;
 use crate::draft::Draft;
 use crate::entries::Entry;
-use crate::parse_stop::ParseStop;
+use crate::parse_stop::ParseError;
 use crate::read_items::{declared_at, filled_at, identity_at, new_name_at, type_end_at};
 use crate::read_types::refused;
 use giop_tokens::{Mark, SigFaultKind, left_of, mark, starts_with_mark};
@@ -23,7 +23,7 @@ fn names_step<'a>(
     third: bool,
     names: &mut Vec<&'a [u8]>,
     text: &'a [u8],
-) -> Result<(&'a [u8], bool), ParseStop>
+) -> Result<(&'a [u8], bool), ParseError>
     ensures { Gives (λ x. (x.1, (map (λ n. n.now) names.new.items, x.0.now))) result
         (names_step third (map (λ n. n.now) names.old.items, text.now)) }
 {
@@ -40,7 +40,7 @@ fn some_names<'a>(
     alloc: Global,
     third: bool,
     text: &'a [u8],
-) -> Result<(Vec<&'a [u8]>, &'a [u8]), ParseStop>
+) -> Result<(Vec<&'a [u8]>, &'a [u8]), ParseError>
     ensures { Gives (λ x. (map (λ n. n.now) x.0.items, x.1.now)) result
         (in_steps (names_step third) too_many_names 1025 ([], text.now)) }
 {
@@ -53,7 +53,7 @@ fn some_names<'a>(
         }
         rest = after;
     }
-    Err(ParseStop::Refused(refused(SigFaultKind::Limit, rest)))
+    Err(ParseError::Refused(refused(SigFaultKind::Limit, rest)))
 }
 
 /// The enumerators of an enum, after its opening mark.
@@ -62,7 +62,7 @@ fn names_at<'a>(
     alloc: Global,
     third: bool,
     text: &'a [u8],
-) -> Result<(Vec<&'a [u8]>, &'a [u8]), ParseStop>
+) -> Result<(Vec<&'a [u8]>, &'a [u8]), ParseError>
     ensures { Gives (λ x. (map (λ n. n.now) x.0.items, x.1.now)) result (names_at third text.now) }
 {
     some_names(alloc, third, filled_at(text)?)
@@ -74,7 +74,7 @@ pub(crate) fn enumeration<'a>(
     alloc: Global,
     draft: &mut Draft,
     text: &'a [u8],
-) -> Result<&'a [u8], ParseStop>
+) -> Result<&'a [u8], ParseError>
     ensures { Gives (λ x. (draft.new, x.now)) result (enumeration_at draft.old text.now) }
 {
     draft.laws();

@@ -17,12 +17,12 @@ ghost use Rattle.giop_sig.specs.ItemReading.{new_name_at, declared_at, lengths_a
 use crate::announced::TypeWord;
 use crate::draft::Draft;
 use crate::entries::{Entry, PartEntry};
-use crate::parse_stop::ParseStop;
+use crate::parse_stop::ParseError;
 use crate::part_name::PartName;
 use crate::read_types::{enclosed_at, refused, type_at};
 use crate::types::TypeId;
 use giop_tokens::{
-    Mark, Refusal, SigFaultKind, Token, identifier, left_of, mark, next, repository_id,
+    Mark, SigFaultKind, Token, TokenError, identifier, left_of, mark, next, repository_id,
     starts_with_mark,
 };
 use std::alloc::Global;
@@ -49,16 +49,16 @@ pub(crate) fn new_name_at<'a>(
     most: usize,
     seen: &[&[u8]],
     text: &'a [u8],
-) -> Result<(&'a [u8], &'a [u8]), ParseStop>
+) -> Result<(&'a [u8], &'a [u8]), ParseError>
     ensures { Gives (λ x. (x.0.now, x.1.now)) result
         (new_name_at third most (map (λ n. n.now) seen.now) text.now) }
 {
     let (name, rest) = identifier(third, text)?;
     if is_among(seen, name) {
-        return Err(ParseStop::Refused(refused(SigFaultKind::Duplicate, text)));
+        return Err(ParseError::Refused(refused(SigFaultKind::Duplicate, text)));
     }
     if seen.len() >= most {
-        return Err(ParseStop::Refused(refused(SigFaultKind::Limit, text)));
+        return Err(ParseError::Refused(refused(SigFaultKind::Limit, text)));
     }
     Ok((name, rest))
 }
@@ -71,16 +71,16 @@ pub(crate) fn declared_at<'a>(
     word: Option<TypeWord>,
     count: u32,
     text: &'a [u8],
-) -> Result<(&'a [u8], &'a [u8]), ParseStop>
+) -> Result<(&'a [u8], &'a [u8]), ParseError>
     ensures { Gives (λ x. (x.0.now, x.1.now)) result
         (declared_at draft.now word count text.now) }
 {
     let (name, rest) = identifier(draft.is_third(), text)?;
     if draft.is_taken(word, name) {
-        return Err(ParseStop::Refused(refused(SigFaultKind::Duplicate, text)));
+        return Err(ParseError::Refused(refused(SigFaultKind::Duplicate, text)));
     }
     if count >= DECLARED_MAX {
-        return Err(ParseStop::Refused(refused(SigFaultKind::Limit, text)));
+        return Err(ParseError::Refused(refused(SigFaultKind::Limit, text)));
     }
     Ok((name, rest))
 }
@@ -98,7 +98,7 @@ fn lengths_at<'a>(
     alloc: Global,
     most: usize,
     text: &'a [u8],
-) -> Result<(Vec<u32>, &'a [u8]), ParseStop>
+) -> Result<(Vec<u32>, &'a [u8]), ParseError>
     ensures gives { Gives (λ x. (x.0.items, x.1.now)) result (lengths_at most text.now) }
     ensures some { IfOk result (λ x. All (λ n. 0 < n) x.0.items) }
 {
@@ -120,7 +120,7 @@ fn arrays_of(
     draft: &mut Draft,
     lengths: &mut Vec<u32>,
     element: TypeId,
-) -> Result<TypeId, ParseStop>
+) -> Result<TypeId, ParseError>
     requires known { IsKnown draft.old.table.types element.0 }
     requires some { All (λ n. 0 < n) lengths.old.items }
     ensures { Gives (λ t. (draft.new, t.0)) result
@@ -141,7 +141,7 @@ pub(crate) fn item_at<'a>(
     most: usize,
     seen: &[&[u8]],
     text: &'a [u8],
-) -> Result<(&'a [u8], TypeId, &'a [u8]), ParseStop>
+) -> Result<(&'a [u8], TypeId, &'a [u8]), ParseError>
     ensures { Gives (λ x. (draft.new, part x.0.now x.1.0, x.2.now)) result
         (item_at most (map (λ n. n.now) seen.now) draft.old text.now) }
 {
@@ -155,7 +155,7 @@ pub(crate) fn item_at<'a>(
 }
 
 /// A part with a name and a type.
-pub(crate) fn part_of(alloc: Global, name: &[u8], type_id: TypeId) -> Result<PartEntry, ParseStop>
+pub(crate) fn part_of(alloc: Global, name: &[u8], type_id: TypeId) -> Result<PartEntry, ParseError>
     ensures { Gives part_view result (Ok (part name.now type_id.0)) }
 {
     Ok(PartEntry {
@@ -170,7 +170,7 @@ pub(crate) fn add_part(
     parts: &mut Vec<PartEntry>,
     name: &[u8],
     type_id: TypeId,
-) -> Result<(), ParseStop>
+) -> Result<(), ParseError>
     ensures { Gives (λ x. map part_view parts.new.items) result
         (Ok (map part_view parts.old.items ++ part name.now type_id.0 ∷ [])) }
 {
@@ -186,7 +186,7 @@ fn member_step<'a>(
     seen: &mut Vec<&'a [u8]>,
     parts: &mut Vec<PartEntry>,
     text: &'a [u8],
-) -> Result<(bool, &'a [u8]), ParseStop>
+) -> Result<(bool, &'a [u8]), ParseError>
     ensures { Gives
         (λ x. (
           x.0,
@@ -220,7 +220,7 @@ fn members_at<'a>(
     alloc: Global,
     draft: &mut Draft,
     text: &'a [u8],
-) -> Result<(Vec<PartEntry>, &'a [u8]), ParseStop>
+) -> Result<(Vec<PartEntry>, &'a [u8]), ParseError>
     ensures { Gives (λ x. (draft.new, map part_view x.0.items, x.1.now)) result
         (members_at draft.old text.now) }
 {
@@ -234,17 +234,17 @@ fn members_at<'a>(
         }
         rest = after;
     }
-    Err(ParseStop::Refused(refused(SigFaultKind::Limit, rest)))
+    Err(ParseError::Refused(refused(SigFaultKind::Limit, rest)))
 }
 
 /// A list that doesn't end at once.
 #[tactic(auto, unfolding(crate::specs::ItemReading::filled_at))]
-pub(crate) fn filled_at(text: &[u8]) -> Result<&[u8], ParseStop>
+pub(crate) fn filled_at(text: &[u8]) -> Result<&[u8], ParseError>
     ensures { Gives (λ x. x.now) result (filled_at text.now) }
 {
     match starts_with_mark(text, Mark::CloseBrace)? {
         None => Ok(text),
-        Some(_) => Err(ParseStop::Refused(refused(SigFaultKind::Empty, text))),
+        Some(_) => Err(ParseError::Refused(refused(SigFaultKind::Empty, text))),
     }
 }
 
@@ -254,7 +254,7 @@ pub(crate) fn filled_at(text: &[u8]) -> Result<&[u8], ParseStop>
 pub(crate) fn identity_at<'a>(
     draft: &Draft,
     text: &'a [u8],
-) -> Result<(Option<&'a [u8]>, &'a [u8]), ParseStop>
+) -> Result<(Option<&'a [u8]>, &'a [u8]), ParseError>
     ensures { Gives (λ x. (option_map (λ id. id.now) x.0, x.1.now)) result
         (identity_at draft.now text.now) }
 {
@@ -266,20 +266,20 @@ pub(crate) fn identity_at<'a>(
         return Ok((None, text));
     };
     if draft.has_identity(id) {
-        return Err(ParseStop::Refused(refused(SigFaultKind::Duplicate, text)));
+        return Err(ParseError::Refused(refused(SigFaultKind::Duplicate, text)));
     }
     Ok((Some(id), rest))
 }
 
-/// The end of a declaration whose name is at this place: a semicolon. The declaration is refused if
-/// it made a type that is too deep.
+/// The end of a declaration from whose name on `at` octets are left: a semicolon. The declaration
+/// is refused if it made a type that is too deep.
 #[tactic(auto, unfolding(crate::specs::ItemReading::end_of))]
-pub(crate) fn end_of<'a>(draft: &Draft, at: usize, text: &'a [u8]) -> Result<&'a [u8], ParseStop>
+pub(crate) fn end_of<'a>(draft: &Draft, at: usize, text: &'a [u8]) -> Result<&'a [u8], ParseError>
     ensures { Gives (λ x. (draft.now, x.now)) result (end_of at draft.now text.now) }
 {
     let rest = mark(text, Mark::Semicolon)?;
     if draft.depth() > DEPTH_MAX {
-        return Err(ParseStop::Refused(Refusal {
+        return Err(ParseError::Refused(TokenError {
             kind: SigFaultKind::Depth,
             left: at,
         }));
@@ -296,7 +296,7 @@ pub(crate) fn type_end_at<'a>(
     id: Option<&[u8]>,
     entry: Entry,
     text: &'a [u8],
-) -> Result<&'a [u8], ParseStop>
+) -> Result<&'a [u8], ParseError>
     requires formed { IsFormed draft.old.table.types (length draft.old.table.types)
         (node_view entry) }
     requires addable { IsAddable draft.old.table.version (node_view entry) }
@@ -317,7 +317,7 @@ pub(crate) fn type_end_at<'a>(
 /// Whether a declaration ends after its name, and so announces it. It may do so in a file of
 /// version 3 only.
 #[tactic(auto, unfolding(crate::specs::ItemReading::announces_at))]
-pub(crate) fn announces_at(draft: &Draft, text: &[u8]) -> Result<bool, ParseStop>
+pub(crate) fn announces_at(draft: &Draft, text: &[u8]) -> Result<bool, ParseError>
     ensures { Gives (λ x. x) result (announces_at draft.now text.now) }
 {
     Ok(draft.is_third() && starts_with_mark(text, Mark::Semicolon)?.is_some())
@@ -331,14 +331,14 @@ pub(crate) fn announcement_at<'a>(
     text: &[u8],
     name: &[u8],
     rest: &'a [u8],
-) -> Result<&'a [u8], ParseStop>
+) -> Result<&'a [u8], ParseError>
     requires short { length name.now ≤ 64 }
     requires third { is_third draft.old.names ≡ true }
     ensures { Gives (λ x. (draft.new, x.now)) result
         (announcement_at draft.old word text.now name.now rest.now) }
 {
     if draft.announced_as(name).is_some() {
-        return Err(ParseStop::Refused(refused(SigFaultKind::Duplicate, text)));
+        return Err(ParseError::Refused(refused(SigFaultKind::Duplicate, text)));
     }
     draft.announce(name, word)?;
     end_of(draft, left_of(text), rest)
@@ -352,7 +352,7 @@ fn structure_after<'a>(
     text: &[u8],
     name: &[u8],
     rest: &'a [u8],
-) -> Result<&'a [u8], ParseStop>
+) -> Result<&'a [u8], ParseError>
     requires short { length name.now ≤ 64 }
     requires new { lookup (bytes_eq name.now) draft.old.names.known ≡ None }
     requires few { draft.old.table.declared < 4096 }
@@ -373,7 +373,7 @@ pub(crate) fn structure_at<'a>(
     alloc: Global,
     draft: &mut Draft,
     text: &'a [u8],
-) -> Result<&'a [u8], ParseStop>
+) -> Result<&'a [u8], ParseError>
     ensures { Gives (λ x. (draft.new, x.now)) result (structure_at draft.old text.now) }
 {
     let count = draft.types_declared();
@@ -386,12 +386,12 @@ pub(crate) fn structure_at<'a>(
 
 /// A new repository id of an exception.
 #[tactic(auto, unfolding(crate::specs::ItemReading::new_repository_at))]
-fn new_repository_at<'a>(draft: &Draft, text: &'a [u8]) -> Result<(&'a [u8], &'a [u8]), ParseStop>
+fn new_repository_at<'a>(draft: &Draft, text: &'a [u8]) -> Result<(&'a [u8], &'a [u8]), ParseError>
     ensures { Gives (λ x. (x.0.now, x.1.now)) result (new_repository_at draft.now text.now) }
 {
     let (repository, rest) = repository_id(text)?;
     if draft.has_repository(repository) {
-        return Err(ParseStop::Refused(refused(SigFaultKind::Duplicate, text)));
+        return Err(ParseError::Refused(refused(SigFaultKind::Duplicate, text)));
     }
     Ok((repository, rest))
 }
@@ -402,7 +402,7 @@ pub(crate) fn exception_at<'a>(
     alloc: Global,
     draft: &mut Draft,
     text: &'a [u8],
-) -> Result<&'a [u8], ParseStop>
+) -> Result<&'a [u8], ParseError>
     ensures { Gives (λ x. (draft.new, x.now)) result (exception_at draft.old text.now) }
 {
     let at = left_of(text);

@@ -10,11 +10,11 @@ ghost use Rattle.giop_sig.specs.TypeReading.{size_at, enclosed_at, most_at, base
 use crate::draft::Draft;
 use crate::entries::Entry;
 use crate::numbers;
-use crate::parse_stop::ParseStop;
+use crate::parse_stop::ParseError;
 use crate::types::TypeId;
 use giop_tokens::{
-    Mark, Refusal, SigFaultKind, is_reserved, left_of, mark, misplaced, number, starts_with_mark,
-    word,
+    Mark, SigFaultKind, TokenError, is_reserved, left_of, mark, misplaced, number,
+    starts_with_mark, word,
 };
 use std::alloc::Global;
 
@@ -28,10 +28,10 @@ const STRING: TypeId = TypeId(numbers::STRING);
 const WIDE_STRING: TypeId = TypeId(numbers::WIDE_STRING);
 
 /// A refusal at the first token of a text.
-pub(crate) fn refused(kind: SigFaultKind, text: &[u8]) -> Refusal
+pub(crate) fn refused(kind: SigFaultKind, text: &[u8]) -> TokenError
     ensures { result ≡ refused kind text.now }
 {
-    Refusal {
+    TokenError {
         kind,
         left: left_of(text),
     }
@@ -39,16 +39,16 @@ pub(crate) fn refused(kind: SigFaultKind, text: &[u8]) -> Refusal
 
 /// A length or bound: at least 1, and less than 2^32.
 #[tactic(auto, unfolding(crate::specs::TypeReading::size_at))]
-pub(crate) fn size_at(text: &[u8]) -> Result<(u32, &[u8]), ParseStop>
+pub(crate) fn size_at(text: &[u8]) -> Result<(u32, &[u8]), ParseError>
     ensures gives { Gives (λ x. (x.0, x.1.now)) result (size_at text.now) }
     ensures some { IfOk result (λ x. 0 < x.0) }
 {
     let (n, rest) = number(text)?;
     if n == 0 {
-        return Err(ParseStop::Refused(refused(SigFaultKind::Empty, text)));
+        return Err(ParseError::Refused(refused(SigFaultKind::Empty, text)));
     }
     if n > SIZE_MAX {
-        return Err(ParseStop::Refused(refused(SigFaultKind::Limit, text)));
+        return Err(ParseError::Refused(refused(SigFaultKind::Limit, text)));
     }
     Ok((n as u32, rest))
 }
@@ -59,7 +59,7 @@ pub(crate) fn enclosed_at(
     before: Mark,
     close: Mark,
     text: &[u8],
-) -> Result<(Option<u32>, &[u8]), ParseStop>
+) -> Result<(Option<u32>, &[u8]), ParseError>
     ensures gives { Gives (λ x. (x.0, x.1.now)) result (enclosed_at before close text.now) }
     ensures some { IfOk result (λ x. IfSome x.0 (λ n. 0 < n)) }
 {
@@ -75,7 +75,7 @@ pub(crate) fn enclosed_at(
 
 /// A size after a comma, if a comma comes next.
 #[tactic(auto, unfolding(crate::specs::TypeReading::most_at))]
-fn most_at(text: &[u8]) -> Result<(Option<u32>, &[u8]), ParseStop>
+fn most_at(text: &[u8]) -> Result<(Option<u32>, &[u8]), ParseError>
     ensures { Gives (λ x. (x.0, x.1.now)) result (most_at text.now) }
 {
     match starts_with_mark(text, Mark::Comma)? {
@@ -120,7 +120,7 @@ fn base_of(word: &[u8]) -> Option<TypeId>
 
 /// A string, after its word.
 #[tactic(auto, unfolding(crate::specs::TypeReading::text_at))]
-fn text_at<'a>(draft: &mut Draft, text: &'a [u8]) -> Result<(TypeId, &'a [u8]), ParseStop>
+fn text_at<'a>(draft: &mut Draft, text: &'a [u8]) -> Result<(TypeId, &'a [u8]), ParseError>
     ensures { Gives (λ x. (draft.new, x.0.0, x.1.now)) result (text_at draft.old text.now) }
 {
     let (bound, rest) = enclosed_at(Mark::OpenAngle, Mark::CloseAngle, text)?;
@@ -132,7 +132,7 @@ fn text_at<'a>(draft: &mut Draft, text: &'a [u8]) -> Result<(TypeId, &'a [u8]), 
 
 /// A wide string, after its word. Its bound counts characters, and the type doesn't have it.
 #[tactic(auto, unfolding(crate::specs::TypeReading::wide_text_at))]
-fn wide_text_at<'a>(draft: &Draft, text: &'a [u8]) -> Result<(TypeId, &'a [u8]), ParseStop>
+fn wide_text_at<'a>(draft: &Draft, text: &'a [u8]) -> Result<(TypeId, &'a [u8]), ParseError>
     ensures { Gives (λ x. (draft.now, x.0.0, x.1.now)) result (wide_text_at draft.now text.now) }
 {
     let (_, rest) = enclosed_at(Mark::OpenAngle, Mark::CloseAngle, text)?;
@@ -148,25 +148,25 @@ fn named_type<'a>(
     text: &[u8],
     name: &[u8],
     rest: &'a [u8],
-) -> Result<(TypeId, &'a [u8]), ParseStop>
+) -> Result<(TypeId, &'a [u8]), ParseError>
     ensures { Gives (λ x. (draft.now, x.0.0, x.1.now)) result
         (named_type element draft.now text.now name.now rest.now) }
 {
     if is_reserved(draft.is_third(), name) {
-        return Err(ParseStop::Refused(misplaced(text)));
+        return Err(ParseError::Refused(misplaced(text)));
     }
     if name.len() > NAME_MAX {
-        return Err(ParseStop::Refused(refused(SigFaultKind::Limit, text)));
+        return Err(ParseError::Refused(refused(SigFaultKind::Limit, text)));
     }
     match draft.type_named(element, name) {
-        None => Err(ParseStop::Refused(refused(SigFaultKind::UnknownType, text))),
+        None => Err(ParseError::Refused(refused(SigFaultKind::UnknownType, text))),
         Some(t) => Ok((t, rest)),
     }
 }
 
 /// Adds a sequence of elements of a type. A sequence of octets has an entry of its own, and so has
 /// one of a type that is announced.
-fn sequence_of(draft: &mut Draft, bound: Option<u32>, element: TypeId) -> Result<TypeId, ParseStop>
+fn sequence_of(draft: &mut Draft, bound: Option<u32>, element: TypeId) -> Result<TypeId, ParseError>
     requires { IsElement draft.old.table.version draft.old.table.types element.0 }
     ensures { Gives (λ t. (draft.new, t.0)) result
         (Ok (with_node draft.old (sequence_node draft.old.table.types bound element.0))) }
@@ -174,9 +174,9 @@ fn sequence_of(draft: &mut Draft, bound: Option<u32>, element: TypeId) -> Result
     if element.0 == 0 {
         return draft.add(Entry::Octets(bound));
     }
-    match draft.announced_place(element) {
+    match draft.announced_index(element) {
         None => draft.add(Entry::Sequence(bound, element)),
-        Some(place) => draft.add(Entry::Recursive(bound, TypeId(place))),
+        Some(index) => draft.add(Entry::Recursive(bound, TypeId(index))),
     }
 }
 
@@ -185,7 +185,7 @@ fn after_element<'a>(
     draft: &mut Draft,
     element: TypeId,
     text: &'a [u8],
-) -> Result<(TypeId, &'a [u8]), ParseStop>
+) -> Result<(TypeId, &'a [u8]), ParseError>
     requires { IsElement draft.old.table.version draft.old.table.types element.0 }
     ensures { Gives (λ x. (draft.new, x.0.0, x.1.now)) result
         (after_element (draft.old, element.0, text.now)) }
@@ -201,7 +201,7 @@ fn after_held<'a>(
     draft: &mut Draft,
     held: TypeId,
     text: &'a [u8],
-) -> Result<(TypeId, &'a [u8]), ParseStop>
+) -> Result<(TypeId, &'a [u8]), ParseError>
     requires { IsKnown draft.old.table.types held.0 }
     ensures { Gives (λ x. (draft.new, x.0.0, x.1.now)) result
         (after_held (draft.old, held.0, text.now)) }
@@ -218,7 +218,7 @@ fn leaf_at<'a>(
     draft: &mut Draft,
     element: bool,
     text: &'a [u8],
-) -> Result<(TypeId, &'a [u8]), ParseStop>
+) -> Result<(TypeId, &'a [u8]), ParseError>
     ensures { Gives (λ x. (draft.new, x.0.0, x.1.now)) result
         (leaf_at element draft.old text.now) }
 {
@@ -257,7 +257,7 @@ pub(crate) enum Opener {
 /// The first word of a text, if it begins a type with another one in it, and the rest after its
 /// opening mark.
 #[tactic(auto, unfolding(crate::specs::TypeReading::opener_at))]
-fn opener_at<'a>(draft: &Draft, text: &'a [u8]) -> Result<Option<(Opener, &'a [u8])>, ParseStop>
+fn opener_at<'a>(draft: &Draft, text: &'a [u8]) -> Result<Option<(Opener, &'a [u8])>, ParseError>
     ensures { Gives (λ o. option_map (λ x. (x.0, x.1.now)) o) result
         (opener_at draft.now text.now) }
 {
@@ -267,7 +267,7 @@ fn opener_at<'a>(draft: &Draft, text: &'a [u8]) -> Result<Option<(Opener, &'a [u
     }
     if name == b"encapsulation".as_slice() {
         if !draft.has_encapsulations() {
-            return Err(ParseStop::Refused(misplaced(text)));
+            return Err(ParseError::Refused(misplaced(text)));
         }
         return Ok(Some((Opener::Encapsulation, mark(rest, Mark::OpenAngle)?)));
     }
@@ -280,7 +280,7 @@ fn openers_step<'a>(
     draft: &Draft,
     openers: &mut Vec<Opener>,
     text: &'a [u8],
-) -> Result<(bool, &'a [u8]), ParseStop>
+) -> Result<(bool, &'a [u8]), ParseError>
     ensures { Gives (λ x. (x.0, (openers.new.items, x.1.now))) result
         (openers_step draft.now (openers.old.items, text.now)) }
 {
@@ -298,7 +298,7 @@ fn openers_at<'a>(
     alloc: Global,
     draft: &Draft,
     text: &'a [u8],
-) -> Result<(Vec<Opener>, &'a [u8]), ParseStop>
+) -> Result<(Vec<Opener>, &'a [u8]), ParseError>
     ensures { Gives (λ x. (x.0.items, x.1.now)) result
         (in_steps (openers_step draft.now) too_many_openers (length text.now) ([], text.now)) }
 {
@@ -311,7 +311,7 @@ fn openers_at<'a>(
         }
         rest = after;
     }
-    Err(ParseStop::Refused(misplaced(rest)))
+    Err(ParseError::Refused(misplaced(rest)))
 }
 
 /// Whether the type after these openers is that of a sequence's elements.
@@ -331,7 +331,7 @@ fn closed_by<'a>(
     opener: Opener,
     inner: TypeId,
     text: &'a [u8],
-) -> Result<(TypeId, &'a [u8]), ParseStop>
+) -> Result<(TypeId, &'a [u8]), ParseError>
     requires { CanStand (opens_element opener) draft.old.table.version draft.old.table.types
         inner.0 }
     ensures { Gives (λ x. (draft.new, x.0.0, x.1.now)) result
@@ -349,7 +349,7 @@ fn all_closed<'a>(
     openers: &mut Vec<Opener>,
     innermost: TypeId,
     text: &'a [u8],
-) -> Result<(TypeId, &'a [u8]), ParseStop>
+) -> Result<(TypeId, &'a [u8]), ParseError>
     requires { CanStand (element_after openers.old.items) draft.old.table.version
         draft.old.table.types innermost.0 }
     ensures { Gives (λ x. (draft.new, x.0.0, x.1.now)) result
@@ -369,7 +369,7 @@ pub(crate) fn type_at<'a>(
     alloc: Global,
     draft: &mut Draft,
     text: &'a [u8],
-) -> Result<(TypeId, &'a [u8]), ParseStop>
+) -> Result<(TypeId, &'a [u8]), ParseError>
     ensures { Gives (λ x. (draft.new, x.0.0, x.1.now)) result (type_at draft.old text.now) }
 {
     draft.laws();

@@ -16,7 +16,7 @@ use crate::cases::UnionCases;
 use crate::draft::Draft;
 use crate::entries::{CaseEntry, Entry};
 use crate::labels::{LabelValue, label_number, value_at};
-use crate::parse_stop::ParseStop;
+use crate::parse_stop::ParseError;
 use crate::read_items::{
     announcement_at, announces_at, declared_at, filled_at, identity_at, item_at, part_of,
     type_end_at,
@@ -62,13 +62,13 @@ fn number_of_value<'a>(
     draft: &Draft,
     switch: TypeId,
     text: &'a [u8],
-) -> Result<(Option<Number>, &'a [u8]), ParseStop>
+) -> Result<(Option<Number>, &'a [u8]), ParseError>
     ensures { Gives (λ x. (x.0, x.1.now)) result
         (number_of_value (is_third draft.now.names) (node_at draft.now.table switch.0) text.now) }
 {
     let (value, rest) = value_at(draft.is_third(), text)?;
     match number_in(draft, switch, value) {
-        None => Err(ParseStop::Refused(refused(SigFaultKind::Label, text))),
+        None => Err(ParseError::Refused(refused(SigFaultKind::Label, text))),
         Some(n) => Ok((Some(n), rest)),
     }
 }
@@ -86,14 +86,14 @@ fn unseen_label(
     seen: &[Option<Number>],
     label: Option<Number>,
     text: &[u8],
-) -> Result<Option<Number>, ParseStop>
+) -> Result<Option<Number>, ParseError>
     ensures { Gives (λ x. x) result (unseen_label seen.now label text.now) }
 {
     if is_seen(seen, label) {
-        return Err(ParseStop::Refused(refused(SigFaultKind::Duplicate, text)));
+        return Err(ParseError::Refused(refused(SigFaultKind::Duplicate, text)));
     }
     if seen.len() >= LABELS_MAX {
-        return Err(ParseStop::Refused(refused(SigFaultKind::Limit, text)));
+        return Err(ParseError::Refused(refused(SigFaultKind::Limit, text)));
     }
     Ok(label)
 }
@@ -105,7 +105,7 @@ fn label_at<'a>(
     switch: TypeId,
     seen: &[Option<Number>],
     text: &'a [u8],
-) -> Result<(Option<Number>, &'a [u8]), ParseStop>
+) -> Result<(Option<Number>, &'a [u8]), ParseError>
     ensures { Gives (λ x. (x.0, x.1.now)) result
         (label_at (is_third draft.now.names) (node_at draft.now.table switch.0) seen.now text.now) }
 {
@@ -125,7 +125,7 @@ fn label_at<'a>(
 
 /// Whether a label comes next.
 #[tactic(auto, unfolding(crate::specs::UnionReading::begins_label))]
-fn begins_label(text: &[u8]) -> Result<bool, ParseStop>
+fn begins_label(text: &[u8]) -> Result<bool, ParseError>
     ensures { Gives (λ x. x) result (begins_label text.now) }
 {
     let value = starts_with_keyword(text, b"case")?;
@@ -143,7 +143,7 @@ fn labels_step<'a>(
     own: &mut Vec<Number>,
     default: bool,
     text: &'a [u8],
-) -> Result<(bool, bool, &'a [u8]), ParseStop>
+) -> Result<(bool, bool, &'a [u8]), ParseError>
     ensures { Gives (λ x. (x.0, (seen.new.items, own.new.items, x.1, x.2.now))) result
         (labels_step (is_third draft.now.names) (node_at draft.now.table switch.0)
         (seen.old.items, own.old.items, default, text.now)) }
@@ -170,7 +170,7 @@ fn some_labels<'a>(
     switch: TypeId,
     seen: &mut Vec<Option<Number>>,
     text: &'a [u8],
-) -> Result<(Vec<Number>, bool, &'a [u8]), ParseStop>
+) -> Result<(Vec<Number>, bool, &'a [u8]), ParseError>
     ensures { Gives (λ x. (seen.new.items, x.0.items, x.1, x.2.now)) result
         (in_steps
         (labels_step (is_third draft.now.names) (node_at draft.now.table switch.0))
@@ -188,7 +188,7 @@ fn some_labels<'a>(
         default = more;
         rest = after;
     }
-    Err(ParseStop::Refused(refused(SigFaultKind::Limit, rest)))
+    Err(ParseError::Refused(refused(SigFaultKind::Limit, rest)))
 }
 
 /// The labels of a case, at least one.
@@ -199,25 +199,25 @@ fn labels_at<'a>(
     switch: TypeId,
     seen: &mut Vec<Option<Number>>,
     text: &'a [u8],
-) -> Result<(Vec<Number>, bool, &'a [u8]), ParseStop>
+) -> Result<(Vec<Number>, bool, &'a [u8]), ParseError>
     ensures { Gives (λ x. (seen.new.items, x.0.items, x.1, x.2.now)) result
         (labels_at (is_third draft.now.names) (node_at draft.now.table switch.0)
         seen.old.items text.now) }
 {
     if !begins_label(text)? {
-        return Err(ParseStop::Refused(misplaced(text)));
+        return Err(ParseError::Refused(misplaced(text)));
     }
     some_labels(alloc, draft, switch, seen, text)
 }
 
-/// What is selected if no label is the number, after the case at a place: the first case with the
+/// What is selected if no label is the number, after the case at an index: the first case with the
 /// default.
-fn chosen(otherwise: Selected, default: bool, place: usize) -> Selected
-    requires { place < 2 ^ 32 }
-    ensures { result ≡ chosen otherwise default place }
+fn chosen(otherwise: Selected, default: bool, index: usize) -> Selected
+    requires { index < 2 ^ 32 }
+    ensures { result ≡ chosen otherwise default index }
 {
     match otherwise {
-        Selected::Nothing if default => Selected::Case(place as u32),
+        Selected::Nothing if default => Selected::Case(index as u32),
         _ => otherwise,
     }
 }
@@ -242,14 +242,14 @@ fn switch_at<'a>(
     alloc: Global,
     draft: &mut Draft,
     text: &'a [u8],
-) -> Result<(TypeId, &'a [u8]), ParseStop>
+) -> Result<(TypeId, &'a [u8]), ParseError>
     ensures { Gives (λ x. (draft.new, x.0.0, x.1.now)) result (switch_at draft.old text.now) }
 {
     let (t, rest) = type_at(alloc, draft, text)?;
     if can_switch(draft, t) {
         Ok((t, rest))
     } else {
-        Err(ParseStop::Refused(refused(SigFaultKind::Label, text)))
+        Err(ParseError::Refused(refused(SigFaultKind::Label, text)))
     }
 }
 
@@ -261,7 +261,7 @@ fn add_case<'a>(
     default: bool,
     name: &'a [u8],
     type_id: TypeId,
-) -> Result<(), ParseStop>
+) -> Result<(), ParseError>
     requires { length cases.old.names.items ≤ 256 }
     ensures gives { Gives (λ x. cases_view cases.new) result (Ok (with_case (cases_view cases.old)
         (cases.old.labels.items, labels.items, default, []) (part name.now type_id.0))) }
@@ -282,7 +282,7 @@ fn case_at<'a>(
     switch: TypeId,
     cases: &mut Cases<'a>,
     text: &'a [u8],
-) -> Result<&'a [u8], ParseStop>
+) -> Result<&'a [u8], ParseError>
     requires { length cases.old.names.items ≤ 256 }
     ensures gives { Gives (λ x. (draft.new, cases_view cases.new, x.now)) result
         (case_at switch.0 (draft.old, cases_view cases.old, text.now)) }
@@ -303,7 +303,7 @@ fn cases_step<'a>(
     switch: TypeId,
     cases: &mut Cases<'a>,
     text: &'a [u8],
-) -> Result<(bool, &'a [u8]), ParseStop>
+) -> Result<(bool, &'a [u8]), ParseError>
     requires { length cases.old.names.items ≤ 256 }
     ensures gives { Gives (λ x. (x.0, (draft.new, cases_view cases.new, x.1.now))) result
         (cases_step switch.0 (draft.old, cases_view cases.old, text.now)) }
@@ -321,7 +321,7 @@ fn some_cases<'a>(
     draft: &mut Draft,
     switch: TypeId,
     text: &'a [u8],
-) -> Result<(Cases<'a>, &'a [u8]), ParseStop>
+) -> Result<(Cases<'a>, &'a [u8]), ParseError>
     ensures { Gives (λ x. (draft.new, cases_view x.0, x.1.now)) result
         (in_steps (cases_step switch.0) too_many_cases 257 (draft.old, no_cases, text.now)) }
 {
@@ -339,7 +339,7 @@ fn some_cases<'a>(
         }
         rest = after;
     }
-    Err(ParseStop::Refused(refused(SigFaultKind::Limit, rest)))
+    Err(ParseError::Refused(refused(SigFaultKind::Limit, rest)))
 }
 
 /// Cases up to the closing mark, at least one.
@@ -349,7 +349,7 @@ fn cases_at<'a>(
     draft: &mut Draft,
     switch: TypeId,
     text: &'a [u8],
-) -> Result<(Cases<'a>, &'a [u8]), ParseStop>
+) -> Result<(Cases<'a>, &'a [u8]), ParseError>
     ensures { Gives (λ x. (draft.new, cases_view x.0, x.1.now)) result
         (cases_at switch.0 draft.old text.now) }
 {
@@ -357,10 +357,10 @@ fn cases_at<'a>(
 }
 
 /// The entry of a union with a discriminator of this type.
-fn entry_of(alloc: Global, switch: TypeId, cases: Cases<'_>) -> Result<Entry, ParseStop>
+fn entry_of(alloc: Global, switch: TypeId, cases: Cases<'_>) -> Result<Entry, ParseError>
     ensures ok { IfOk result (λ entry. node_view entry
         ≡ union_node switch.0 (cases_view cases.entry).cases (cases_view cases.entry).otherwise) }
-    ensures err { IfErr result (λ stop. stop ≡ ParseStop.Memory) }
+    ensures err { IfErr result (λ stop. stop ≡ ParseError.Memory) }
 {
     let made = UnionCases::new(alloc, cases.cases)?;
     Ok(Entry::Union(switch, made, cases.otherwise))
@@ -374,7 +374,7 @@ fn union_after<'a>(
     text: &[u8],
     name: &[u8],
     rest: &'a [u8],
-) -> Result<&'a [u8], ParseStop>
+) -> Result<&'a [u8], ParseError>
     requires short { length name.now ≤ 64 }
     requires new { lookup (bytes_eq name.now) draft.old.names.known ≡ None }
     requires few { draft.old.table.declared < 4096 }
@@ -399,7 +399,7 @@ pub(crate) fn union<'a>(
     alloc: Global,
     draft: &mut Draft,
     text: &'a [u8],
-) -> Result<&'a [u8], ParseStop>
+) -> Result<&'a [u8], ParseError>
     ensures { Gives (λ x. (draft.new, x.now)) result (union_at draft.old text.now) }
 {
     let count = draft.types_declared();

@@ -2,7 +2,7 @@
 //! any nor the elements of a recursive sequence can have wide text.
 ghost use Rattle.std.specs.Prelude.{◌≡◌, ℕ, suc, ◌<◌, ◌≤◌, ◌++◌, ◌↔◌, List, false, codes, drop, length, IsTrue, IfSome, None};
 ghost use Rattle.std.specs.Option.{option_map};
-ghost use Rattle.giop_sig.specs.Types.{sequel, part_of, name_in, enum_name_in, switch_of, elements_fit, select_in, interpreted_in, shape_in, HasShape, HasMember, HasPlace, HasInner, IsUnion};
+ghost use Rattle.giop_sig.specs.Types.{sequel, part_of, name_in, enum_name_in, switch_of, elements_fit, select_in, interpreted_in, shape_in, HasShape, HasMember, HasIndex, HasInner, IsUnion};
 ghost use Rattle.giop_sig.specs.Fits.{IsFit, IsRoot};
 ghost use Rattle.giop_sig.specs.Interfaces.{IsInterfaceOf};
 ghost use Rattle.giop_sig.specs.Hearings.{HasPart, hearing_in, sequel_of, sign_is, signal_after, told_of};
@@ -131,20 +131,20 @@ impl<'a> SeenCatalogue<'a> {
 
     /// Like `Catalogue::part`.
     #[inline(always)]
-    pub fn part(&self, t: TypeId, place: u32) -> TypeId
+    pub fn part(&self, t: TypeId, index: u32) -> TypeId
         requires known { t.0 < length self.now.types }
-        requires place { HasPlace (shape_in (tree self.now t.0)) place }
-        requires led { shape_in (tree self.now t.0) ≡ Shape.Led → place ≤ length self.now.types }
-        ensures number { result.0 ≡ part_number self.now t.0 place }
+        requires index { HasIndex (shape_in (tree self.now t.0)) index }
+        requires led { shape_in (tree self.now t.0) ≡ Shape.Led → index ≤ length self.now.types }
+        ensures number { result.0 ≡ part_number self.now t.0 index }
         ensures known { result.0 < length self.now.types }
-        ensures below { HasInner (shape_in (tree self.now t.0)) place → result.0 < t.0 }
+        ensures below { HasInner (shape_in (tree self.now t.0)) index → result.0 < t.0 }
         // A part has one level of room less than its whole. Only the parts of a union may differ
         // with the room.
         ensures rooms { (IsUnion (shape_in (tree self.now t.0)) → ⊥) → (n : ℕ) →
-            tree_at self.now n result.0 ≡ part_of (tree_at self.now (suc n) t.0) place }
+            tree_at self.now n result.0 ≡ part_of (tree_at self.now (suc n) t.0) index }
     {
         self.laws();
-        self.entry(t).part(place)
+        self.entry(t).part(index)
     }
 
     /// Whether the elements of a sequence fit into this room. Only those of a recursive sequence
@@ -162,58 +162,58 @@ impl<'a> SeenCatalogue<'a> {
 
     /// Like `Catalogue::part_in`.
     #[inline(always)]
-    pub fn part_in(&self, t: TypeId, place: u32, room: u8) -> TypeId
+    pub fn part_in(&self, t: TypeId, index: u32, room: u8) -> TypeId
         requires known { t.0 < length self.now.types }
-        requires place { HasPlace (shape_in (tree self.now t.0)) place }
-        requires led { shape_in (tree self.now t.0) ≡ Shape.Led → place ≤ length self.now.types }
-        ensures number { result.0 ≡ part_number_in self.now room t.0 place }
+        requires index { HasIndex (shape_in (tree self.now t.0)) index }
+        requires led { shape_in (tree self.now t.0) ≡ Shape.Led → index ≤ length self.now.types }
+        ensures number { result.0 ≡ part_number_in self.now room t.0 index }
         ensures known { result.0 < length self.now.types }
         ensures tree { tree_at self.now room result.0
-            ≡ part_of (tree_at self.now (suc room) t.0) place }
+            ≡ part_of (tree_at self.now (suc room) t.0) index }
     {
         self.laws();
-        self.entry(t).part_in(place, room)
+        self.entry(t).part_in(index, room)
     }
 
     /// Like `Catalogue::part_name`.
     #[inline(always)]
-    pub fn part_name(&self, t: TypeId, place: u32) -> &'a [u8]
+    pub fn part_name(&self, t: TypeId, index: u32) -> &'a [u8]
         requires known { t.0 < length self.now.types }
-        requires place { HasMember (shape_in (tree self.now t.0)) place }
-        ensures name { result.now ≡ name_of (part_at (node_at self.now t.0) place) }
-        ensures tree { result.now ≡ name_in (tree self.now t.0) place }
-        ensures rooms { (n : ℕ) → result.now ≡ name_in (tree_at self.now n t.0) place }
+        requires index { HasMember (shape_in (tree self.now t.0)) index }
+        ensures name { result.now ≡ name_of (part_at (node_at self.now t.0) index) }
+        ensures tree { result.now ≡ name_in (tree self.now t.0) index }
+        ensures rooms { (n : ℕ) → result.now ≡ name_in (tree_at self.now n t.0) index }
         ensures short { length result.now ≤ 64 }
     {
-        self.kept_name(t, place).octets()
+        self.kept_name(t, index).octets()
     }
 
     /// Like `Catalogue::dotted_name`.
     #[inline(always)]
-    pub fn dotted_name(&self, t: TypeId, place: u32) -> &'a [u8]
+    pub fn dotted_name(&self, t: TypeId, index: u32) -> &'a [u8]
         requires known { t.0 < length self.now.types }
-        requires place { HasMember (shape_in (tree self.now t.0)) place }
-        ensures tree { drop 15 result.now ≡ codes "." ++ name_in (tree self.now t.0) place }
+        requires index { HasMember (shape_in (tree self.now t.0)) index }
+        ensures tree { drop 15 result.now ≡ codes "." ++ name_in (tree self.now t.0) index }
         ensures rooms { (n : ℕ) →
-            drop 15 result.now ≡ codes "." ++ name_in (tree_at self.now n t.0) place }
+            drop 15 result.now ≡ codes "." ++ name_in (tree_at self.now n t.0) index }
         ensures size { 16 ≤ length result.now }
         ensures short { length result.now ≤ 80 }
     {
-        self.kept_name(t, place).dotted()
+        self.kept_name(t, index).dotted()
     }
 
     /// The name of a part as it is kept, with what comes before it.
     #[inline(always)]
-    fn kept_name(&self, t: TypeId, place: u32) -> &'a PartName
+    fn kept_name(&self, t: TypeId, index: u32) -> &'a PartName
         requires known { t.0 < length self.now.types }
-        requires place { HasMember (shape_in (tree self.now t.0)) place }
-        ensures name { result.now ≡ name_of (part_at (node_at self.now t.0) place) }
-        ensures tree { result.now ≡ name_in (tree self.now t.0) place }
-        ensures rooms { (n : ℕ) → result.now ≡ name_in (tree_at self.now n t.0) place }
+        requires index { HasMember (shape_in (tree self.now t.0)) index }
+        ensures name { result.now ≡ name_of (part_at (node_at self.now t.0) index) }
+        ensures tree { result.now ≡ name_in (tree self.now t.0) index }
+        ensures rooms { (n : ℕ) → result.now ≡ name_in (tree_at self.now n t.0) index }
         ensures short { length result.now ≤ 64 }
     {
         self.laws();
-        self.entry(t).part_name(place)
+        self.entry(t).part_name(index)
     }
 
     /// Like `Catalogue::enum_name`.
@@ -256,7 +256,7 @@ impl<'a> SeenCatalogue<'a> {
             → result ≡ select_in (tree self.now t.0) n }
         ensures rooms { (m n : ℕ) → interpreted_in (switch_of (tree_at self.now m t.0)) n
             ≡ Some number → result ≡ select_in (tree_at self.now m t.0) n }
-        ensures place { (i : ℕ) → result ≡ Selected.Case i
+        ensures index { (i : ℕ) → result ≡ Selected.Case i
             → HasMember (shape_in (tree self.now t.0)) i }
     {
         self.laws();
@@ -345,9 +345,9 @@ impl<'a> SeenCatalogue<'a> {
         requires { t.0 < length self.now.types }
         ensures is { sequel (hearing_in (tree_at self.now (suc room) t.0)) (told_of told)
             ≡ sequel_of result }
-        ensures place { HasPart result }
-        ensures known { (place : ℕ) → result ≡ Following.Then place →
-            place ≤ length self.now.types }
+        ensures index { HasPart result }
+        ensures known { (index : ℕ) → result ≡ Following.Then index →
+            index ≤ length self.now.types }
     {
         match self.shape(t) {
             Shape::Led => self.following_any(told, room),
@@ -358,9 +358,9 @@ impl<'a> SeenCatalogue<'a> {
     /// What comes after the TypeCode of an any, if that has this room.
     fn following_any(&self, told: Signal, room: u8) -> Following
         ensures is { sequel (any_hearing self.now room) (told_of told) ≡ sequel_of result }
-        ensures place { HasPart result }
-        ensures known { (place : ℕ) → result ≡ Following.Then place →
-            place ≤ length self.now.types }
+        ensures index { HasPart result }
+        ensures known { (index : ℕ) → result ≡ Following.Then index →
+            index ≤ length self.now.types }
     {
         self.laws();
         match told {

@@ -7,7 +7,7 @@ ghost use Rattle.giop_sig_files.specs.Blocks.{begins, is_declared, opens, closes
 use std::alloc::{AllocError, Global};
 
 /// Whether a text begins with these octets.
-fn begins(text: &[u8], word: &[u8]) -> bool
+fn begins_with(text: &[u8], word: &[u8]) -> bool
     ensures { result ≡ begins word.now text.now }
 {
     text.starts_with(word)
@@ -18,13 +18,13 @@ fn begins(text: &[u8], word: &[u8]) -> bool
 pub(crate) fn is_declared(block: &[u8]) -> bool
     ensures { result ≡ is_declared block.now }
 {
-    begins(block, b"operation ")
-        || begins(block, b"exception ")
-        || begins(block, b"struct ")
-        || begins(block, b"union ")
-        || begins(block, b"enum ")
-        || begins(block, b"key ")
-        || begins(block, b"signatures ")
+    begins_with(block, b"operation ")
+        || begins_with(block, b"exception ")
+        || begins_with(block, b"struct ")
+        || begins_with(block, b"union ")
+        || begins_with(block, b"enum ")
+        || begins_with(block, b"key ")
+        || begins_with(block, b"signatures ")
 }
 
 /// The front of a block, and how many braces and parentheses open and close in it.

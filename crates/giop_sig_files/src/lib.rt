@@ -6,8 +6,6 @@ mod block;
 mod earlier;
 mod joining;
 mod places;
-#[cfg(test)]
-mod tests;
 
 pub use earlier::declared_above;
 pub use joining::joined;

@@ -1,8 +1,10 @@
-//! Tests of signatures: the built-in types, signature files and request lists.
+//! Tests of signatures: the built-in types, signature files and request lists, and files that are read as one text.
 #![tactic(auto)]
 
 #[cfg(test)]
 mod builtin_tests;
+#[cfg(test)]
+mod expecting;
 #[cfg(test)]
 mod file_rows;
 #[cfg(test)]
@@ -11,6 +13,8 @@ mod file_tests;
 mod identity_tests;
 #[cfg(test)]
 mod interface_tests;
+#[cfg(test)]
+mod joined_tests;
 #[cfg(test)]
 mod limit_tests;
 #[cfg(test)]

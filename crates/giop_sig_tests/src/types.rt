@@ -8,7 +8,7 @@
 //! whether the anys of a message have room for it (`minor NUMBER`: `room` or `none`). `operation NAME` asks for an
 //! operation's number, and `version` for that of the file.
 ghost use Rattle.std.specs.Prelude.{ℕ, ◌<◌, length};
-ghost use Rattle.giop_sig.specs.Types.{shape_in, HasMember, HasPlace};
+ghost use Rattle.giop_sig.specs.Types.{shape_in, HasMember, HasIndex};
 ghost use Rattle.giop_sig.specs.Trees.{tree};
 
 use crate::rows::are_numbers;
@@ -92,7 +92,7 @@ fn add_kind(catalogue: &Catalogue, t: TypeId, row: &mut Sheet) -> Result<(), Out
 fn add_parts(catalogue: &Catalogue, t: TypeId, count: u32, row: &mut Sheet) -> Result<(), OutFault>
     requires known { t.0 < length catalogue.now.types }
     requires named { (i : ℕ) → i < count → HasMember (shape_in (tree catalogue.now t.0)) i }
-    requires place { (i : ℕ) → i < count → HasPlace (shape_in (tree catalogue.now t.0)) i }
+    requires place { (i : ℕ) → i < count → HasIndex (shape_in (tree catalogue.now t.0)) i }
 {
     for place in 0..count {
         if place > 0 {

@@ -39,7 +39,7 @@ pub(crate) struct Arguments<'a> {
 
 /// Why the words can't be read.
 #[derive(Drop)]
-pub(crate) enum Refusal<'a> {
+pub(crate) enum ArgumentError<'a> {
     /// The error of `clap`, or the help.
     Words(Error),
     /// This word names nothing that calls can be counted by.
@@ -48,9 +48,9 @@ pub(crate) enum Refusal<'a> {
     Time(&'a str),
 }
 
-impl<'a> From<Error> for Refusal<'a> {
-    fn from(error: Error) -> Refusal<'a> {
-        Refusal::Words(error)
+impl<'a> From<Error> for ArgumentError<'a> {
+    fn from(error: Error) -> ArgumentError<'a> {
+        ArgumentError::Words(error)
     }
 }
 
@@ -85,7 +85,10 @@ fn command<'a>(alloc: Global) -> Result<Command<'a>, AllocError> {
 impl<'a> Arguments<'a> {
     /// Reads the words of the command line. The first word is the program's name. An `Err` is also the answer to `--help`
     /// and `--version`.
-    pub(crate) fn read(alloc: Global, words: &'a [String]) -> Result<Arguments<'a>, Refusal<'a>> {
+    pub(crate) fn read(
+        alloc: Global,
+        words: &'a [String],
+    ) -> Result<Arguments<'a>, ArgumentError<'a>> {
         let matches = matches_of(alloc, words)?;
         Ok(Arguments {
             settings: settings_of(&matches)?,
@@ -100,11 +103,11 @@ fn matches_of<'a>(alloc: Global, words: &'a [String]) -> Result<ArgMatches<'a>, 
     command(alloc)?.try_get_matches_from(words)
 }
 
-fn settings_of<'a>(matches: &ArgMatches<'a>) -> Result<Settings<'a>, Refusal<'a>> {
+fn settings_of<'a>(matches: &ArgMatches<'a>) -> Result<Settings<'a>, ArgumentError<'a>> {
     let by = match matches.get_str("by") {
         None => None,
         Some(word) => match By::of(word) {
-            None => return Err(Refusal::By(word)),
+            None => return Err(ArgumentError::By(word)),
             by => by,
         },
     };
@@ -121,9 +124,9 @@ fn settings_of<'a>(matches: &ArgMatches<'a>) -> Result<Settings<'a>, Refusal<'a>
 }
 
 /// A time of the command line, if one is given.
-fn time_of(word: Option<&str>) -> Result<Option<&str>, Refusal<'_>> {
+fn time_of(word: Option<&str>) -> Result<Option<&str>, ArgumentError<'_>> {
     match word {
-        Some(word) if !is_time(word) => Err(Refusal::Time(word)),
+        Some(word) if !is_time(word) => Err(ArgumentError::Time(word)),
         word => Ok(word),
     }
 }

@@ -2,10 +2,10 @@
 
 ghost use Rattle.std.specs.Prelude.{◌≤◌};
 
-use crate::arguments::{Arguments, Refusal};
-use giop_run::{ProgramFault, ShownName, failed, refused, words};
+use crate::arguments::{ArgumentError, Arguments};
+use giop_run::{ProgramError, ShownName, failed, refused, words};
 use giop_stat_counts::Stat;
-use giop_views::viewed;
+use giop_views::run_view;
 
 /// The program's name, with which each message on standard error begins.
 const PROGRAM: &str = "giop-stat";
@@ -22,9 +22,9 @@ pub(crate) fn program(rt: &HostRuntime) -> u8
         Err(fault) => return failed(rt, PROGRAM, &fault),
     };
     match Arguments::read(rt.alloc(), words.as_slice()) {
-        Err(Refusal::Words(error)) => refused(rt, PROGRAM, &error),
-        Err(Refusal::By(word)) => refused_by(rt, word),
-        Err(Refusal::Time(word)) => refused_time(rt, word),
+        Err(ArgumentError::Words(error)) => refused(rt, PROGRAM, &error),
+        Err(ArgumentError::By(word)) => refused_by(rt, word),
+        Err(ArgumentError::Time(word)) => refused_time(rt, word),
         Ok(asked) => view(rt, asked),
     }
 }
@@ -56,7 +56,7 @@ fn view(rt: &HostRuntime, asked: Arguments<'_>) -> u8
     ensures { result ≤ 5 }
 {
     let Ok(stat) = Stat::new(rt.alloc(), asked.settings) else {
-        return failed(rt, PROGRAM, &ProgramFault::OutOfMemory);
+        return failed(rt, PROGRAM, &ProgramError::OutOfMemory);
     };
-    viewed(rt, PROGRAM, asked.file, stat)
+    run_view(rt, PROGRAM, asked.file, stat)
 }

@@ -64,19 +64,19 @@ fn width_of(after: u64) -> u64
 }
 
 /// How many binary digits follow the first ones in the numbers of a bucket, and these first digits. The number of the
-/// bucket is `place` + 1.
-fn parts_of(place: u64) -> (u64, u64)
-    requires { place < 1280 }
-    ensures place { place ≡ 32 * result.0 + result.1 }
+/// bucket is `index` + 1.
+fn parts_of(index: u64) -> (u64, u64)
+    requires { index < 1280 }
+    ensures index { index ≡ 32 * result.0 + result.1 }
     ensures after { result.0 ≤ 38 }
     ensures digits { result.1 < 64 }
     ensures first { (result.0 ≡ 0) ⊎ (32 ≤ result.1) }
 {
-    if place < 64 {
-        return (0, place);
+    if index < 64 {
+        return (0, index);
     }
-    let after = place / 32 - 1;
-    (after, place - 32 * after)
+    let after = index / 32 - 1;
+    (after, index - 32 * after)
 }
 
 /// The bucket that the number with rank `due` is in, by the counts of the buckets; the number of buckets if none has it.

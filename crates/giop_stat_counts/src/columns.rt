@@ -57,7 +57,7 @@ impl Sheet {
         let Some(line) = self.rows.last_mut() else {
             return Ok(());
         };
-        let place = line.cells.len();
+        let index = line.cells.len();
         let width = text.len();
         let is_counted = is_name && !text.is_empty()
             || !matches!(text.as_slice(), b"" | b"0" | b"-");
@@ -68,7 +68,7 @@ impl Sheet {
                 width,
                 is_shown: false,
             })?;
-        } else if let Some(column) = self.columns.get_mut(place) {
+        } else if let Some(column) = self.columns.get_mut(index) {
             column.width = column.width.max(width);
             column.is_shown |= is_counted;
         }

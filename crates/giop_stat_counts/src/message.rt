@@ -87,8 +87,8 @@ fn put_number<I: itoa::Integer>(text: &mut Vec<u8>, number: I) -> Result<(), All
 /// Appends bits as this number of hexadecimal digits.
 fn put_bits(text: &mut Vec<u8>, bits: u64, count: u32) -> Result<(), AllocError> {
     let digits = b"0123456789abcdef";
-    for place in 0..count.min(16) {
-        let after = count.min(16) - 1 - place;
+    for index in 0..count.min(16) {
+        let after = count.min(16) - 1 - index;
         text.push(digits[(bits >> (4 * after) & 15) as usize])?;
     }
     Ok(())

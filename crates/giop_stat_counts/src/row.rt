@@ -130,10 +130,10 @@ impl Row {
 
     /// Counts exceptions with a repository id that came before. Returns whether it came before.
     fn count_known(&mut self, id: &[u8], count: u64) -> bool {
-        let Some(place) = self.ids.iter().position(|known| known.0.as_slice() == id) else {
+        let Some(index) = self.ids.iter().position(|known| known.0.as_slice() == id) else {
             return false;
         };
-        if let Some(known) = self.ids.get_mut(place) {
+        if let Some(known) = self.ids.get_mut(index) {
             known.1 = known.1.saturating_add(count);
         }
         true

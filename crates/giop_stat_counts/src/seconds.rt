@@ -1,7 +1,7 @@
 //! Seconds with nine digits after the point, and how many nanoseconds they are.
 
 ghost use Rattle.std.specs.Prelude.{◌≡◌, ◌+◌, ◌++◌, ◌/◌, ◌^◌, ◌<◌, OnOk};
-ghost use Rattle.giop_stat_counts.specs.Seconds.{fraction, places};
+ghost use Rattle.giop_stat_counts.specs.Seconds.{fraction, indexs};
 
 use std::alloc::AllocError;
 
@@ -68,12 +68,12 @@ fn put_fraction(text: &mut Vec<u8>, number: u128, parts: u64) -> Result<(), Allo
     let mut buffer = itoa::Buffer::new();
     text.extend_from_slice(buffer.format(number / parts).as_bytes())?;
     text.extend_from_slice(b".")?;
-    put_places(text, parts + number % parts)
+    put_indexs(text, parts + number % parts)
 }
 
 /// Appends the decimal digits of a number after the first one.
-fn put_places(text: &mut Vec<u8>, number: u128) -> Result<(), AllocError>
-    ensures { OnOk result (text.new.items ≡ text.old.items ++ places number) }
+fn put_indexs(text: &mut Vec<u8>, number: u128) -> Result<(), AllocError>
+    ensures { OnOk result (text.new.items ≡ text.old.items ++ indexs number) }
 {
     let mut buffer = itoa::Buffer::new();
     let digits = buffer.format(number).as_bytes();

@@ -8,7 +8,7 @@ use crate::text_rows::text_of_tables;
 use giop_lines::{Said, Value};
 use giop_print::Out;
 use giop_view_parts::{
-    Capture, Ending, Key, Kind, Maker, Message, Open, Stream, Streams, ViewFault,
+    Capture, Ending, Key, Kind, Maker, Message, Open, Stream, Streams, ViewError,
 };
 use lru::LruCache;
 use std::alloc::{AllocError, Global};
@@ -51,26 +51,26 @@ impl<'a> Stat<'a> {
             (Kind::Reply, Some(call)) => self.waiting.pop(&call),
             _ => None,
         };
-        let place = match called {
-            Some(place) => place,
-            None => self.tables.place(self.settings.by, stream, message)?,
+        let index = match called {
+            Some(index) => index,
+            None => self.tables.index(self.settings.by, stream, message)?,
         };
-        self.tables.add(place, stream, message)?;
-        self.await_reply(message, place)
+        self.tables.add(index, stream, message)?;
+        self.await_reply(message, index)
     }
 
     /// Notes the row of a call that expects a reply.
     fn await_reply(
         &mut self,
         message: &Message<Counted>,
-        place: Option<usize>,
+        index: Option<usize>,
     ) -> Result<(), AllocError> {
         let facts = &message.facts;
         let is_call = facts.kind() == Kind::Request && !facts.operation.is_empty();
         if !is_call || facts.is_oneway || message.key.stream == 0 {
             return Ok(());
         }
-        self.waiting.put(message.key, place)?;
+        self.waiting.put(message.key, index)?;
         if self.waiting.len() > WAITING_MAX {
             let _ = self.waiting.pop_lru();
         }
@@ -100,7 +100,7 @@ impl Maker for Stat<'_> {
         streams: &Streams,
         open: &mut Open<Counted>,
         message: Box<Message<Counted>>,
-    ) -> Result<(), ViewFault> {
+    ) -> Result<(), ViewError> {
         if let Some(stream) = streams.get(message.key.stream) {
             self.count(stream, &message)?;
         }
@@ -113,7 +113,7 @@ impl Maker for Stat<'_> {
         _out: &mut O,
         stream: &Stream,
         said: Said<'_>,
-    ) -> Result<(), ViewFault> {
+    ) -> Result<(), ViewError> {
         self.capture.take(said)?;
         match said {
             Said::Stream(_) => self.tables.talks.begin(stream)?,
@@ -135,14 +135,14 @@ impl Maker for Stat<'_> {
         stream: &Stream,
         ending: Ending,
         _open: &mut Open<Counted>,
-    ) -> Result<(), ViewFault> {
+    ) -> Result<(), ViewError> {
         if ending.is_over {
             self.tables.talks.end(stream.connection)?;
         }
         Ok(())
     }
 
-    fn finish<O: Out>(&mut self, out: &mut O, _open: &mut Open<Counted>) -> Result<(), ViewFault> {
+    fn finish<O: Out>(&mut self, out: &mut O, _open: &mut Open<Counted>) -> Result<(), ViewError> {
         let text = if self.settings.is_json {
             json_of(self.alloc, self.settings.by, &self.tables, &self.capture)?
         } else {
@@ -157,7 +157,7 @@ impl Maker for Stat<'_> {
         _out: &mut O,
         _streams: &Streams,
         _open: &mut Open<Counted>,
-    ) -> Result<(), ViewFault> {
+    ) -> Result<(), ViewError> {
         Ok(())
     }
 }

@@ -39,9 +39,9 @@ impl Table {
     }
 
     /// The index of the row with these names; None if the row is counted with the others.
-    pub(crate) fn place(&mut self, names: &str) -> Result<Option<usize>, AllocError> {
-        if let Some(place) = self.rows.get_index_of(names) {
-            return Ok(Some(place));
+    pub(crate) fn index(&mut self, names: &str) -> Result<Option<usize>, AllocError> {
+        if let Some(index) = self.rows.get_index_of(names) {
+            return Ok(Some(index));
         }
         if self.rows.len() >= ROWS_MAX {
             if self.others.is_none() {
@@ -50,14 +50,14 @@ impl Table {
             return Ok(None);
         }
         let name = String::from_str(self.alloc, names)?;
-        let (place, _) = self.rows.insert_full(name, Row::new(self.alloc, true))?;
-        Ok(Some(place))
+        let (index, _) = self.rows.insert_full(name, Row::new(self.alloc, true))?;
+        Ok(Some(index))
     }
 
     /// The row at this index, or the row of all others.
-    pub(crate) fn row(&mut self, place: Option<usize>) -> Option<&mut Row> {
-        match place {
-            Some(place) => self.rows.get_index_mut(place),
+    pub(crate) fn row(&mut self, index: Option<usize>) -> Option<&mut Row> {
+        match index {
+            Some(index) => self.rows.get_index_mut(index),
             None => match &mut self.others {
                 None => None,
                 Some(row) => Some(row),

@@ -37,7 +37,7 @@ impl Tables {
     }
 
     /// The index of the operation's row for a message that isn't a reply to a call.
-    pub(crate) fn place(
+    pub(crate) fn index(
         &mut self,
         by: Option<By<'_>>,
         stream: &Stream,
@@ -61,42 +61,42 @@ impl Tables {
                 By::Object | By::Path(_) => shown_text(&message.own.value),
             })?;
         }
-        self.operations.place(&self.names)
+        self.operations.index(&self.names)
     }
 
     /// The index of the operation's row for what belongs to no message.
-    fn place_of_none(&mut self, by: Option<By<'_>>) -> Result<Option<usize>, AllocError> {
+    fn index_of_none(&mut self, by: Option<By<'_>>) -> Result<Option<usize>, AllocError> {
         self.names.clear();
         self.names.push('\n')?;
         self.names.push_str(NONE)?;
         if by.is_some() {
             self.names.push('\n')?;
         }
-        self.operations.place(&self.names)
+        self.operations.index(&self.names)
     }
 
     /// The index of the pair's row for the endpoints of a stream.
-    fn place_of_ends(&mut self, stream: &Stream) -> Result<Option<usize>, AllocError> {
+    fn index_of_ends(&mut self, stream: &Stream) -> Result<Option<usize>, AllocError> {
         let (client, server) = stream.ends();
         self.names.clear();
         self.names
             .push_str(known(Endpoint::of(shown_text(client)).address))?;
         self.names.push('\n')?;
         self.names.push_str(known(shown_text(server)))?;
-        self.pairs.place(&self.names)
+        self.pairs.index(&self.names)
     }
 
     /// Counts a message in the row of its operation at this index, in the row of its pair, and in the row of its
     /// connection.
     pub(crate) fn add(
         &mut self,
-        place: Option<usize>,
+        index: Option<usize>,
         stream: &Stream,
         message: &Message<Counted>,
     ) -> Result<(), AllocError> {
-        let pair = self.place_of_ends(stream)?;
+        let pair = self.index_of_ends(stream)?;
         let time = nanoseconds(&message.facts.seconds);
-        add_to(self.operations.row(place), message, time)?;
+        add_to(self.operations.row(index), message, time)?;
         add_to(self.pairs.row(pair), message, time)?;
         add_to(self.talks.row(stream.connection), message, time)
     }
@@ -108,9 +108,9 @@ impl Tables {
         stream: &Stream,
         is_gap: bool,
     ) -> Result<(), AllocError> {
-        let place = self.place_of_none(by)?;
-        let pair = self.place_of_ends(stream)?;
-        add_loss_to(self.operations.row(place), is_gap);
+        let index = self.index_of_none(by)?;
+        let pair = self.index_of_ends(stream)?;
+        add_loss_to(self.operations.row(index), is_gap);
         add_loss_to(self.pairs.row(pair), is_gap);
         add_loss_to(self.talks.row(stream.connection), is_gap);
         Ok(())

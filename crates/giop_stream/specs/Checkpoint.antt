@@ -19,8 +19,8 @@ use Rattle.giop_checkpoint.specs.declared.fault.LoadFault.{LoadFault}
 use Rattle.giop_checkpoint.specs.declared.fault.LoadFault.TheVariants as refusals
 use Rattle.giop_checkpoint.specs.declared.fixed.Counts.{Counts}
 use Rattle.giop_checkpoint.specs.declared.fixed.Fixed.{Fixed}
-use Rattle.giop_checkpoint.specs.declared.fixed.Place.{Place}
-use Rattle.giop_checkpoint.specs.declared.fixed.Place.TheVariants.{Header, Payload, Stopped}
+use Rattle.giop_checkpoint.specs.declared.fixed.NextOctet.{NextOctet}
+use Rattle.giop_checkpoint.specs.declared.fixed.NextOctet.TheVariants.{Header, Payload, Stopped}
 use Rattle.giop_checkpoint.specs.declared.record.RecordKind.{RecordKind}
 use Rattle.giop_checkpoint.specs.declared.record.RecordKind.TheVariants as record_kinds
 use Rattle.giop_checkpoint.specs.Layouts.{OpenHasRange, layout_of, reads}
@@ -52,7 +52,7 @@ counts_of C l = record {
 
 -- the place of the next octet: after a stream fault; in a header, if fewer than 12 octets are held;
 -- or in a payload
-abbrev pub place_of : Option StreamFault → List ℕ → ℕ → Place
+abbrev pub place_of : Option StreamFault → List ℕ → ℕ → NextOctet
 place_of (Some fault) header payload_count = Stopped fault
 place_of None header payload_count =
     if nat_lt (length header) 12 then Header (record { items = header }) else Payload header

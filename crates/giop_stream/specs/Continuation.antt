@@ -10,7 +10,7 @@ use Rattle.giop_message.specs.ReaderOfTable.{message_reader}
 use Rattle.giop_stream.specs.declared.slots.Slots.{Slots}
 use Rattle.giop_stream.specs.declared.current.Current.{Current}
 use Rattle.giop_stream.specs.declared.fragment.Continuation.{Continuation}
-use Rattle.giop_stream.specs.Framing.{Message, with_payload}
+use Rattle.giop_stream.specs.Framing.{CutMessage, with_payload}
 use Rattle.giop_stream.specs.Events.{MessageKey, Rising, id, events_of_octet}
 use Rattle.giop_stream.specs.Effects.{Effect, effects, line_effect, starts, with_octet}
 use Rattle.giop_stream.specs.OpenSlots.{Tracked}
@@ -38,7 +38,7 @@ pub record IsContinuation (front octets : List ℕ) (s : Slots) (found : Continu
 -- The slots represent what is tracked when the request id of a Fragment is complete, and it makes
 -- no difference which message owns the octets until then.
 pub record IsContinuing (C : Table) (l : Answers) (s : Slots) (c : Tracked)
-    (owner : Option MessageKey) (m : Message) (now : Current) : Type 0 where
+    (owner : Option MessageKey) (m : CutMessage) (now : Current) : Type 0 where
   pub keeps : SlotsRepresent C l s c owner
   pub rising : Rising c.still_open
   pub current : IsCurrent now m
@@ -46,7 +46,7 @@ pub record IsContinuing (C : Table) (l : Answers) (s : Slots) (c : Tracked)
 
 -- The slots represent what is tracked before the last octet x of a Fragment's request id, without
 -- the Fragment itself.
-pub record IsBeforeContinuation (C : Table) (l : Answers) (s : Slots) (c : Tracked) (m : Message)
+pub record IsBeforeContinuation (C : Table) (l : Answers) (s : Slots) (c : Tracked) (m : CutMessage)
     (now : Current) (x : ℕ) (found : Continuation) : Type 0 where
   pub keeps : SlotsRepresent C l s c None
   pub before : IsBeforeOctet c m now x
@@ -57,7 +57,7 @@ pub record IsBeforeContinuation (C : Table) (l : Answers) (s : Slots) (c : Track
 
 -- what the last octet of a Fragment's header and the octets of its request id do: the message
 -- starts, and the last octet does what its events do
-abbrev pub continuation_effect : Table → Answers → ℕ → Tracked → Message → ℕ → Effect
+abbrev pub continuation_effect : Table → Answers → ℕ → Tracked → CutMessage → ℕ → Effect
 continuation_effect C l most c m x =
     line_effect (starts (with_payload m []))
     (effects (message_reader C l) c (events_of_octet most c.still_open (with_octet m x)))

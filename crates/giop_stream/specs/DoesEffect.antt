@@ -7,7 +7,7 @@ use Rattle.giop_message.specs.declared.message.Message.{Message as CodeMessage}
 use Rattle.giop_message.specs.Signatures.{Answers}
 use Rattle.giop_stream.specs.declared.slots.Slots.{Slots}
 use Rattle.giop_stream.specs.Events.{MessageKey}
-use Rattle.giop_stream.specs.Lines.{Line}
+use Rattle.giop_stream.specs.Lines.{StreamLine}
 use Rattle.giop_stream.specs.Text.{lines_text}
 use Rattle.giop_stream.specs.Stream.{fault_count}
 use Rattle.giop_stream.specs.Effects.{Effect, Part}
@@ -16,7 +16,7 @@ use Rattle.giop_stream.specs.SlotsRepresent.{RepresentsMessage, SlotsRepresent}
 -- The call writes these lines, and its result counts the faults among them. If it doesn't fail,
 -- `leaves` holds after it.
 pub record WritesAndLeaves {A E : Type 0} (count : A → ℕ) (result : Result A E)
-    (before after : OutLog) (ls : List Line) (leaves : Type 0) : Type 0 where
+    (before after : OutLog) (ls : List StreamLine) (leaves : Type 0) : Type 0 where
   pub text : Writes result before after (lines_text ls)
   pub faults : IfOk result (λ x. fault_count ls ≡ count x)
   pub kept : OnOk result leaves
@@ -49,6 +49,6 @@ DoesPart C l count result before after message w part =
     (RepresentsMessage C l message w part.octets)
 
 -- The call writes only lines: nothing is kept.
-abbrev pub WritesLines : {A E : Type 0} → (A → ℕ) → Result A E → OutLog → OutLog → List Line →
+abbrev pub WritesLines : {A E : Type 0} → (A → ℕ) → Result A E → OutLog → OutLog → List StreamLine →
     Type 0
 WritesLines count result before after ls = WritesAndLeaves count result before after ls (Unit {0})

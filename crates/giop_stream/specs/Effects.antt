@@ -7,16 +7,16 @@ use Rattle.giop_message.specs.MessageReader.{MessageReader}
 use Rattle.giop_message.specs.ReaderOfTable.{message_reader}
 use Rattle.giop_message.specs.Signatures.{Answers}
 use Rattle.giop_stream.specs.Events.{EventKind, Begins, Takes, Opens, Continues, Cancelled, Faults, Closes, MessageKey, Event, Open, place, octet, changed, joined}
-use Rattle.giop_stream.specs.Lines.{Line, Started, ContinuesMessage, lines_of_event, is_last_of, up_to_last_line}
-use Rattle.giop_stream.specs.Framing.{Message, with_payload}
+use Rattle.giop_stream.specs.Lines.{StreamLine, Started, ContinuesMessage, lines_of_event, is_last_of, up_to_last_line}
+use Rattle.giop_stream.specs.Framing.{CutMessage, with_payload}
 use Rattle.giop_stream.specs.OpenSlots.{OctetsByNumber, Tracked}
 
 pub record Effect : Type 0 where
   pub tracked : Tracked
-  pub lines : List Line
+  pub lines : List StreamLine
 
 -- the lines of an event, by what is kept of its message
-unfoldable pub lines_for : MessageReader → Event → Option (List ℕ) → List Line
+unfoldable pub lines_for : MessageReader → Event → Option (List ℕ) → List StreamLine
 lines_for R e None = []
 lines_for R e (Some xs) = lines_of_event R e xs (xs ++ joined e.subject.number (e ∷ [])) e.what
 
@@ -25,11 +25,11 @@ lines_for R e (Some xs) = lines_of_event R e xs (xs ++ joined e.subject.number (
 unfoldable pub kept_with : OctetsByNumber → List Event → OctetsByNumber
 kept_with known es i = option_map (λ xs. xs ++ joined i es) (known i)
 
-unfoldable pub kept_after : OctetsByNumber → List Line → OctetsByNumber
+unfoldable pub kept_after : OctetsByNumber → List StreamLine → OctetsByNumber
 kept_after known ls i = if list_any (is_last_of i) ls then None else known i
 
 -- what one event does: its lines up to the message's last line, and what is kept after it
-unfoldable pub lines_at : MessageReader → OctetsByNumber → Event → List Line
+unfoldable pub lines_at : MessageReader → OctetsByNumber → Event → List StreamLine
 lines_at R known e = up_to_last_line (λ i. false) (lines_for R e (known e.subject.number))
 
 unfoldable pub tracked_at : MessageReader → Tracked → Event → Tracked
@@ -47,19 +47,19 @@ effects R c (e ∷ es) =
 
 -- While the request id of a message is read, fewer octets are kept of the message than its payload
 -- has with this octet.
-abbrev pub IsBegun : OctetsByNumber → Message → Type 0
+abbrev pub IsBegun : OctetsByNumber → CutMessage → Type 0
 IsBegun known m = 0 < length m.payload → length m.payload ≤ 4 → (xs : List ℕ) →
     known m.number ≡ Some xs → length xs < length m.payload
 
 -- ---- An octet of a stream.
 
 -- the current message, with its next octet
-abbrev pub with_octet : Message → ℕ → Message
+abbrev pub with_octet : CutMessage → ℕ → CutMessage
 with_octet m x = with_payload m (m.payload ++ x ∷ [])
 
 -- ---- One message's part of an event: its lines, and its octets after it, unless it is over.
 
-unfoldable pub lines_of : MessageReader → Event → Option (List ℕ) → List Line
+unfoldable pub lines_of : MessageReader → Event → Option (List ℕ) → List StreamLine
 lines_of R e o = up_to_last_line (λ i. false) (lines_for R e o)
 
 unfoldable pub octets_then : MessageReader → Event → Option (List ℕ) → Option (List ℕ)
@@ -69,7 +69,7 @@ octets_then R e o = if list_any (is_last_of e.subject.number) (lines_of R e o) t
 -- the octets and the lines together
 pub record Part : Type 0 where
   pub octets : Option (List ℕ)
-  pub lines : List Line
+  pub lines : List StreamLine
 
 unfoldable pub part_of : MessageReader → Event → Option (List ℕ) → Part
 part_of R e o = record { octets = octets_then R e o; lines = lines_of R e o }
@@ -127,11 +127,11 @@ effect_to C l at c None what = no_effect c
 effect_to C l at c (Some w) what = one_effect (message_reader C l) c at w what
 
 -- an effect with this line before its own
-abbrev pub line_effect : Line → Effect → Effect
+abbrev pub line_effect : StreamLine → Effect → Effect
 line_effect line effect = record { tracked = effect.tracked; lines = line ∷ effect.lines }
 
 -- the line of a Fragment that continues an open message
-abbrev pub goes_on : Message → Open → Line
+abbrev pub goes_on : CutMessage → Open → StreamLine
 goes_on m o = record {
   place = place m;
   number = m.number;
@@ -140,5 +140,5 @@ goes_on m o = record {
 }
 
 -- the start line of a message
-abbrev pub starts : Message → Line
+abbrev pub starts : CutMessage → StreamLine
 starts m = record { place = place m; number = m.number; content = Started m.header }

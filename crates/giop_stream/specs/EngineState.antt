@@ -6,7 +6,7 @@ use Rattle.giop_stream.specs.Rules.{Rules}
 use Rattle.giop_message.specs.Headers.{size}
 use Rattle.giop_checkpoint.specs.declared.fault.StreamFault.{StreamFault}
 use Rattle.giop_stream.specs.declared.status.Totals.{Totals}
-use Rattle.giop_stream.specs.Framing.{Message, cut, fault_of}
+use Rattle.giop_stream.specs.Framing.{CutMessage, cut, fault_of}
 use Rattle.giop_stream.specs.Events.{MessageKey, Open, message_key, opener_of, has_named, open_after}
 use Rattle.giop_stream.specs.Stream.{tally}
 use Rattle.giop_stream.specs.OpenSlots.{Tracked, tracked_after}
@@ -29,17 +29,17 @@ opener_key (Some o) = Some o.opener
 
 -- The owner of the next octet, if these messages are open. After a Fragment has its place among
 -- them, it is the message that the Fragment continues.
-unfoldable pub owner_of_next : List Open → Message → Option MessageKey
+unfoldable pub owner_of_next : List Open → CutMessage → Option MessageKey
 owner_of_next still_open m = if has_named m then opener_key (opener_of still_open m) else Some
     (message_key m)
 
-abbrev pub owner_of_next_in : List Open → Option Message → Option MessageKey
+abbrev pub owner_of_next_in : List Open → Option CutMessage → Option MessageKey
 owner_of_next_in still_open None = None
 owner_of_next_in still_open (Some m) = owner_of_next still_open m
 
 -- ---- Of a stream.
 
-abbrev pub left_of : Option Message → ℕ
+abbrev pub left_of : Option CutMessage → ℕ
 left_of None = 0
 left_of (Some m) = size m.header - length m.payload
 

@@ -10,7 +10,7 @@ use Rattle.giop_stream.specs.Kinds.{is_old, is_any_fragment, named_at}
 use Rattle.giop_checkpoint.specs.declared.fault.StreamFault.{StreamFault}
 use Rattle.giop_stream.specs.declared.status.Totals.{Totals}
 use Rattle.giop_stream.specs.Events.{MessageKey, Event, Open, Now, open_under, events_with_key}
-use Rattle.giop_stream.specs.Lines.{Line, stop_line}
+use Rattle.giop_stream.specs.Lines.{StreamLine, stop_line}
 use Rattle.giop_stream.specs.Stream.{fault_count, with_truncated}
 use Rattle.giop_stream.specs.Text.{truncated_line}
 use Rattle.giop_stream.specs.OpenSlots.{is_open, Tracked, slots_at, left_by, left_open}
@@ -20,7 +20,7 @@ use Rattle.giop_stream.specs.EngineState.{State, opener_key}
 
 pub record Step : Type 0 where
   pub state : State
-  pub lines : List Line
+  pub lines : List StreamLine
 
 -- before the first octet: no message is open, and no octet of any message has come
 unfoldable pub fresh : State
@@ -131,7 +131,7 @@ step_by R s (Of now) = stepped s now (effects R.reading s.tracked (events_at R.m
 unfoldable pub step : Rules → State → ℕ → Step
 step R s x = step_by R s (octet_at s x)
 
-unfoldable pub run : Rules → State → List ℕ → List Line
+unfoldable pub run : Rules → State → List ℕ → List StreamLine
 run R s [] = []
 run R s (x ∷ xs) = let one = step R s x in one.lines ++ run R one.state xs
 

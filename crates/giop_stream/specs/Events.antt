@@ -10,7 +10,7 @@ use Rattle.giop_stream.specs.declared.fault.FramingFault.{FramingFault}
 use Rattle.giop_stream.specs.declared.fault.FramingFault.TheVariants.{OldFragment, Short, NoOpen, IdOpen, TooManyOpen, FragmentOrder}
 use Rattle.giop_stream.specs.HeaderOctets.{fronts}
 use Rattle.giop_message.specs.Headers.{order, has_more, size, is_cancel}
-use Rattle.giop_stream.specs.Framing.{Message, with_payload, cut, messages}
+use Rattle.giop_stream.specs.Framing.{CutMessage, with_payload, cut, messages}
 use Rattle.giop_stream.specs.Kinds.{is_old, has_fragments, is_any_fragment, is_short, named_at, may_be_cancelled, refused}
 
 -- what an octet may do to a message
@@ -38,10 +38,10 @@ pub record Open : Type 0 where
   pub key : Option ℕ
   pub opener : MessageKey
 
-abbrev pub message_key : Message → MessageKey
+abbrev pub message_key : CutMessage → MessageKey
 message_key m = record { number = m.number; header = m.header }
 
-unfoldable pub place : Message → ℕ
+unfoldable pub place : CutMessage → ℕ
 place m = m.before + 12 + length m.payload
 
 -- an octet of a message: the last one of its header, or one of its payload
@@ -52,7 +52,7 @@ pub record Now : Type 0 where
   pub octet : ℕ
 
 -- a message at its last octet that has come
-abbrev pub now_of : Message → Now
+abbrev pub now_of : CutMessage → Now
 now_of m = record {
   subject = message_key m;
   place = place m;
@@ -82,7 +82,7 @@ fault_events now (Some fault) = own now (Faults fault)
 unfoldable pub header_events : Now → List Event
 header_events now = own now Begins ++ fault_events now (refused now.subject.header)
 
--- ---- An octet of the payload. After a Fragment has its place among the open messages, its octets
+-- ---- An octet of the payload. After a Fragment was looked for among the open messages, its octets
 -- belong to the message that it continues.
 
 unfoldable pub payload_events : Now → Option Open → List Event
@@ -91,7 +91,7 @@ payload_events now other =
     && nat_lt (named_at now.subject.header) now.payload_count
     then event_of_open now other (Takes now.octet) else own now (Takes now.octet)
 
--- ---- The octet with which a message has its place among the open messages: the fourth one of its
+-- ---- The octet with which a message is looked for among the open messages: the fourth one of its
 -- payload, which completes the request id; or, in 1.1, the last one of its header.
 
 -- the events of a message that Fragments continue, if this number of messages may be open at once
@@ -159,10 +159,10 @@ events_with_key most still_open now key other =
 -- ---- The same for a message at its last octet that has come, if these messages were open before
 -- that octet.
 
-unfoldable pub id : Message → ℕ
+unfoldable pub id : CutMessage → ℕ
 id m = num (order m.header) (take 4 m.payload)
 
-unfoldable pub key : Message → Option ℕ
+unfoldable pub key : CutMessage → Option ℕ
 key m = if is_old m.header then None else Some (id m)
 
 -- whether a key is this request id
@@ -175,37 +175,37 @@ abbrev pub open_under : List Open → Option ℕ → Option Open
 open_under still_open None = None
 open_under still_open (Some id) = find (λ o. is_id id o.key) still_open
 
-unfoldable pub opener_of : List Open → Message → Option Open
+unfoldable pub opener_of : List Open → CutMessage → Option Open
 opener_of still_open m = open_under still_open (key m)
 
--- whether a message is a Fragment that has its place among the open messages
-unfoldable pub has_named : Message → Bool
+-- whether a message is a Fragment that was looked for among the open messages
+unfoldable pub has_named : CutMessage → Bool
 has_named m = is_any_fragment m.header && nat_le (named_at m.header) (length m.payload)
 
 -- whether a message is a Fragment with octets that belong to the message that it continues
-unfoldable pub goes_past : Message → Bool
+unfoldable pub goes_past : CutMessage → Bool
 goes_past m = is_any_fragment m.header && nat_lt (named_at m.header) (length m.payload)
 
-abbrev pub events_at_header : Message → List Event
+abbrev pub events_at_header : CutMessage → List Event
 events_at_header m = header_events (now_of m)
 
-abbrev pub events_at_octet : List Open → Message → List Event
+abbrev pub events_at_octet : List Open → CutMessage → List Event
 events_at_octet still_open m = payload_events (now_of m) (opener_of still_open m)
 
-abbrev pub events_at_name : ℕ → List Open → Message → List Event
+abbrev pub events_at_name : ℕ → List Open → CutMessage → List Event
 events_at_name most still_open m =
     naming_events most still_open (now_of m) (key m) (opener_of still_open m)
 
-abbrev pub events_at_end : List Open → Message → List Event
+abbrev pub events_at_end : List Open → CutMessage → List Event
 events_at_end still_open m = message_end_events (now_of m) (opener_of still_open m)
 
-unfoldable pub events_of_octet : ℕ → List Open → Message → List Event
+unfoldable pub events_of_octet : ℕ → List Open → CutMessage → List Event
 unfolding events_with_key
 events_of_octet most still_open m = events_with_key most still_open (now_of m) (key m)
     (opener_of still_open m)
 
 -- all that the octets of m do, from the last octet of its header on
-unfoldable pub events_of : ℕ → List Open → Message → List Event
+unfoldable pub events_of : ℕ → List Open → CutMessage → List Event
 events_of most still_open m =
     flat_map (λ front. events_of_octet most still_open (with_payload m front)) (fronts m.payload)
 
@@ -226,7 +226,7 @@ opened still_open [] = still_open
 opened still_open (e ∷ es) = opened (changed still_open e.subject e.what) es
 
 -- the events of these messages, if these others were open before the first of them
-unfoldable pub events_from : ℕ → List Open → List Message → List Event
+unfoldable pub events_from : ℕ → List Open → List CutMessage → List Event
 events_from most still_open [] = []
 events_from most still_open (m ∷ ms) =
     let es = events_of most still_open m in

@@ -6,22 +6,22 @@ use Rattle.giop_checkpoint.specs.declared.fault.StreamFault.TheVariants.{StreamL
 use Rattle.giop_stream.specs.HeaderOctets.{first_wrong_octet}
 use Rattle.giop_message.specs.Headers.{size}
 
-pub record Message : Type 0 where
+pub record CutMessage : Type 0 where
   pub number : ℕ  -- from 1
   pub before : ℕ  -- how many octets of the stream come before it
   pub header : List ℕ  -- its 12 octets
   pub payload : List ℕ  -- the octets of its payload that have come
 
-abbrev pub with_payload : Message → List ℕ → Message
+abbrev pub with_payload : CutMessage → List ℕ → CutMessage
 with_payload m xs = record m { payload = xs }
 
 pub record Cut : Type 0 where
-  pub whole : List Message  -- the messages that are complete
-  pub current : Option Message  -- the last one, if it is incomplete
+  pub whole : List CutMessage  -- the messages that are complete
+  pub current : Option CutMessage  -- the last one, if it is incomplete
   pub held : List ℕ  -- the octets of the next header that have come
   pub stop : Option (ℕ × StreamFault)  -- the stream fault, with the place of its octet
 
-unfoldable pub with_first : Message → Cut → Cut
+unfoldable pub with_first : CutMessage → Cut → Cut
 with_first m c = record c { whole = m ∷ c.whole }
 
 -- The rest of the stream, cut into at most `fuel` messages. The next message has the number
@@ -78,7 +78,7 @@ limited true c = stop_or_limit c.stop c
 unfoldable pub cut : List ℕ → Cut
 cut p = limited (nat_lt limit (length p)) (cut_from (suc (length p)) 1 0 (take limit p))
 
-unfoldable pub messages : Cut → List Message
+unfoldable pub messages : Cut → List CutMessage
 messages c = c.whole ++ option_to_list c.current
 
 -- how many octets are read, with the octet of a stream fault
@@ -92,7 +92,7 @@ fault_of (Some found) = Some found.1
 
 -- how many octets are missing until the end of the message that a stream is in, by the stream
 -- fault, the last message, and what is held of the next header
-abbrev pub lacking_by : Option (ℕ × StreamFault) → Option Message → List ℕ → Option ℕ
+abbrev pub lacking_by : Option (ℕ × StreamFault) → Option CutMessage → List ℕ → Option ℕ
 lacking_by (Some found) current held = None
 lacking_by None (Some m) held = Some (size m.header - length m.payload)
 lacking_by None None [] = Some 0

@@ -5,7 +5,7 @@ use Rattle.std.specs.Prelude.{ℕ, List, [], ◌∷◌, ◌++◌, length, Option
 use Rattle.giop_message.specs.Phases.{unbroken}
 use Rattle.giop_message.specs.HeaderEnds.{HeaderEnd, header_ends}
 use Rattle.giop_stream.specs.Rules.{Rules}
-use Rattle.giop_stream.specs.Framing.{Message, limit, cut}
+use Rattle.giop_stream.specs.Framing.{CutMessage, limit, cut}
 use Rattle.giop_stream.specs.Events.{MessageKey, open_after}
 use Rattle.giop_stream.specs.OpenSlots.{Tracked, tracked_after}
 use Rattle.giop_stream.specs.EngineState.{owner_of_next}
@@ -23,7 +23,7 @@ owner_header_ends c (Some w) octets = run_header_ends w (c.known w.number) octet
 
 -- the same for octets of a payload after the stream p; they belong to the current message, or to
 -- the one that it continues
-abbrev pub current_header_ends : Rules → List ℕ → Option Message → List ℕ → List HeaderEnd
+abbrev pub current_header_ends : Rules → List ℕ → Option CutMessage → List ℕ → List HeaderEnd
 current_header_ends R p None octets = []
 current_header_ends R p (Some m) octets =
     owner_header_ends (tracked_after R p) (owner_of_next (open_after R.most p) m) octets

@@ -33,7 +33,7 @@ is_any_fragment header = is_fragment header || is_old_fragment header
 abbrev pub has_place : List ℕ → Bool
 has_place header = has_fragments header || is_any_fragment header || is_cancel header
 
--- After how many octets of its payload a message has its place among the open ones: after the four
+-- After how many octets of its payload a message is looked for among the open ones: after the four
 -- of its request id; but in 1.1 with the last octet of its header.
 unfoldable pub named_at : List ℕ → ℕ
 named_at header = if is_old header then 0 else 4

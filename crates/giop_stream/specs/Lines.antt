@@ -55,21 +55,22 @@ class_of (CancelledBy j) = Cancelling
 class_of (Faulted fault) = FramingFaultClass
 class_of (Stopped fault) = Stop
 
-pub record Line : Type 0 where
+pub record StreamLine : Type 0 where
   pub place : ℕ
   pub number : ℕ  -- the number of the message; 0 for the stream
   pub content : Content
 
-abbrev pub has_class : Class → Line → Bool
+abbrev pub has_class : Class → StreamLine → Bool
 has_class c l = is_of c (class_of l.content)
 
 -- a line of this event, with this content
-unfoldable pub line : Event → Content → Line
+unfoldable pub line : Event → Content → StreamLine
 line e content = record { place = e.place; number = e.subject.number; content = content }
 
 -- The lines of one event. Its message has the octets `so_far` before the event, and the octets
 -- `all` in the whole stream.
-unfoldable pub lines_of_event : MessageReader → Event → List ℕ → List ℕ → EventKind → List Line
+unfoldable pub lines_of_event : MessageReader → Event → List ℕ → List ℕ → EventKind →
+    List StreamLine
 lines_of_event R e so_far all Begins = line e (Started e.subject.header) ∷ []
 lines_of_event R e so_far all (Takes x) =
     map (λ r. line e (Said r.line_class r.text))
@@ -84,7 +85,8 @@ lines_of_event R e so_far all Closes = map (λ l. line e (Said l.0 l.1))
 
 -- The lines of these events. The events before them are `past`, and those of the whole stream are
 -- `all`.
-unfoldable pub lines_of_events : MessageReader → List Event → List Event → List Event → List Line
+unfoldable pub lines_of_events : MessageReader → List Event → List Event → List Event →
+    List StreamLine
 lines_of_events R all past [] = []
 lines_of_events R all past (e ∷ es) =
     lines_of_event R e (joined e.subject.number past) (joined e.subject.number all) e.what
@@ -92,10 +94,10 @@ lines_of_events R all past (e ∷ es) =
 
 -- Lines in the order of their classes; and lines up to this place in the order of places, and at
 -- each place in the order of classes.
-unfoldable pub by_class : List Line → List Line
+unfoldable pub by_class : List StreamLine → List StreamLine
 by_class ls = flat_map (λ class. filter (has_class class) ls) classes
 
-unfoldable pub in_order : ℕ → List Line → List Line
+unfoldable pub in_order : ℕ → List StreamLine → List StreamLine
 in_order zero ls = []
 in_order (suc n) ls = in_order n ls ++ by_class (filter (λ l. l.place == suc n) ls)
 
@@ -108,28 +110,28 @@ ends (CancelledBy j) = true
 ends (Faulted fault) = true
 ends (Stopped fault) = false
 
-unfoldable pub is_last_of : ℕ → Line → Bool
+unfoldable pub is_last_of : ℕ → StreamLine → Bool
 is_last_of i l = (l.number == i) && ends l.content
 
 -- The lines of each message up to its first fault, cancelled line or end. There are none of a
 -- message for which `is_over` is true.
-unfoldable pub up_to_last_line : (ℕ → Bool) → List Line → List Line
+unfoldable pub up_to_last_line : (ℕ → Bool) → List StreamLine → List StreamLine
 up_to_last_line is_over [] = []
 up_to_last_line is_over (l ∷ ls) =
     if is_over l.number then up_to_last_line is_over ls
     else l ∷ up_to_last_line (λ i. is_over i || is_last_of i l) ls
 
 -- the lines of the messages
-unfoldable pub lines_of_messages : Rules → List ℕ → List Line
+unfoldable pub lines_of_messages : Rules → List ℕ → List StreamLine
 lines_of_messages R p =
     let all = events R.most p in
     up_to_last_line (λ i. false) (in_order (length p) (lines_of_events R.reading all [] all))
 
-unfoldable pub stop_line : Option (ℕ × StreamFault) → List Line
+unfoldable pub stop_line : Option (ℕ × StreamFault) → List StreamLine
 stop_line None = []
 stop_line (Some found) = record { place = found.0; number = 0; content = Stopped found.1 } ∷ []
 
 -- All lines of the stream. No octet after the octet of the stream fault belongs to a message, so
 -- the line of the stream fault is the last one.
-unfoldable pub lines : Rules → List ℕ → List Line
+unfoldable pub lines : Rules → List ℕ → List StreamLine
 lines R p = lines_of_messages R p ++ stop_line (cut p).stop

@@ -7,8 +7,8 @@ use Rattle.giop_message.specs.Headers.{size}
 use Rattle.giop_message.specs.Signatures.{Answers}
 use Rattle.giop_message.specs.declared.message.Message.{Message}
 use Rattle.giop_checkpoint.specs.declared.fault.StreamFault.{StreamFault}
-use Rattle.giop_checkpoint.specs.declared.fixed.Place.{Place}
-use Rattle.giop_checkpoint.specs.declared.fixed.Place.TheVariants.{Header, Payload, Stopped}
+use Rattle.giop_checkpoint.specs.declared.fixed.NextOctet.{NextOctet}
+use Rattle.giop_checkpoint.specs.declared.fixed.NextOctet.TheVariants.{Header, Payload, Stopped}
 use Rattle.giop_checkpoint.specs.declared.record.FirstRecord.{FirstRecord}
 use Rattle.giop_checkpoint.specs.Records.{Entry, entry_octets}
 use Rattle.giop_stream.specs.declared.slots.Slots.{Slots}
@@ -21,19 +21,19 @@ use Rattle.giop_stream.specs.Checkpoint.{IsOpen, IsCurrent, AreEntries}
 
 -- ---- the fixed part
 
-abbrev pub stop_in : Place → Option StreamFault
+abbrev pub stop_in : NextOctet → Option StreamFault
 stop_in (Header held) = None
 stop_in (Payload header left) = None
 stop_in (Stopped fault) = Some fault
 
 -- the header octets that were read until now
-abbrev pub header_in : Place → List ℕ
+abbrev pub header_in : NextOctet → List ℕ
 header_in (Header held) = held.items
 header_in (Payload header left) = header
 header_in (Stopped fault) = []
 
 -- how many payload octets were read
-abbrev pub payload_count_in : Place → ℕ
+abbrev pub payload_count_in : NextOctet → ℕ
 payload_count_in (Header held) = 0
 payload_count_in (Payload header left) = size header - left
 payload_count_in (Stopped fault) = 0

@@ -4,12 +4,12 @@ use Rattle.std.specs.Prelude.{ℕ, ◌+◌, Bool, true, false, not, ◌&&◌, �
 use Rattle.std.specs.List.{list_any}
 use Rattle.giop_checkpoint.specs.declared.fault.StreamFault.{StreamFault}
 use Rattle.giop_stream.specs.declared.status.Totals.{Totals}
-use Rattle.giop_stream.specs.Framing.{Message, Cut, cut, messages, read_of}
+use Rattle.giop_stream.specs.Framing.{CutMessage, Cut, cut, messages, read_of}
 use Rattle.giop_message.specs.MessageReader.{Value, Call, Rest, Fault, End}
 use Rattle.giop_stream.specs.Rules.{Rules}
 use Rattle.giop_print.specs.Lines.{unfinished_line, total_line}
 use Rattle.giop_stream.specs.Kinds.{is_any_fragment}
-use Rattle.giop_stream.specs.Lines.{Content, Started, Said, ContinuesMessage, CancelledBy, Faulted, Stopped, Line, is_last_of, lines_of_messages, lines}
+use Rattle.giop_stream.specs.Lines.{Content, Started, Said, ContinuesMessage, CancelledBy, Faulted, Stopped, StreamLine, is_last_of, lines_of_messages, lines}
 use Rattle.giop_stream.specs.Text.{lines_text, truncated_line}
 
 -- what is written of the stream p
@@ -36,10 +36,10 @@ is_fault (CancelledBy j) = false
 is_fault (Faulted fault) = true
 is_fault (Stopped fault) = true
 
-unfoldable pub start_count : List Line → ℕ
+unfoldable pub start_count : List StreamLine → ℕ
 start_count ls = length (filter (λ l. is_start l.content) ls)
 
-unfoldable pub fault_count : List Line → ℕ
+unfoldable pub fault_count : List StreamLine → ℕ
 fault_count ls = length (filter (λ l. is_fault l.content) ls)
 
 -- the totals of a stream: its start lines, its fault lines, and the octets that are read
@@ -53,7 +53,7 @@ tally R p =
     }
 
 -- Whether a stream ends inside a message or a header.
-unfoldable pub is_inside : Option Message → List ℕ → Option (ℕ × StreamFault) → Bool
+unfoldable pub is_inside : Option CutMessage → List ℕ → Option (ℕ × StreamFault) → Bool
 is_inside current held stop = is_none stop && (is_some current || nat_lt 0 (length held))
 
 unfoldable pub is_truncated : Cut → Bool
@@ -64,7 +64,7 @@ unfoldable pub is_over : Rules → List ℕ → ℕ → Bool
 is_over R p i = list_any (is_last_of i) (lines_of_messages R p)
 
 -- the numbers of the messages that aren't Fragments
-unfoldable pub first_messages : List Message → List ℕ
+unfoldable pub first_messages : List CutMessage → List ℕ
 first_messages ms = map (λ m. m.number) (filter (λ m. not (is_any_fragment m.header)) ms)
 
 -- the numbers of those that have neither ended nor been faulted or cancelled

@@ -9,7 +9,7 @@ use Rattle.giop_stream.specs.declared.fault.FramingFault.{FramingFault}
 use Rattle.giop_stream.specs.declared.fault.FramingFault.TheVariants.{MessageType, OldFragment, Short, NoOpen, IdOpen, TooManyOpen, FragmentOrder}
 use Rattle.giop_message.specs.Headers.{minor, order, kind, size, has_more}
 use Rattle.giop_message.specs.Text.{line_class_text}
-use Rattle.giop_stream.specs.Lines.{Content, Started, Said, ContinuesMessage, CancelledBy, Faulted, Stopped, Line}
+use Rattle.giop_stream.specs.Lines.{Content, Started, Said, ContinuesMessage, CancelledBy, Faulted, Stopped, StreamLine}
 
 abbrev pub stream_word : StreamFault → List ℕ
 stream_word Magic = codes "magic"
@@ -46,8 +46,8 @@ content_line place number (CancelledBy j) = cancelled_line number j
 content_line place number (Faulted fault) = fault_line number (framing_fault_word fault) place
 content_line place number (Stopped fault) = stop_text fault place
 
-abbrev pub line_text : Line → List ℕ
+abbrev pub line_text : StreamLine → List ℕ
 line_text l = content_line l.place l.number l.content
 
-unfoldable pub lines_text : List Line → List ℕ
+unfoldable pub lines_text : List StreamLine → List ℕ
 lines_text ls = flat_map line_text ls

@@ -8,7 +8,7 @@ ghost use Rattle.giop_message.specs.MessageState.{AreKnown};
 ghost use Rattle.giop_message.specs.Headers.{size, is_fragment, is_opener, is_cancel};
 ghost use Rattle.giop_stream.specs.Kinds.{is_old};
 ghost use Rattle.giop_stream.specs.Rules.{most_open};
-ghost use Rattle.giop_stream.specs.Framing.{Message, with_payload};
+ghost use Rattle.giop_stream.specs.Framing.{CutMessage, with_payload};
 ghost use Rattle.giop_stream.specs.Events.{MessageKey, Open, Rising, events_at_header, events_at_name, events_at_end, events_of_octet, message_key, opener_of};
 ghost use Rattle.giop_stream.specs.Effects.{effects, with_octet};
 ghost use Rattle.giop_stream.specs.OpenSlots.{Tracked};
@@ -36,8 +36,13 @@ use giop_print::{Out, OutFault, continues_line};
 use giop_sig::Catalogue;
 
 /// Opens a message with fragments, at its request id, or faults it.
-fn opens<O: Out>(slots: &mut Slots, now: Current, id: u32, out: &mut O) -> Result<bool, OutFault>
-    ensures does { (C : Table) (l : Answers) (c : Tracked) (m : Message) →
+fn open_message<O: Out>(
+    slots: &mut Slots,
+    now: Current,
+    id: u32,
+    out: &mut O,
+) -> Result<bool, OutFault>
+    ensures does { (C : Table) (l : Answers) (c : Tracked) (m : CutMessage) →
         IsAtRequestId C l slots.old c m now id →
         is_fragment m.header ≡ false → is_opener m.header ≡ true →
         DoesEffect C l one_if result (O.log out.old) (O.log out.new) slots.new
@@ -56,8 +61,13 @@ fn opens<O: Out>(slots: &mut Slots, now: Current, id: u32, out: &mut O) -> Resul
 }
 
 /// Closes the open message with this request id, at the request id of a CancelRequest.
-fn cancels<O: Out>(slots: &mut Slots, now: Current, id: u32, out: &mut O) -> Result<(), OutFault>
-    ensures does { (C : Table) (l : Answers) (c : Tracked) (m : Message) →
+fn cancel_message<O: Out>(
+    slots: &mut Slots,
+    now: Current,
+    id: u32,
+    out: &mut O,
+) -> Result<(), OutFault>
+    ensures does { (C : Table) (l : Answers) (c : Tracked) (m : CutMessage) →
         IsAtRequestId C l slots.old c m now id →
         is_fragment m.header ≡ false → is_opener m.header ≡ false → is_cancel m.header ≡ true →
         DoesEffect C l never result (O.log out.old) (O.log out.new) slots.new
@@ -76,7 +86,7 @@ fn cancels<O: Out>(slots: &mut Slots, now: Current, id: u32, out: &mut O) -> Res
 
 /// Faults a Fragment that continues no open message. The rest of its payload belongs to no message.
 fn fault_unopened<O: Out>(slots: &mut Slots, now: Current, out: &mut O) -> Result<bool, OutFault>
-    ensures does { (C : Table) (l : Answers) (c : Tracked) (m : Message) (id : ℕ) →
+    ensures does { (C : Table) (l : Answers) (c : Tracked) (m : CutMessage) (id : ℕ) →
         IsAtRequestId C l slots.old c m now id →
         is_fragment m.header ≡ true → opener_of c.still_open m ≡ None →
         DoesEffect C l one_if result (O.log out.old) (O.log out.new) slots.new
@@ -91,14 +101,15 @@ fn fault_unopened<O: Out>(slots: &mut Slots, now: Current, out: &mut O) -> Resul
 
 /// Makes a Fragment continue the open message at this index.
 #[tactic(auto, using(giop_print::proofs::Writing::writes_then, giop_print::proofs::Writing::writes_err))]
-pub fn passes<O: Out>(
+pub fn continue_message<O: Out>(
     slots: &mut Slots,
     k: usize,
     now: Current,
     out: &mut O,
 ) -> Result<bool, OutFault>
     requires { k < length slots.old.slots.entries }
-    ensures does { (C : Table) (l : Answers) (c : Tracked) (owner : Option MessageKey) (m : Message)
+    ensures does { (C : Table) (l : Answers) (c : Tracked) (owner : Option MessageKey) (m :
+        CutMessage)
         (o : Open) →
         IsContinuing C l slots.old c owner m now →
         is_fragment m.header ≡ true → opener_of c.still_open m ≡ Some o →
@@ -119,13 +130,13 @@ pub fn passes<O: Out>(
 }
 
 /// Takes the request id of a Fragment: the rest of its payload belongs to the open message with this id.
-fn continues<O: Out>(
+fn join_fragment<O: Out>(
     slots: &mut Slots,
     now: Current,
     id: u32,
     out: &mut O,
 ) -> Result<bool, OutFault>
-    ensures does { (C : Table) (l : Answers) (c : Tracked) (m : Message) →
+    ensures does { (C : Table) (l : Answers) (c : Tracked) (m : CutMessage) →
         IsAtRequestId C l slots.old c m now id → is_fragment m.header ≡ true →
         DoesEffect C l one_if result (O.log out.old) (O.log out.new) slots.new
         (effects (message_reader C l) c (events_at_name slots.old.slots.most c.still_open m))
@@ -133,19 +144,19 @@ fn continues<O: Out>(
     ensures room { KeepsRoom slots.old slots.new }
 {
     match slots.find(id) {
-        Some(k) => passes(slots, k, now, out),
+        Some(k) => continue_message(slots, k, now, out),
         None => fault_unopened(slots, now, out),
     }
 }
 
 /// Does what the last octet of a message's request id does. Returns whether a message is faulted.
-pub fn named<O: Out>(
+pub fn at_request_id<O: Out>(
     slots: &mut Slots,
     now: Current,
     id: u32,
     out: &mut O,
 ) -> Result<bool, OutFault>
-    ensures does { (C : Table) (l : Answers) (c : Tracked) (m : Message) →
+    ensures does { (C : Table) (l : Answers) (c : Tracked) (m : CutMessage) →
         IsAtRequestId C l slots.old c m now id →
         DoesEffect C l one_if result (O.log out.old) (O.log out.new) slots.new
         (effects (message_reader C l) c (events_at_name slots.old.slots.most c.still_open m))
@@ -153,28 +164,28 @@ pub fn named<O: Out>(
     ensures room { KeepsRoom slots.old slots.new }
 {
     if is_fragment(&now.header) {
-        return continues(slots, now, id, out);
+        return join_fragment(slots, now, id, out);
     }
     if is_opener(&now.header) {
-        return opens(slots, now, id, out);
+        return open_message(slots, now, id, out);
     }
     if !is_cancel(&now.header) {
         return Ok(false);
     }
-    cancels(slots, now, id, out)?;
+    cancel_message(slots, now, id, out)?;
     Ok(false)
 }
 
 /// Does what the last octet of a message does. A joined message is complete with the last octet of its last Fragment, any
 /// other message with this octet. Returns whether a message is faulted.
-pub fn ends<O: Out>(
+pub fn at_end<O: Out>(
     slots: &mut Slots,
     catalogue: &Catalogue,
     now: Current,
     out: &mut O,
 ) -> Result<bool, OutFault>
     requires ready { AreReady catalogue.now (now.place + 1) slots.old }
-    ensures does { (l : Answers) (c : Tracked) (m : Message) →
+    ensures does { (l : Answers) (c : Tracked) (m : CutMessage) →
         IsAtOctet catalogue.now l slots.old c m now → length m.payload ≡ size m.header →
         DoesEffect catalogue.now l one_if result (O.log out.old) (O.log out.new) slots.new
         (effects (message_reader catalogue.now l) c (events_at_end c.still_open m)) None }
@@ -192,7 +203,7 @@ pub fn ends<O: Out>(
     slots.close(catalogue, now.place, out)
 }
 
-/// Whether an octet is the last one of a request id. A message of GIOP 1.1 that has its place at its header has none there.
+/// Whether an octet is the last one of a request id. A fragmented message of GIOP 1.1 has none there.
 fn ends_request_id(now: Current) -> bool
     ensures { result ≡ ((now.payload_count == 4) && not (is_old now.header)) }
 {
@@ -201,7 +212,7 @@ fn ends_request_id(now: Current) -> bool
 
 /// Does what an octet does if it is the last one of a request id. Returns whether a message is faulted.
 fn at_fourth_octet<O: Out>(slots: &mut Slots, now: Current, out: &mut O) -> Result<bool, OutFault>
-    ensures does { (C : Table) (l : Answers) (c : Tracked) (m : Message) →
+    ensures does { (C : Table) (l : Answers) (c : Tracked) (m : CutMessage) →
         IsAfterTake C l slots.old c m now →
         DoesEffect C l one_if result (O.log out.old) (O.log out.new) slots.new
         (effects (message_reader C l) c (name_events slots.old.slots.most c.still_open m))
@@ -210,7 +221,7 @@ fn at_fourth_octet<O: Out>(slots: &mut Slots, now: Current, out: &mut O) -> Resu
 {
     if ends_request_id(now) {
         let id = slots.request_id();
-        return named(slots, now, id, out);
+        return at_request_id(slots, now, id, out);
     }
     Ok(false)
 }
@@ -224,7 +235,7 @@ pub fn at_last_octet<O: Out>(
     out: &mut O,
 ) -> Result<bool, OutFault>
     requires ready { AreReady catalogue.now (now.place + 1) slots.old }
-    ensures does { (l : Answers) (c : Tracked) (m : Message) →
+    ensures does { (l : Answers) (c : Tracked) (m : CutMessage) →
         IsAtOctet catalogue.now l slots.old c m now → length m.payload ≡ now.payload_count →
         DoesEffect catalogue.now l one_if result (O.log out.old) (O.log out.new) slots.new
         (effects (message_reader catalogue.now l) c (end_events c.still_open m))
@@ -233,7 +244,7 @@ pub fn at_last_octet<O: Out>(
     ensures most { slots.new.slots.most ≡ slots.old.slots.most }
 {
     if now.payload_count == size_of(&now.header) {
-        return ends(slots, catalogue, now, out);
+        return at_end(slots, catalogue, now, out);
     }
     Ok(false)
 }
@@ -261,7 +272,7 @@ pub fn octets<O: Out, Q: Correspondent>(
     requires known { AreKnown catalogue.now (Q.answer (Q.state correspondent.old)) }
     requires limit { before.place + length octets.now ≤ 2 ^ 48 }
     ensures known { AreKnown catalogue.now (Q.answer (Q.state correspondent.new)) }
-    ensures does { (a : Answers) (c : Tracked) (m : Message) →
+    ensures does { (a : Answers) (c : Tracked) (m : CutMessage) →
         SlotsRepresent catalogue.now a slots.old c (owner_of_next c.still_open m) →
         Rising c.still_open →
         AgreesAtEnds Q.answer Q.notified catalogue.now (Q.state correspondent.old) a
@@ -275,7 +286,7 @@ pub fn octets<O: Out, Q: Correspondent>(
         DoesEffect catalogue.now a (λ r. r.1) result (O.log out.old) (O.log out.new) slots.new
         effect (owner_after effect.tracked.still_open
         (with_octet (with_payload m (m.payload ++ q)) x))))) result octets.now }
-    ensures told { IfOk result (λ r. (a : Answers) (c : Tracked) (m : Message) →
+    ensures told { IfOk result (λ r. (a : Answers) (c : Tracked) (m : CutMessage) →
         SlotsRepresent catalogue.now a slots.old c (owner_of_next c.still_open m) →
         AgreesAtEnds Q.answer Q.notified catalogue.now (Q.state correspondent.old) a
         (owner_header_ends c (owner_of_next c.still_open m) octets.now) →
@@ -297,16 +308,16 @@ pub fn octets<O: Out, Q: Correspondent>(
     Ok((count, fault_count(taken, named, ended)))
 }
 
-/// Begins a message, and faults it if its header alone is refused. Returns whether it does.
+/// Begins a message, and faults it if its header alone is refused. Returns whether it is faulted.
 #[tactic(auto, using(giop_print::proofs::Writing::writes_then, giop_print::proofs::Writing::writes_err))]
-fn starts<O: Out>(
+fn begin_message<O: Out>(
     slots: &mut Slots,
     catalogue: &Catalogue,
     now: Current,
     out: &mut O,
 ) -> Result<bool, OutFault>
     requires ready { AreReady catalogue.now now.place slots.old }
-    ensures does { (l : Answers) (c : Tracked) (who : Option MessageKey) (m : Message) →
+    ensures does { (l : Answers) (c : Tracked) (who : Option MessageKey) (m : CutMessage) →
         IsBeforeMessage catalogue.now l slots.old c who m now →
         DoesEffect catalogue.now l one_if result (O.log out.old) (O.log out.new) slots.new
         (effects (message_reader catalogue.now l) c (events_at_header m)) (Some (message_key m)) }
@@ -324,7 +335,7 @@ fn starts<O: Out>(
 /// Refuses a message of GIOP 1.1 that has fragments, or is one, at the last octet of its header.
 /// Returns whether it does.
 fn refuses_old<O: Out>(slots: &mut Slots, now: Current, out: &mut O) -> Result<bool, OutFault>
-    ensures does { (C : Table) (l : Answers) (c : Tracked) (m : Message) →
+    ensures does { (C : Table) (l : Answers) (c : Tracked) (m : CutMessage) →
         IsAtHeader C l slots.old c m now →
         DoesEffect C l one_if result (O.log out.old) (O.log out.new) slots.new
         (effects (message_reader C l) c (name_events slots.old.slots.most c.still_open m))
@@ -350,7 +361,7 @@ pub fn header<O: Out>(
     out: &mut O,
 ) -> Result<u8, OutFault>
     requires ready { AreReady catalogue.now now.place slots.old }
-    ensures does { (l : Answers) (c : Tracked) (who : Option MessageKey) (m : Message) →
+    ensures does { (l : Answers) (c : Tracked) (who : Option MessageKey) (m : CutMessage) →
         IsBeforeMessage catalogue.now l slots.old c who m now →
         (let R = message_reader catalogue.now l in
         let effect = effects R c (events_of_octet slots.old.slots.most c.still_open m) in
@@ -360,7 +371,7 @@ pub fn header<O: Out>(
     ensures ready { OnOk result (AreReady catalogue.now (now.place + 1) slots.new) }
     ensures most { slots.new.slots.most ≡ slots.old.slots.most }
 {
-    let refused = starts(slots, catalogue, now, out)?;
+    let refused = begin_message(slots, catalogue, now, out)?;
     let named = refuses_old(slots, now, out)?;
     let ended = at_last_octet(slots, catalogue, now, out)?;
     Ok(fault_count(refused, named, ended))

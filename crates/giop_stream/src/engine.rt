@@ -21,7 +21,7 @@ ghost use Rattle.giop_stream.specs.EngineHolds.{AreOf, Holds, HoldsBy, StopWrite
 ghost use Rattle.giop_stream.specs.Pieces.{fed, remaining, whole_text};
 ghost use Rattle.giop_stream.specs.Checkpoint.{counts_of, checkpoint_limit, Allows, IsRefused, OrNoMemory, Saves, Spells};
 
-use crate::fault::{LoadFault, NewFault, Stop};
+use crate::fault::{LoadFault, NewError, Stop};
 use crate::framing::Framing;
 use crate::status::{Fed, Status, Totals};
 use crate::{loading, saving};
@@ -73,7 +73,7 @@ impl<'a> Engine<'a> {
         catalogue: &'a Catalogue,
         requests: &'a Requests,
         most: u32,
-    ) -> Result<Engine<'a>, NewFault>
+    ) -> Result<Engine<'a>, NewError>
         requires of { AreOf catalogue.now requests.now }
         requires range { (1 ≤ most) × (most ≤ most_open) }
         ensures holds { IfOk result (λ e. Holds e []) }
@@ -82,7 +82,7 @@ impl<'a> Engine<'a> {
         ensures most { IfOk result (λ e. e.most ≡ most) }
     {
         let Ok(framing) = Framing::new(alloc, most as usize) else {
-            return Err(NewFault::OutOfMemory);
+            return Err(NewError::OutOfMemory);
         };
         Ok(Engine {
             catalogue,

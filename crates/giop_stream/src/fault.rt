@@ -37,7 +37,7 @@ pub enum FramingFault {
 
 /// Why no new engine is made.
 #[derive(Clone, Copy, Debug, PartialEq, Eq, Error)]
-pub enum NewFault {
+pub enum NewError {
     /// There wasn't enough memory for the open messages.
     #[error("out of memory")]
     OutOfMemory = 1,

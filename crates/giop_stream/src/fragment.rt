@@ -5,7 +5,7 @@ ghost use Rattle.std.specs.Prelude.{◌≡◌, ◌+◌, ◌≤◌, ◌<◌, ◌^
 ghost use Rattle.giop_cdr.specs.Numbers.{num};
 ghost use Rattle.giop_sig.specs.Table.{Table};
 ghost use Rattle.giop_message.specs.Signatures.{Answers};
-ghost use Rattle.giop_stream.specs.Framing.{Message};
+ghost use Rattle.giop_stream.specs.Framing.{CutMessage};
 ghost use Rattle.giop_stream.specs.Effects.{with_octet};
 ghost use Rattle.giop_stream.specs.OpenSlots.{Tracked};
 ghost use Rattle.giop_stream.specs.SlotsRepresent.{AreReady};
@@ -14,7 +14,7 @@ ghost use Rattle.giop_stream.specs.PayloadOwner.{owner_after};
 ghost use Rattle.giop_stream.specs.Continuation.{IsOpenAt, IsContinuation, IsBeforeContinuation, continuation_effect};
 
 use crate::current::Current;
-use crate::dispatch::{at_last_octet, fault_count, passes};
+use crate::dispatch::{at_last_octet, continue_message, fault_count};
 use crate::framing::{Framing, LIMIT};
 use crate::header::{number_of, size_of};
 use crate::kinds::is_fragment;
@@ -33,7 +33,7 @@ pub struct Continuation {
 }
 
 /// Starts a Fragment that has the same request id as an open message. Returns how many messages are faulted.
-fn continues<O: Out>(
+fn join_fragment<O: Out>(
     slots: &mut Slots,
     catalogue: &Catalogue,
     found: Continuation,
@@ -42,7 +42,7 @@ fn continues<O: Out>(
 ) -> Result<u8, OutFault>
     requires within { found.index < length slots.old.slots.entries }
     requires ready { AreReady catalogue.now (now.place + 1) slots.old }
-    ensures does { (l : Answers) (c : Tracked) (m : Message) (x : ℕ) →
+    ensures does { (l : Answers) (c : Tracked) (m : CutMessage) (x : ℕ) →
         IsBeforeContinuation catalogue.now l slots.old c m now x found →
         (let effect = continuation_effect catalogue.now l slots.old.slots.most c m x in
         DoesEffect catalogue.now l all result (O.log out.old) (O.log out.new) slots.new
@@ -53,7 +53,7 @@ fn continues<O: Out>(
 {
     start_line(out, now.number, &now.header)?;
     request_id_line(out, now.number, found.id)?;
-    let faulted = passes(slots, found.index, now, out)?;
+    let faulted = continue_message(slots, found.index, now, out)?;
     let ended = at_last_octet(slots, catalogue, now, out)?;
     Ok(fault_count(false, faulted, ended))
 }
@@ -124,7 +124,7 @@ impl Framing {
         self.header.push(octets[0]);
         self.payload_count = 4;
         let now = self.current();
-        let faults = continues(&mut self.slots, catalogue, found, now, out)?;
+        let faults = join_fragment(&mut self.slots, catalogue, found, now, out)?;
         self.totals.faults += u64::from(faults);
         self.end_message(size_of(&now.header));
         Ok(())

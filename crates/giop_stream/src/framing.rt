@@ -86,7 +86,7 @@ impl Framing {
         })
     }
 
-    /// Goes back to the state before the first octet, in the same room.
+    /// Goes back to the state before the first octet, and keeps the memory.
     pub fn restart(&mut self)
         ensures shows { (C : Table) (l : Answers) → Shows C l (framing_view self.new) one.fresh }
         ensures ready { (C : Table) → AreReady C (self.new.totals.octets + 1) self.new.slots }

@@ -57,8 +57,8 @@ pub fn is_old_fragment(header: &[u8]) -> bool
     minor_of(header) == 1 && kind_of(header) == 7
 }
 
-/// Whether a message of GIOP 1.1 has its place among the open ones with its header: Fragments continue it, or it is a
-/// Fragment.
+/// Whether a message of GIOP 1.1 is fragmented: a Request or a Reply that Fragments continue, or a Fragment. It has
+/// no request id in front, so it is looked for among the open messages when its header ends.
 #[tactic(auto, unfolding(crate::specs::Kinds::is_old))]
 pub fn is_old(header: &[u8]) -> bool
     requires { length header.now ≡ 12 }

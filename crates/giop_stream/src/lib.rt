@@ -21,7 +21,7 @@ mod slots;
 mod status;
 
 pub use engine::{Engine, any_pieces, remaining, text_begins};
-pub use fault::{FramingFault, LoadFault, NewFault, Stop, StreamFault};
+pub use fault::{FramingFault, LoadFault, NewError, Stop, StreamFault};
 pub use going_on::{go_on, has_checkpoint};
 pub use laws::{
     after_a_stop, answers_agree, answers_at_headers, answers_go_on, counts_are_bounded,

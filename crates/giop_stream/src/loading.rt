@@ -29,7 +29,7 @@ use crate::slots::{PayloadOwner, Slot, Slots};
 use crate::status::Totals;
 use arrayvec::ArrayVec;
 use giop_checkpoint::{
-    FirstRecord, Fixed, LoadFault, Place, RecordKind, StreamFault, first_record, fixed_part,
+    FirstRecord, Fixed, LoadFault, NextOctet, RecordKind, StreamFault, first_record, fixed_part,
 };
 use giop_message::Message;
 use giop_sig::{Catalogue, Requests};
@@ -124,27 +124,27 @@ fn may_be(totals: Totals, stopped: Option<StreamFault>, held: usize) -> bool
 }
 
 /// The stream fault, if the stream has stopped.
-fn stop_of(place: &Place) -> Option<StreamFault>
+fn stop_of(place: &NextOctet) -> Option<StreamFault>
     ensures { result ≡ stop_in place.now }
 {
     match place {
-        Place::Stopped(fault) => Some(*fault),
+        NextOctet::Stopped(fault) => Some(*fault),
         _ => None,
     }
 }
 
 /// The octets of a header that were read until now, and how many octets of the payload were read.
-fn header_of(place: Place) -> (ArrayVec<u8, 12>, u32)
+fn header_of(place: NextOctet) -> (ArrayVec<u8, 12>, u32)
     ensures header { result.0.items ≡ header_in place }
     ensures payload_count { result.1 ≡ payload_count_in place }
 {
     match place {
-        Place::Header(held) => (held_of(held.as_slice()), 0),
-        Place::Payload { header, left } => {
+        NextOctet::Header(held) => (held_of(held.as_slice()), 0),
+        NextOctet::Payload { header, left } => {
             let payload_count = size_of(&header).saturating_sub(left);
             (held_of(&header), payload_count)
         }
-        Place::Stopped(_) => (ArrayVec::new(), 0),
+        NextOctet::Stopped(_) => (ArrayVec::new(), 0),
     }
 }
 

@@ -18,7 +18,7 @@ use crate::framing::Framing;
 use crate::header::size_of;
 use crate::slots::{PayloadOwner, Slot, Slots};
 use arrayvec::ArrayVec;
-use giop_checkpoint::{Counts, FRAME_SIZE, Fixed, MESSAGE_SIZE, Place, Record, RecordKind};
+use giop_checkpoint::{Counts, FRAME_SIZE, Fixed, MESSAGE_SIZE, NextOctet, Record, RecordKind};
 use giop_message::Message;
 use giop_octets::{put_octets, put_zeros};
 use giop_print::{Out, OutFault, put_all};
@@ -113,19 +113,19 @@ fn records_of(slots: &Slots) -> u32
 }
 
 /// The place of the next octet: in a header, in a payload, or after a stream fault.
-fn place_of(framing: &Framing) -> Place
+fn place_of(framing: &Framing) -> NextOctet
     ensures { result ≡ place_of framing.now.stopped framing.now.header.items
         framing.now.payload_count }
 {
     if let Some(fault) = framing.stopped {
-        return Place::Stopped(fault);
+        return NextOctet::Stopped(fault);
     }
     if framing.header.len() < 12 {
-        return Place::Header(held(framing.header.as_slice()));
+        return NextOctet::Header(held(framing.header.as_slice()));
     }
     let mut header = [0; 12];
     header.copy_from_slice(framing.header.as_slice());
-    Place::Payload {
+    NextOctet::Payload {
         header,
         left: size_of(&header).saturating_sub(framing.payload_count),
     }

@@ -1,5 +1,5 @@
 //! Tests of giop_stream from outside: they use it as a program does that depends on it. What an
-//! engine writes of a stream, and what a checkpoint leads to, are rows of `giop_rows`.
+//! engine writes of a stream, and what a checkpoint leads to, are rows of `giop_stream_rows`.
 #![tactic(auto)]
 
 #[cfg(test)]

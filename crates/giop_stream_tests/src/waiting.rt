@@ -26,7 +26,7 @@ impl Correspondent for Timer {
         None
     }
 
-    fn called(
+    fn on_call(
         &mut self,
         _number: u64,
         _id: u32,
@@ -35,9 +35,9 @@ impl Correspondent for Timer {
         _expects_reply: bool,
     ) {}
 
-    fn answered(&mut self, _number: u64, _id: u32) {}
+    fn on_answer(&mut self, _number: u64, _id: u32) {}
 
-    fn raised(&mut self, _number: u64, _name: &[u8]) {}
+    fn on_exception(&mut self, _number: u64, _name: &[u8]) {}
 
     fn is_due(&self) -> bool {
         false

@@ -4,7 +4,7 @@ use Rattle.std.specs.Prelude.{decimal, slice_index}
 use Rattle.std.specs.List.{AllByRecursion, prefix_len}
 use Rattle.std.proofs.lemmas.Bool.{eqb-true, le-leb, ne_eqb, true≢false}
 use Rattle.std.proofs.lemmas.List.{take_at, drop_at}
-use Rattle.giop_tokens.specs.declared.fault.Refusal.{Refusal}
+use Rattle.giop_tokens.specs.declared.fault.TokenError.{TokenError}
 use Rattle.giop_tokens.specs.declared.marks.Mark.{Mark}
 use Rattle.giop_tokens.specs.declared.marks.Mark.TheVariants as marks
 use Rattle.giop_tokens.specs.Marks.{octet_of, mark_of}
@@ -80,7 +80,7 @@ past_is is w bs h e = search (arith, drop_at, run_len)
 -- ---- A token is read as it is written.
 
 abbrev Lexed : Type 0
-Lexed = Result (Option Token × List ℕ) Refusal
+Lexed = Result (Option Token × List ℕ) TokenError
 
 abbrev lexed : Token → List ℕ → Lexed
 lexed t bs = Ok (Some t, bs)

@@ -4,7 +4,7 @@ use Rattle.std.specs.Prelude.{nat_le, decimal, option_map, slice_index}
 use Rattle.std.specs.List.{AllByRecursion}
 use Rattle.std.proofs.lemmas.Bool.{eqb-true, eqb-false, leb-true}
 use Rattle.std.proofs.lemmas.List.{take-append-drop}
-use Rattle.giop_tokens.specs.declared.fault.Refusal.{Refusal}
+use Rattle.giop_tokens.specs.declared.fault.TokenError.{TokenError}
 use Rattle.giop_tokens.specs.declared.marks.Mark.{Mark}
 use Rattle.giop_tokens.specs.declared.marks.Mark.TheVariants as marks
 use Rattle.giop_tokens.specs.Marks.{octet_of, mark_of}
@@ -173,7 +173,7 @@ past_ends is (b ∷ bs) z = search (arith, past_ends_by, past_ends is bs z)
 -- ---- Token by token.
 
 abbrev Lexed : Type 0
-Lexed = Result (Option Token × List ℕ) Refusal
+Lexed = Result (Option Token × List ℕ) TokenError
 
 abbrev lexed : Token → List ℕ → Lexed
 lexed t bs = Ok (Some t, bs)

@@ -1,6 +1,6 @@
 -- The line number of a place in a text (docs/FORMATS.md, Signature file; meaning).
 use Rattle.std.specs.Prelude.{ℕ, ◌+◌, ◌-◌, List, length, take, max, count_by, ◌==◌}
-use Rattle.giop_tokens.specs.declared.fault.Refusal.{Refusal}
+use Rattle.giop_tokens.specs.declared.fault.TokenError.{TokenError}
 use Rattle.giop_tokens.specs.declared.fault.SigFault.{SigFault}
 use Rattle.giop_tokens.specs.declared.fault.SigFaultKind.{SigFaultKind}
 use Rattle.giop_tokens.specs.declared.fault.SigFaultKind.TheVariants as kinds
@@ -23,5 +23,5 @@ line_by kinds.Label line = line
 line_by kinds.Empty line = line
 
 -- the fault that the caller gets for a refusal
-abbrev pub fault_of : List ℕ → Refusal → SigFault
+abbrev pub fault_of : List ℕ → TokenError → SigFault
 fault_of text r = record { line = line_by r.kind (line_at text r.left); kind = r.kind }

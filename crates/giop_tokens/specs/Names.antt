@@ -3,7 +3,7 @@
 use Rattle.std.specs.Prelude.{ℕ, Bool, ◌&&◌, ◌||◌, List, [], ◌∷◌, length, Result, Ok, Err, nat_lt, if◌then◌else◌, codes}
 use Rattle.std.specs.List.{list_any}
 use Rattle.std.specs.Str.{bytes_eq}
-use Rattle.giop_tokens.specs.declared.fault.Refusal.{Refusal}
+use Rattle.giop_tokens.specs.declared.fault.TokenError.{TokenError}
 use Rattle.giop_tokens.specs.declared.fault.SigFaultKind.TheVariants as kinds
 use Rattle.giop_tokens.specs.Tokens.{left_of}
 use Rattle.giop_tokens.specs.Reading.{◌>>=◌}
@@ -35,18 +35,18 @@ is_reserved third w =
     || (third && list_any (bytes_eq w) later_reserved_words)
 
 -- the refusal of the first token of a text, because it is too long
-abbrev pub too_long : List ℕ → Refusal
+abbrev pub too_long : List ℕ → TokenError
 too_long text = record { kind = kinds.Limit; left = left_of text }
 
 -- a name: a word that isn't reserved, of at most 64 octets
-unfoldable pub identifier_at : Bool → List ℕ → Result (List ℕ × List ℕ) Refusal
+unfoldable pub identifier_at : Bool → List ℕ → Result (List ℕ × List ℕ) TokenError
 identifier_at third text = do
   w ← word_at text
   if is_reserved third w.0 then Err (misplaced text) else
       (if nat_lt 64 (length w.0) then Err (too_long text) else Ok (w.0, w.1))
 
 -- an operation's name: any word, of at most 128 octets
-unfoldable pub operation_name_at : List ℕ → Result (List ℕ × List ℕ) Refusal
+unfoldable pub operation_name_at : List ℕ → Result (List ℕ × List ℕ) TokenError
 operation_name_at text = do
   w ← word_at text
   if nat_lt 128 (length w.0) then Err (too_long text) else Ok (w.0, w.1)

@@ -3,7 +3,7 @@
 -- (docs/FORMATS.md, Signature file).
 use Rattle.std.specs.Prelude.{ℕ, Bool, true, false, List, Option, Some, None, Result, Ok, Err, ◌==◌, if◌then◌else◌, option_and_then}
 use Rattle.std.specs.Str.{bytes_eq}
-use Rattle.giop_tokens.specs.declared.fault.Refusal.{Refusal}
+use Rattle.giop_tokens.specs.declared.fault.TokenError.{TokenError}
 use Rattle.giop_tokens.specs.declared.fault.SigFaultKind.TheVariants as kinds
 use Rattle.giop_tokens.specs.declared.marks.Mark.{Mark}
 use Rattle.giop_tokens.specs.Marks.{octet_of}
@@ -11,11 +11,11 @@ use Rattle.giop_tokens.specs.Tokens.{Token, word, number, negative, repository, 
 use Rattle.giop_tokens.specs.Reading.{◌>>=◌}
 
 -- the refusal of the first token of a text that can't stand there, or of the end of the text
-abbrev pub misplaced : List ℕ → Refusal
+abbrev pub misplaced : List ℕ → TokenError
 misplaced text = record { kind = kinds.Syntax; left = left_of text }
 
 -- the refusal if a text goes on with something that is no token
-abbrev pub no_token : List ℕ → Refusal
+abbrev pub no_token : List ℕ → TokenError
 no_token text = record { kind = kinds.Token; left = left_of text }
 
 -- ---- The value of a token.
@@ -57,7 +57,7 @@ is_the_word w (mark m) = false
 
 -- ---- The next token.
 
-abbrev pub wanted : {X : Type 0} → Refusal → Option X → List ℕ → Result (X × List ℕ) Refusal
+abbrev pub wanted : {X : Type 0} → TokenError → Option X → List ℕ → Result (X × List ℕ) TokenError
 wanted refusal None rest = Err refusal
 wanted refusal (Some x) rest = Ok (x, rest)
 
@@ -66,20 +66,20 @@ passes is None = false
 passes is (Some t) = is t
 
 -- the value of the next token, and what follows it
-unfoldable pub next_as : {X : Type 0} → (Token → Option X) → List ℕ → Result (X × List ℕ) Refusal
+unfoldable pub next_as : {X : Type 0} → (Token → Option X) → List ℕ → Result (X × List ℕ) TokenError
 next_as tells text = do
   t ← next text
   wanted (misplaced text) (option_and_then tells t.0) t.1
 
 -- what follows the next token, which must pass the test
-unfoldable pub next_is : (Token → Bool) → List ℕ → Result (List ℕ) Refusal
+unfoldable pub next_is : (Token → Bool) → List ℕ → Result (List ℕ) TokenError
 next_is is text = do
   t ← next text
   if passes is t.0 then Ok t.1 else Err (misplaced text)
 
 -- what follows the next token, if that passes the test; nothing if it is another token, or the text
 -- ends
-unfoldable pub next_if : (Token → Bool) → List ℕ → Result (Option (List ℕ)) Refusal
+unfoldable pub next_if : (Token → Bool) → List ℕ → Result (Option (List ℕ)) TokenError
 next_if is text = do
   t ← next text
   Ok (if passes is t.0 then Some t.1 else None)
@@ -87,25 +87,25 @@ next_if is text = do
 -- ---- The readers.
 
 -- any word that doesn't begin with a digit
-abbrev pub word_at : List ℕ → Result (List ℕ × List ℕ) Refusal
+abbrev pub word_at : List ℕ → Result (List ℕ × List ℕ) TokenError
 word_at text = next_as as_word text
 
-abbrev pub number_at : List ℕ → Result (ℕ × List ℕ) Refusal
+abbrev pub number_at : List ℕ → Result (ℕ × List ℕ) TokenError
 number_at text = next_as as_number text
 
-abbrev pub repository_at : List ℕ → Result (List ℕ × List ℕ) Refusal
+abbrev pub repository_at : List ℕ → Result (List ℕ × List ℕ) TokenError
 repository_at text = next_as as_repository text
 
-abbrev pub mark_at : Mark → List ℕ → Result (List ℕ) Refusal
+abbrev pub mark_at : Mark → List ℕ → Result (List ℕ) TokenError
 mark_at m text = next_is (is_the_mark m) text
 
-abbrev pub keyword_at : List ℕ → List ℕ → Result (List ℕ) Refusal
+abbrev pub keyword_at : List ℕ → List ℕ → Result (List ℕ) TokenError
 keyword_at w text = next_is (is_the_word w) text
 
-abbrev pub mark_if : Mark → List ℕ → Result (Option (List ℕ)) Refusal
+abbrev pub mark_if : Mark → List ℕ → Result (Option (List ℕ)) TokenError
 mark_if m text = next_if (is_the_mark m) text
 
-abbrev pub keyword_if : List ℕ → List ℕ → Result (Option (List ℕ)) Refusal
+abbrev pub keyword_if : List ℕ → List ℕ → Result (Option (List ℕ)) TokenError
 keyword_if w text = next_if (is_the_word w) text
 
 abbrev pub is_end : Option Token → Bool
@@ -113,7 +113,7 @@ is_end None = true
 is_end (Some t) = false
 
 -- whether the text ends: only white space and comments are left
-unfoldable pub end_at : List ℕ → Result Bool Refusal
+unfoldable pub end_at : List ℕ → Result Bool TokenError
 end_at text = do
   t ← next text
   Ok (is_end t.0)

@@ -4,7 +4,7 @@
 use Rattle.std.specs.Prelude.{◌≡◌, ℕ, ◌^◌, Bool, true, false, not, ◌||◌, ◌&&◌, List, [], ◌∷◌, length, take, drop, Option, Some, None, Result, Ok, Err, nat_le, nat_lt, ◌==◌, if◌then◌else◌, slice_index, option_map}
 use Rattle.std.specs.List.{prefix_len, list_all}
 use Rattle.std.specs.Str.Parse.{digits_value}
-use Rattle.giop_tokens.specs.declared.fault.Refusal.{Refusal}
+use Rattle.giop_tokens.specs.declared.fault.TokenError.{TokenError}
 use Rattle.giop_tokens.specs.declared.fault.SigFaultKind.TheVariants as kinds
 use Rattle.giop_tokens.specs.declared.marks.Mark.{Mark}
 use Rattle.giop_tokens.specs.declared.lexer.Token.TheVariants as seen
@@ -89,12 +89,12 @@ repository_token id after = if nat_le 1 (length id) && nat_le (length id) 128
     && slice_index after 0 == 34 then Some (repository id) else None
 
 -- a token and what follows it, or the refusal at this place if there is no token
-abbrev pub as_token : List ℕ → Option Token → List ℕ → Result (Option Token × List ℕ) Refusal
+abbrev pub as_token : List ℕ → Option Token → List ℕ → Result (Option Token × List ℕ) TokenError
 as_token text None rest = Err (record { kind = kinds.Token; left = length text })
 as_token text (Some t) rest = Ok (Some t, rest)
 
 -- the token that a text begins with, and what follows it; none if the text is empty
-unfoldable pub first : List ℕ → Result (Option Token × List ℕ) Refusal
+unfoldable pub first : List ℕ → Result (Option Token × List ℕ) TokenError
 first [] = Ok (None, [])
 first (b ∷ bs) =
     if is_word b then as_token (b ∷ bs) (word_token (run is_word (b ∷ bs))) (past is_word (b ∷ bs))
@@ -107,7 +107,7 @@ first (b ∷ bs) =
 
 -- The first token of a text, after white space and comments, and what follows it; none at the end
 -- of the text.
-unfoldable pub next : List ℕ → Result (Option Token × List ℕ) Refusal
+unfoldable pub next : List ℕ → Result (Option Token × List ℕ) TokenError
 next text = first (gap false text)
 
 -- ---- The text.

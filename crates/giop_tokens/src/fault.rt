@@ -76,7 +76,7 @@ impl<T: Drop> From<AllocFailed<T>> for SigFault {
 
 /// A refusal of a text that is read from its front.
 #[derive(Clone, Copy, Debug, PartialEq, Eq, Drop)]
-pub struct Refusal {
+pub struct TokenError {
     /// The rule that is broken.
     pub kind: SigFaultKind,
     /// How many octets of the text are left, counted from the first octet of the token that breaks the rule. It is 0 at the
@@ -84,28 +84,28 @@ pub struct Refusal {
     pub left: usize,
 }
 
-impl From<AllocError> for Refusal {
+impl From<AllocError> for TokenError {
     ghost use Rattle.std.specs.Prelude.{◌≡◌};
     ghost use Rattle.giop_tokens.specs.Faults.{out_of_memory};
 
     ghost from_gives = { λ _ refusal. refusal ≡ out_of_memory };
 
-    fn from(_refused: AllocError) -> Refusal {
-        Refusal {
+    fn from(_refused: AllocError) -> TokenError {
+        TokenError {
             kind: SigFaultKind::OutOfMemory,
             left: 0,
         }
     }
 }
 
-impl<T: Drop> From<AllocFailed<T>> for Refusal {
+impl<T: Drop> From<AllocFailed<T>> for TokenError {
     ghost use Rattle.std.specs.Prelude.{◌≡◌};
     ghost use Rattle.giop_tokens.specs.Faults.{out_of_memory};
 
     ghost from_gives = { λ _ refusal. refusal ≡ out_of_memory };
 
-    fn from(_refused: AllocFailed<T>) -> Refusal {
-        Refusal {
+    fn from(_refused: AllocFailed<T>) -> TokenError {
+        TokenError {
             kind: SigFaultKind::OutOfMemory,
             left: 0,
         }

@@ -1,6 +1,6 @@
 //! What holds of the tokens of a text, by the way that they are written (docs/FORMATS.md, Signature file).
 ghost use Rattle.std.specs.Prelude.{◌≡◌, ℕ, ◌↔◌, List, Ok, Err, Some};
-ghost use Rattle.giop_tokens.specs.declared.fault.Refusal.{Refusal};
+ghost use Rattle.giop_tokens.specs.declared.fault.TokenError.{TokenError};
 ghost use Rattle.giop_tokens.specs.Tokens.{Token, next, AreTokens};
 ghost use Rattle.giop_tokens.specs.Readers.{no_token};
 ghost use Rattle.giop_tokens.specs.Layout.{IsFirst, IsLayout};
@@ -24,7 +24,7 @@ pub fn one_list()
 
 /// If a text goes on with something that is no token, it is refused as Token at that place, and it has no list of tokens.
 pub fn no_list()
-    ensures place { (text : List ℕ) (r : Refusal) → next text ≡ Err r → r ≡ no_token text }
-    ensures none { (text : List ℕ) (r : Refusal) → next text ≡ Err r
+    ensures place { (text : List ℕ) (r : TokenError) → next text ≡ Err r → r ≡ no_token text }
+    ensures none { (text : List ℕ) (r : TokenError) → next text ≡ Err r
         → (ts : List Token) → ¬ (AreTokens text ts) }
 {}

@@ -5,7 +5,7 @@ ghost use Rattle.giop_tokens.specs.Tokens.{gap, gap_step, first, is_white, is_wo
 ghost use Rattle.giop_tokens.specs.Marks.{mark_of};
 ghost use Rattle.giop_tokens.specs.Reading.{Gives};
 
-use crate::fault::{Refusal, SigFaultKind};
+use crate::fault::{SigFaultKind, TokenError};
 use crate::marks::{Mark, mark_of};
 use crate::numbers::{is_digit, number_of};
 
@@ -144,14 +144,14 @@ fn as_token<'a>(
     text: &[u8],
     token: Option<Token<'a>>,
     rest: &'a [u8],
-) -> Result<(Option<Token<'a>>, &'a [u8]), Refusal>
+) -> Result<(Option<Token<'a>>, &'a [u8]), TokenError>
     ensures { Gives
         (λ x. (option_map token_view x.0, x.1.now))
         result
         (as_token text.now (option_map token_view token.entry) rest.now) }
 {
     match token {
-        None => Err(Refusal {
+        None => Err(TokenError {
             kind: SigFaultKind::Token,
             left: text.len(),
         }),
@@ -161,7 +161,7 @@ fn as_token<'a>(
 
 /// The first token of a text that begins with neither white space nor a comment.
 #[tactic(auto, unfolding(crate::specs::Tokens::first))]
-fn first(text: &[u8]) -> Result<(Option<Token<'_>>, &[u8]), Refusal>
+fn first(text: &[u8]) -> Result<(Option<Token<'_>>, &[u8]), TokenError>
     ensures { Gives (λ x. (option_map token_view x.0, x.1.now)) result (first text.now) }
 {
     match text {
@@ -203,7 +203,7 @@ fn past_mark(text: &[u8]) -> &[u8]
 
 /// The first token of a text, after white space and comments, and what follows it. At the end of the text there is none.
 #[tactic(auto, unfolding(crate::specs::Tokens::next))]
-pub fn next(text: &[u8]) -> Result<(Option<Token<'_>>, &[u8]), Refusal>
+pub fn next(text: &[u8]) -> Result<(Option<Token<'_>>, &[u8]), TokenError>
     ensures { Gives (λ x. (option_map token_view x.0, x.1.now)) result (next text.now) }
 {
     first(after_gap(text))

@@ -10,13 +10,13 @@ mod names;
 mod numbers;
 mod readers;
 
-pub use fault::{Refusal, SigFault, SigFaultKind};
+pub use fault::{SigFault, SigFaultKind, TokenError};
 pub use laws::{first_token, laid_out, no_list, one_list};
 pub use lexer::{Token, left_of, next};
 pub use lines::{fault_in, line_of};
 pub use marks::Mark;
 pub use names::{identifier, is_reserved, operation_name};
 pub use readers::{
-    ends, keyword, mark, misplaced, number, repository_id, starts_with_keyword, starts_with_mark,
-    word,
+    is_at_end, keyword, mark, misplaced, number, repository_id, starts_with_keyword,
+    starts_with_mark, word,
 };

@@ -2,7 +2,7 @@
 ghost use Rattle.std.specs.Prelude.{◌≡◌, ◌<◌, ◌^◌, ◌==◌, length, count_by};
 ghost use Rattle.giop_tokens.specs.Lines.{line_at, fault_of};
 
-use crate::fault::{Refusal, SigFault, SigFaultKind};
+use crate::fault::{SigFault, SigFaultKind, TokenError};
 
 /// How many line feeds a text has.
 fn line_feeds(text: &[u8]) -> usize
@@ -21,7 +21,7 @@ pub fn line_of(text: &[u8], left: usize) -> u32
 }
 
 /// The fault that the caller gets for a refusal: its kind and its line.
-pub fn fault_in(text: &[u8], refusal: Refusal) -> SigFault
+pub fn fault_in(text: &[u8], refusal: TokenError) -> SigFault
     requires { length text.now < 2 ^ 32 }
     ensures { result ≡ fault_of text.now refusal }
 {

@@ -4,7 +4,7 @@ ghost use Rattle.std.specs.List.{list_any};
 ghost use Rattle.giop_tokens.specs.Reading.{Gives};
 ghost use Rattle.giop_tokens.specs.Names.{reserved_words, later_reserved_words, is_reserved, too_long, identifier_at, operation_name_at};
 
-use crate::fault::{Refusal, SigFaultKind};
+use crate::fault::{SigFaultKind, TokenError};
 use crate::lexer::left_of;
 use crate::readers::{misplaced, word};
 
@@ -88,10 +88,10 @@ fn is_later_word(word: &[u8]) -> bool
 }
 
 /// The refusal of the first token of a text, if that is a name that is too long.
-fn too_long(text: &[u8]) -> Refusal
+fn too_long(text: &[u8]) -> TokenError
     ensures { result ≡ too_long text.now }
 {
-    Refusal {
+    TokenError {
         kind: SigFaultKind::Limit,
         left: left_of(text),
     }
@@ -99,7 +99,7 @@ fn too_long(text: &[u8]) -> Refusal
 
 /// Reads a name: a word that isn't reserved, of at most 64 octets. `third` tells whether the file has version 3.
 #[tactic(auto, unfolding(crate::specs::Names::identifier_at))]
-pub fn identifier(third: bool, text: &[u8]) -> Result<(&[u8], &[u8]), Refusal>
+pub fn identifier(third: bool, text: &[u8]) -> Result<(&[u8], &[u8]), TokenError>
     ensures { Gives (λ x. (x.0.now, x.1.now)) result (identifier_at third text.now) }
 {
     let (name, rest) = word(text)?;
@@ -114,7 +114,7 @@ pub fn identifier(third: bool, text: &[u8]) -> Result<(&[u8], &[u8]), Refusal>
 
 /// Reads an operation's name: any word of at most 128 octets.
 #[tactic(auto, unfolding(crate::specs::Names::operation_name_at))]
-pub fn operation_name(text: &[u8]) -> Result<(&[u8], &[u8]), Refusal>
+pub fn operation_name(text: &[u8]) -> Result<(&[u8], &[u8]), TokenError>
     ensures { Gives (λ x. (x.0.now, x.1.now)) result (operation_name_at text.now) }
 {
     let (name, rest) = word(text)?;

@@ -5,15 +5,15 @@ ghost use Rattle.giop_tokens.specs.Reading.{Gives};
 ghost use Rattle.giop_tokens.specs.Tokens.{token_view};
 ghost use Rattle.giop_tokens.specs.Readers.{misplaced, passes, is_the_mark, is_the_word, mark_at, keyword_at, word_at, number_at, repository_at, mark_if, keyword_if, end_at};
 
-use crate::fault::{Refusal, SigFaultKind};
+use crate::fault::{SigFaultKind, TokenError};
 use crate::lexer::{Token, left_of, next};
 use crate::marks::Mark;
 
 /// The refusal of the first token of a text that can't stand there, or of the end of the text.
-pub fn misplaced(text: &[u8]) -> Refusal
+pub fn misplaced(text: &[u8]) -> TokenError
     ensures { result ≡ misplaced text.now }
 {
-    Refusal {
+    TokenError {
         kind: SigFaultKind::Syntax,
         left: left_of(text),
     }
@@ -41,7 +41,7 @@ fn is_the_word(token: Option<Token<'_>>, wanted: &[u8]) -> bool
 
 /// Reads this mark.
 #[tactic(auto, unfolding(crate::specs::Readers::next_is))]
-pub fn mark(text: &[u8], wanted: Mark) -> Result<&[u8], Refusal>
+pub fn mark(text: &[u8], wanted: Mark) -> Result<&[u8], TokenError>
     ensures { Gives (λ x. x.now) result (mark_at wanted text.now) }
 {
     let (token, rest) = next(text)?;
@@ -53,7 +53,7 @@ pub fn mark(text: &[u8], wanted: Mark) -> Result<&[u8], Refusal>
 
 /// Reads this word, which the grammar quotes.
 #[tactic(auto, unfolding(crate::specs::Readers::next_is))]
-pub fn keyword<'a>(text: &'a [u8], wanted: &[u8]) -> Result<&'a [u8], Refusal>
+pub fn keyword<'a>(text: &'a [u8], wanted: &[u8]) -> Result<&'a [u8], TokenError>
     ensures { Gives (λ x. x.now) result (keyword_at wanted.now text.now) }
 {
     let (token, rest) = next(text)?;
@@ -65,7 +65,7 @@ pub fn keyword<'a>(text: &'a [u8], wanted: &[u8]) -> Result<&'a [u8], Refusal>
 
 /// Reads any word. It doesn't begin with a digit.
 #[tactic(auto, unfolding(crate::specs::Readers::next_as))]
-pub fn word(text: &[u8]) -> Result<(&[u8], &[u8]), Refusal>
+pub fn word(text: &[u8]) -> Result<(&[u8], &[u8]), TokenError>
     ensures { Gives (λ x. (x.0.now, x.1.now)) result (word_at text.now) }
 {
     let (token, rest) = next(text)?;
@@ -77,7 +77,7 @@ pub fn word(text: &[u8]) -> Result<(&[u8], &[u8]), Refusal>
 
 /// Reads a number.
 #[tactic(auto, unfolding(crate::specs::Readers::next_as))]
-pub fn number(text: &[u8]) -> Result<(u64, &[u8]), Refusal>
+pub fn number(text: &[u8]) -> Result<(u64, &[u8]), TokenError>
     ensures { Gives (λ x. (x.0, x.1.now)) result (number_at text.now) }
 {
     let (token, rest) = next(text)?;
@@ -89,7 +89,7 @@ pub fn number(text: &[u8]) -> Result<(u64, &[u8]), Refusal>
 
 /// Reads a repository id, and returns it without its quotation marks.
 #[tactic(auto, unfolding(crate::specs::Readers::next_as))]
-pub fn repository_id(text: &[u8]) -> Result<(&[u8], &[u8]), Refusal>
+pub fn repository_id(text: &[u8]) -> Result<(&[u8], &[u8]), TokenError>
     ensures { Gives (λ x. (x.0.now, x.1.now)) result (repository_at text.now) }
 {
     let (token, rest) = next(text)?;
@@ -101,7 +101,7 @@ pub fn repository_id(text: &[u8]) -> Result<(&[u8], &[u8]), Refusal>
 
 /// What follows this mark, if the text begins with it. There is nothing if the text begins with another token, or ends.
 #[tactic(auto, unfolding(crate::specs::Readers::next_if))]
-pub fn starts_with_mark(text: &[u8], wanted: Mark) -> Result<Option<&[u8]>, Refusal>
+pub fn starts_with_mark(text: &[u8], wanted: Mark) -> Result<Option<&[u8]>, TokenError>
     ensures { Gives (λ x. option_map (λ r. r.now) x) result (mark_if wanted text.now) }
 {
     let (token, rest) = next(text)?;
@@ -114,7 +114,10 @@ pub fn starts_with_mark(text: &[u8], wanted: Mark) -> Result<Option<&[u8]>, Refu
 
 /// What follows this word, if the text begins with it. There is nothing if the text begins with another token, or ends.
 #[tactic(auto, unfolding(crate::specs::Readers::next_if))]
-pub fn starts_with_keyword<'a>(text: &'a [u8], wanted: &[u8]) -> Result<Option<&'a [u8]>, Refusal>
+pub fn starts_with_keyword<'a>(
+    text: &'a [u8],
+    wanted: &[u8],
+) -> Result<Option<&'a [u8]>, TokenError>
     ensures { Gives (λ x. option_map (λ r. r.now) x) result (keyword_if wanted.now text.now) }
 {
     let (token, rest) = next(text)?;
@@ -127,7 +130,7 @@ pub fn starts_with_keyword<'a>(text: &'a [u8], wanted: &[u8]) -> Result<Option<&
 
 /// Whether the text ends: only white space and comments are left.
 #[tactic(auto, unfolding(crate::specs::Readers::end_at))]
-pub fn ends(text: &[u8]) -> Result<bool, Refusal>
+pub fn is_at_end(text: &[u8]) -> Result<bool, TokenError>
     ensures { Gives (λ x. x) result (end_at text.now) }
 {
     let (token, _) = next(text)?;

@@ -2,7 +2,7 @@
 //! of the text.
 
 use crate::spelled::{line_in, repeated};
-use giop_tokens::{Refusal, ends, identifier, next, number, repository_id, word};
+use giop_tokens::{TokenError, identifier, is_at_end, next, number, repository_id, word};
 use std::process::Abort;
 use std::test::Fail;
 
@@ -67,14 +67,14 @@ fn answer_of(reader: Reader, text: &[u8]) -> Option<usize> {
         Reader::Name => left_by(identifier(false, text).err()),
         Reader::Number => left_by(number(text).err()),
         Reader::Id => left_by(repository_id(text).err()),
-        Reader::End => left_by(ends(text).err()),
+        Reader::End => left_by(is_at_end(text).err()),
         Reader::Lines => line_in(text, 0).map(|line| line as usize),
         Reader::Tokens => count(text),
     }
 }
 
 /// How many octets are left when a reader refuses a text; 0 if it doesn't refuse.
-fn left_by(refusal: Option<Refusal>) -> Option<usize> {
+fn left_by(refusal: Option<TokenError>) -> Option<usize> {
     match refusal {
         Some(refusal) => Some(refusal.left),
         None => Some(0),

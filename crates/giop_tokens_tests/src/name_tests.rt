@@ -2,7 +2,9 @@
 
 use crate::rows::{FREE, LATER_RESERVED, RESERVED};
 use crate::spelled::{expect, repeated};
-use giop_tokens::{Refusal, SigFaultKind, identifier, is_reserved, operation_name, repository_id};
+use giop_tokens::{
+    SigFaultKind, TokenError, identifier, is_reserved, operation_name, repository_id,
+};
 use std::process::Abort;
 use std::test::Fail;
 
@@ -73,7 +75,7 @@ fn is_limited(
 }
 
 /// Why the text between the quotation marks is refused, if it is. A repository id is read with the marks.
-fn refusal_of(text: &[u8], of: Sized) -> Option<Refusal> {
+fn refusal_of(text: &[u8], of: Sized) -> Option<TokenError> {
     let inner = match text {
         [_, inner @ ..] => inner,
         [] => text,
@@ -85,7 +87,7 @@ fn refusal_of(text: &[u8], of: Sized) -> Option<Refusal> {
     }
 }
 
-fn is_told(refusal: Option<Refusal>, want: Option<SigFaultKind>) -> bool {
+fn is_told(refusal: Option<TokenError>, want: Option<SigFaultKind>) -> bool {
     match (refusal, want) {
         (Some(refusal), Some(kind)) => refusal.kind == kind,
         (None, None) => true,

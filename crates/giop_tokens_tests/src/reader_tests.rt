@@ -1,7 +1,7 @@
 //! Readers: the token that they take, and the token that a text begins with.
 
 use giop_tokens::{
-    Mark, Refusal, ends, identifier, keyword, mark, number, operation_name, repository_id,
+    Mark, TokenError, identifier, is_at_end, keyword, mark, number, operation_name, repository_id,
     starts_with_keyword, starts_with_mark, word,
 };
 
@@ -13,7 +13,7 @@ fn readers_take_one_token(rt: HostRuntime) {
     assert!(rt; differs.is_empty(), "the mark of {differs}");
     let differs = keyword_ahead_differs(b" x");
     assert!(rt; differs.is_empty(), "the keyword of {differs}");
-    assert!(rt; ends(b" // x").is_ok_and(|is_end| is_end));
+    assert!(rt; is_at_end(b" // x").is_ok_and(|is_end| is_end));
 }
 
 /// The reader that doesn't take its token, if one doesn't.
@@ -44,7 +44,7 @@ fn taken_differs(after: &[u8]) -> &'static str {
 }
 
 /// What follows after the mark or keyword that a reader took.
-fn after_mark(taken: Result<&[u8], Refusal>) -> &[u8] {
+fn after_mark(taken: Result<&[u8], TokenError>) -> &[u8] {
     match taken {
         Ok(rest) => rest,
         Err(_) => b"refused",
@@ -52,7 +52,7 @@ fn after_mark(taken: Result<&[u8], Refusal>) -> &[u8] {
 }
 
 /// Whether a reader took this text, and left that one.
-fn takes(taken: Result<(&[u8], &[u8]), Refusal>, told: &[u8], after: &[u8]) -> bool {
+fn takes(taken: Result<(&[u8], &[u8]), TokenError>, told: &[u8], after: &[u8]) -> bool {
     match taken {
         Ok((name, rest)) => name == told && rest == after,
         Err(_) => false,
@@ -62,7 +62,7 @@ fn takes(taken: Result<(&[u8], &[u8]), Refusal>, told: &[u8], after: &[u8]) -> b
 const ANOTHER: &[u8] = b"another";
 
 /// What follows after the mark or keyword that a text begins with.
-fn after_first(found: Result<Option<&[u8]>, Refusal>) -> &[u8] {
+fn after_first(found: Result<Option<&[u8]>, TokenError>) -> &[u8] {
     match found {
         Ok(Some(rest)) => rest,
         Ok(None) => ANOTHER,

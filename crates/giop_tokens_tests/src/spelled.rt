@@ -1,6 +1,6 @@
 //! Tokens and refusals as text, and texts of many octets.
 
-use giop_tokens::{Mark, Refusal, SigFault, SigFaultKind, Token, fault_in, line_of, next};
+use giop_tokens::{Mark, SigFault, SigFaultKind, Token, TokenError, fault_in, line_of, next};
 use std::alloc::Global;
 use std::process::Abort;
 use std::test::Fail;
@@ -54,7 +54,11 @@ fn add_token(alloc: Global, token: Token, told: &mut Vec<u8>) -> Result<(), Fail
 }
 
 /// Adds the texts of all tokens of a text. Returns the refusal, if there is one.
-pub fn add_tokens(alloc: Global, text: &[u8], told: &mut Vec<u8>) -> Result<Option<Refusal>, Fail> {
+pub fn add_tokens(
+    alloc: Global,
+    text: &[u8],
+    told: &mut Vec<u8>,
+) -> Result<Option<TokenError>, Fail> {
     let mut rest = text;
     for _ in 0..text.len() + 1 {
         match next(rest) {
@@ -82,7 +86,7 @@ pub fn told_of(text: &[u8], kind: SigFaultKind, left: usize) -> Option<SigFault>
     if text.len() > 1_048_576 {
         return None;
     }
-    Some(fault_in(text, Refusal { kind, left }))
+    Some(fault_in(text, TokenError { kind, left }))
 }
 
 /// Makes a text: its front, then a part this many times, and then its end.

@@ -2,7 +2,7 @@
 
 use crate::rows::{LINES, READ, REFUSED, number_of, row_of};
 use crate::spelled::{add_tokens, expect, line_in, told_of};
-use giop_tokens::{Refusal, SigFault, SigFaultKind};
+use giop_tokens::{SigFault, SigFaultKind, TokenError};
 use std::alloc::Global;
 use std::process::Abort;
 use std::test::Fail;
@@ -11,14 +11,14 @@ use std::test::Fail;
 #[derive(Clone, Copy)]
 enum Rule {
     Tokens,
-    Refusal,
+    TokenError,
     Line,
 }
 
 #[test]
 fn each_text_is_told(rt: HostRuntime) -> Result<(), Fail> {
     each_is_told(&rt, READ, Rule::Tokens)?;
-    each_is_told(&rt, REFUSED, Rule::Refusal)?;
+    each_is_told(&rt, REFUSED, Rule::TokenError)?;
     each_is_told(&rt, LINES, Rule::Line)?;
     let kind = SigFaultKind::OutOfMemory;
     assert!(rt; told_of(b"a", kind, 1) == Some(SigFault { line: 0, kind }));
@@ -36,7 +36,7 @@ fn each_is_told(rt: &(impl Abort + AllocGlobal), rows: &[u8], rule: Rule) -> Res
 fn is_told(alloc: Global, rule: Rule, want: &[u8], text: &[u8]) -> Result<bool, Fail> {
     match rule {
         Rule::Tokens => is_read(alloc, want, text),
-        Rule::Refusal => is_refused(alloc, want, text),
+        Rule::TokenError => is_refused(alloc, want, text),
         Rule::Line => Ok(is_in_line(want, text)),
     }
 }
@@ -54,8 +54,8 @@ fn is_refused(alloc: Global, want: &[u8], text: &[u8]) -> Result<bool, Fail> {
 }
 
 /// Whether the refusal of a text is Token, with the number of octets left and the line that a row expects.
-fn is_refused_as(text: &[u8], refusal: Option<Refusal>, want: &[u8]) -> bool {
-    let Some(Refusal { kind, left }) = refusal else {
+fn is_refused_as(text: &[u8], refusal: Option<TokenError>, want: &[u8]) -> bool {
+    let Some(TokenError { kind, left }) = refusal else {
         return false;
     };
     if kind != SigFaultKind::Token || left != number_of(want, 0) {

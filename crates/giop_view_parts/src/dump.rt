@@ -1,12 +1,12 @@
 //! A dump: its lines by stream and message, and when a stream or message is over.
 
 use crate::connections::Ending;
-use crate::fault::ViewFault;
+use crate::fault::ViewError;
 use crate::message::{Key, Message, Own};
 use crate::open::Open;
 use crate::streams::{Stream, Streams};
 use crate::view::{Notice, View, is_after_end, is_last};
-use giop_lines::{Line, Said, Start, Value};
+use giop_lines::{DumpLine, Said, Start, Value};
 use giop_print::Out;
 use std::alloc::{AllocError, Global};
 
@@ -39,7 +39,7 @@ pub trait Maker {
         streams: &Streams,
         open: &mut Open<Self::Own>,
         message: Box<Message<Self::Own>>,
-    ) -> Result<(), ViewFault>;
+    ) -> Result<(), ViewError>;
 
     /// Takes a line of a stream or of a capture. The stream has noted it already.
     fn take_of_stream<O: Out>(
@@ -47,7 +47,7 @@ pub trait Maker {
         out: &mut O,
         stream: &Stream,
         said: Said<'_>,
-    ) -> Result<(), ViewFault>;
+    ) -> Result<(), ViewError>;
 
     /// Takes a stream that is over, after its messages, and what is then known about its connection.
     fn end_stream<O: Out>(
@@ -56,10 +56,10 @@ pub trait Maker {
         stream: &Stream,
         ending: Ending,
         open: &mut Open<Self::Own>,
-    ) -> Result<(), ViewFault>;
+    ) -> Result<(), ViewError>;
 
     /// Writes all that is left, after the last stream.
-    fn finish<O: Out>(&mut self, out: &mut O, open: &mut Open<Self::Own>) -> Result<(), ViewFault>;
+    fn finish<O: Out>(&mut self, out: &mut O, open: &mut Open<Self::Own>) -> Result<(), ViewError>;
 
     /// Whether more is held than may be, together with what the open messages hold.
     #[inline]
@@ -73,7 +73,7 @@ pub trait Maker {
         out: &mut O,
         streams: &Streams,
         open: &mut Open<Self::Own>,
-    ) -> Result<(), ViewFault>;
+    ) -> Result<(), ViewError>;
 
     /// What there was no room for, if there was anything.
     fn notice(&self) -> Option<Notice> {
@@ -107,7 +107,7 @@ impl<V: Maker + Drop> Dump<V> {
         out: &mut O,
         key: Key,
         said: Said<'_>,
-    ) -> Result<(), ViewFault> {
+    ) -> Result<(), ViewError> {
         if self.open.is_waiting() {
             if self.open.current_key() == Some(key) && is_after_end(said) {
                 return self.take_after_end(out, key, said);
@@ -127,7 +127,7 @@ impl<V: Maker + Drop> Dump<V> {
     }
 
     /// Notes a stream. If there is no room for one more, the one that began first ends.
-    fn enter_stream<O: Out>(&mut self, out: &mut O, stream: u64) -> Result<(), ViewFault> {
+    fn enter_stream<O: Out>(&mut self, out: &mut O, stream: u64) -> Result<(), ViewError> {
         if let Some(first) = self.streams.first_without_room(stream) {
             self.end_stream(out, first)?;
         }
@@ -141,7 +141,7 @@ impl<V: Maker + Drop> Dump<V> {
         out: &mut O,
         key: Key,
         said: Said<'_>,
-    ) -> Result<(), ViewFault> {
+    ) -> Result<(), ViewError> {
         self.note_time(key, said)?;
         if let Some(message) = self.open.current() {
             message.take(said)?;
@@ -153,7 +153,7 @@ impl<V: Maker + Drop> Dump<V> {
     }
 
     /// Ends the message of the last line.
-    fn end_current<O: Out>(&mut self, out: &mut O) -> Result<(), ViewFault> {
+    fn end_current<O: Out>(&mut self, out: &mut O) -> Result<(), ViewError> {
         match self.open.current_key() {
             None => Ok(()),
             Some(key) => self.end_message(out, key),
@@ -161,7 +161,7 @@ impl<V: Maker + Drop> Dump<V> {
     }
 
     /// Ends a message, if it is open.
-    fn end_message<O: Out>(&mut self, out: &mut O, key: Key) -> Result<(), ViewFault> {
+    fn end_message<O: Out>(&mut self, out: &mut O, key: Key) -> Result<(), ViewError> {
         let Some(message) = self.open.remove(key) else {
             return Ok(());
         };
@@ -173,7 +173,7 @@ impl<V: Maker + Drop> Dump<V> {
     }
 
     /// Ends an open message without the line that ends it.
-    fn cut_message<O: Out>(&mut self, out: &mut O, key: Key) -> Result<(), ViewFault> {
+    fn cut_message<O: Out>(&mut self, out: &mut O, key: Key) -> Result<(), ViewError> {
         if let Some(stream) = self.streams.get_mut(key.stream) {
             stream.remove(key.number);
         }
@@ -186,7 +186,7 @@ impl<V: Maker + Drop> Dump<V> {
         out: &mut O,
         key: Key,
         said: Said<'_>,
-    ) -> Result<(), ViewFault> {
+    ) -> Result<(), ViewError> {
         if let Said::Start(start) = said {
             self.take_start(out, key, start)?;
         }
@@ -218,7 +218,7 @@ impl<V: Maker + Drop> Dump<V> {
         out: &mut O,
         key: Key,
         start: Start<'_>,
-    ) -> Result<(), ViewFault> {
+    ) -> Result<(), ViewError> {
         let Some(stream) = self.streams.get_mut(key.stream) else {
             return Ok(());
         };
@@ -237,7 +237,7 @@ impl<V: Maker + Drop> Dump<V> {
     }
 
     /// Begins a message that isn't open. If there is no room for one more, the one that began first ends.
-    fn begin_message<O: Out>(&mut self, out: &mut O, key: Key) -> Result<(), ViewFault> {
+    fn begin_message<O: Out>(&mut self, out: &mut O, key: Key) -> Result<(), ViewError> {
         if let Some(first) = self.open.first_without_room() {
             self.cut_message(out, first)?;
         }
@@ -264,7 +264,7 @@ impl<V: Maker + Drop> Dump<V> {
         out: &mut O,
         key: Key,
         said: Said<'_>,
-    ) -> Result<(), ViewFault> {
+    ) -> Result<(), ViewError> {
         if let Some(stream) = self.streams.get_mut(key.stream) {
             stream.remove(key.number);
         }
@@ -287,7 +287,7 @@ impl<V: Maker + Drop> Dump<V> {
         out: &mut O,
         number: u64,
         said: Said<'_>,
-    ) -> Result<(), ViewFault> {
+    ) -> Result<(), ViewError> {
         self.streams.take(number, said)?;
         if let Some(stream) = self.streams.get(number) {
             self.maker.take_of_stream(out, stream, said)?;
@@ -299,7 +299,7 @@ impl<V: Maker + Drop> Dump<V> {
     }
 
     /// Ends a stream, after its open messages.
-    fn end_stream<O: Out>(&mut self, out: &mut O, number: u64) -> Result<(), ViewFault> {
+    fn end_stream<O: Out>(&mut self, out: &mut O, number: u64) -> Result<(), ViewError> {
         let Some(stream) = self.streams.get_mut(number) else {
             return Ok(());
         };
@@ -320,7 +320,7 @@ impl<V: Maker + Drop> Dump<V> {
 
     /// Makes room, if more is held than may be.
     #[inline]
-    fn make_room<O: Out>(&mut self, out: &mut O) -> Result<(), ViewFault> {
+    fn make_room<O: Out>(&mut self, out: &mut O) -> Result<(), ViewError> {
         if !self.maker.is_full(self.open.held()) {
             return Ok(());
         }
@@ -330,7 +330,7 @@ impl<V: Maker + Drop> Dump<V> {
 
 impl<V: Maker + Drop> View for Dump<V> {
     #[inline]
-    fn take<O: Out>(&mut self, out: &mut O, line: Line<'_>) -> Result<(), ViewFault> {
+    fn take<O: Out>(&mut self, out: &mut O, line: DumpLine<'_>) -> Result<(), ViewError> {
         let key = Key {
             stream: line.stream,
             number: line.message,
@@ -347,7 +347,7 @@ impl<V: Maker + Drop> View for Dump<V> {
         self.take_other(out, key, line.said)
     }
 
-    fn finish<O: Out>(&mut self, out: &mut O) -> Result<(), ViewFault> {
+    fn finish<O: Out>(&mut self, out: &mut O) -> Result<(), ViewError> {
         if self.open.is_waiting() {
             self.end_current(out)?;
         }

@@ -6,7 +6,7 @@ use thiserror::Error;
 
 /// Why a view of lines can't go on.
 #[derive(Clone, Copy, Debug, Drop, PartialEq, Eq, Error)]
-pub enum ViewFault {
+pub enum ViewError {
     /// There wasn't enough memory.
     #[error("out of memory")]
     OutOfMemory,
@@ -15,20 +15,20 @@ pub enum ViewFault {
     Out,
 }
 
-impl From<AllocError> for ViewFault {
-    fn from(_fault: AllocError) -> ViewFault {
-        ViewFault::OutOfMemory
+impl From<AllocError> for ViewError {
+    fn from(_fault: AllocError) -> ViewError {
+        ViewError::OutOfMemory
     }
 }
 
-impl<T: Drop> From<AllocFailed<T>> for ViewFault {
-    fn from(_fault: AllocFailed<T>) -> ViewFault {
-        ViewFault::OutOfMemory
+impl<T: Drop> From<AllocFailed<T>> for ViewError {
+    fn from(_fault: AllocFailed<T>) -> ViewError {
+        ViewError::OutOfMemory
     }
 }
 
-impl From<OutFault> for ViewFault {
-    fn from(_fault: OutFault) -> ViewFault {
-        ViewFault::Out
+impl From<OutFault> for ViewError {
+    fn from(_fault: OutFault) -> ViewError {
+        ViewError::Out
     }
 }

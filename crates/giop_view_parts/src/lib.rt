@@ -19,7 +19,7 @@ pub use connections::{Ending, Of};
 pub use dump::{Dump, Maker};
 pub use ends::{Endpoint, object_text};
 pub use facts::{Facts, Faulted, Header, Kind, Status, replace, replace_known};
-pub use fault::ViewFault;
+pub use fault::ViewError;
 pub use message::{Key, Message, Own};
 pub use open::{OPEN_MAX, Open, OwnKey, greater};
 pub use pool::{Place, Pool, Rank};

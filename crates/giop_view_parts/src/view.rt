@@ -1,7 +1,7 @@
 //! Something that takes the lines of a dump, and writes what it makes of them.
 
-use crate::fault::ViewFault;
-use giop_lines::{Line, Said};
+use crate::fault::ViewError;
+use giop_lines::{DumpLine, Said};
 use giop_print::Out;
 
 /// What is printed once at the end about the things that there was no room for.
@@ -20,10 +20,10 @@ pub struct Notice {
 /// Something that takes the lines of a dump, and writes what it makes of them.
 pub trait View {
     /// Takes a line, and writes what is due after it.
-    fn take<O: Out>(&mut self, out: &mut O, line: Line<'_>) -> Result<(), ViewFault>;
+    fn take<O: Out>(&mut self, out: &mut O, line: DumpLine<'_>) -> Result<(), ViewError>;
 
     /// Writes all that is left, because no more lines come.
-    fn finish<O: Out>(&mut self, out: &mut O) -> Result<(), ViewFault>;
+    fn finish<O: Out>(&mut self, out: &mut O) -> Result<(), ViewError>;
 
     /// What there was no room for, if there is anything that may have no room.
     fn notice(&self) -> Option<Notice>;

@@ -5,7 +5,7 @@ use giop_json_messages::{Calls, Messages};
 use giop_lines::read;
 use giop_print::Written;
 use giop_stat_counts::{Stat, Window};
-use giop_view_parts::{Dump, Maker, View, ViewFault};
+use giop_view_parts::{Dump, Maker, View, ViewError};
 use std::alloc::Global;
 use std::process::Abort;
 
@@ -57,7 +57,7 @@ client  server  calls  replies       min    median       p95       p99       max
 ";
 
 /// What is made of the lines of a dump.
-fn made_of<V: Maker + Drop>(alloc: Global, maker: V, lines: &str) -> Result<Vec<u8>, ViewFault> {
+fn made_of<V: Maker + Drop>(alloc: Global, maker: V, lines: &str) -> Result<Vec<u8>, ViewError> {
     let mut dump = Dump::new(alloc, maker)?;
     let mut octets = Vec::new(alloc);
     let mut out = Written::new(&mut octets);
@@ -84,21 +84,21 @@ fn settings() -> giop_json_messages::Settings {
 }
 
 #[test]
-fn a_message_is_an_object(rt: HostRuntime) -> Result<(), ViewFault> {
+fn a_message_is_an_object(rt: HostRuntime) -> Result<(), ViewError> {
     let messages = Messages::new(rt.alloc(), settings());
     expect(&rt, &made_of(rt.alloc(), messages, ASKED)?, OBJECTS);
     Ok(())
 }
 
 #[test]
-fn a_call_is_an_object(rt: HostRuntime) -> Result<(), ViewFault> {
+fn a_call_is_an_object(rt: HostRuntime) -> Result<(), ViewError> {
     let calls = Calls::new(rt.alloc(), settings());
     expect(&rt, &made_of(rt.alloc(), calls, ASKED)?, CALL);
     Ok(())
 }
 
 #[test]
-fn a_call_is_counted(rt: HostRuntime) -> Result<(), ViewFault> {
+fn a_call_is_counted(rt: HostRuntime) -> Result<(), ViewError> {
     let window = Window {
         first: None,
         last: None,

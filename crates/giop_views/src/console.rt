@@ -5,9 +5,9 @@ ghost use Rattle.std.specs.Prelude.{◌≤◌};
 use crate::run::{Report, run};
 use crate::watching::Watching;
 use giop_run::{
-    Inputs, Lines, Look, ProgramFault, Retrying, RunFault, ShownName, Source, failed, opened,
+    Inputs, Lines, Look, ProgramError, Retrying, RunFault, ShownName, Source, failed, open_file,
 };
-use giop_view_parts::{Dump, Maker, Notice, View, ViewFault};
+use giop_view_parts::{Dump, Maker, Notice, View, ViewError};
 
 /// The status if a line isn't one of a dump.
 const UNKNOWN: u8 = 3;
@@ -17,16 +17,21 @@ const UNREAD: u8 = 4;
 
 /// Writes to standard output what the program of this name makes of the lines of a file, or of standard input. Returns the
 /// status of the program, after it has printed what there is to say about the run.
-pub fn viewed<V: Maker + Drop>(rt: &HostRuntime, program: &str, file: Option<&str>, maker: V) -> u8
+pub fn run_view<V: Maker + Drop>(
+    rt: &HostRuntime,
+    program: &str,
+    file: Option<&str>,
+    maker: V,
+) -> u8
     ensures { result ≤ 5 }
 {
     let Ok(mut view) = Dump::new(rt.alloc(), maker) else {
-        return failed(rt, program, &ProgramFault::OutOfMemory);
+        return failed(rt, program, &ProgramError::OutOfMemory);
     };
     let Some(name) = file else {
         return view_source(rt, program, file, rt.standard_input(), &mut view);
     };
-    match opened(rt, name) {
+    match open_file(rt, name) {
         Ok(source) => view_source(rt, program, file, source, &mut view),
         Err(fault) => failed(rt, program, &fault),
     }
@@ -44,7 +49,7 @@ fn view_source<S: Source + Drop, V: View>(
 {
     let writer = Watching::new(Retrying::new(rt.stdout()));
     let Ok(mut out) = Lines::new(rt.alloc(), writer) else {
-        return failed(rt, program, &ProgramFault::OutOfMemory);
+        return failed(rt, program, &ProgramError::OutOfMemory);
     };
     let mut source = source;
     match run(rt.alloc(), &mut source, &mut out, view) {
@@ -53,9 +58,9 @@ fn view_source<S: Source + Drop, V: View>(
             let is_lost = say_notice(rt, program, view.notice());
             status(rt, program, report, is_lost)
         }
-        Err(ViewFault::OutOfMemory) => failed(rt, program, &ProgramFault::OutOfMemory),
-        Err(ViewFault::Out) if out.writer().is_unread() => UNREAD,
-        Err(ViewFault::Out) => failed(rt, program, &ProgramFault::Run(RunFault::Out)),
+        Err(ViewError::OutOfMemory) => failed(rt, program, &ProgramError::OutOfMemory),
+        Err(ViewError::Out) if out.writer().is_unread() => UNREAD,
+        Err(ViewError::Out) => failed(rt, program, &ProgramError::Run(RunFault::Out)),
     }
 }
 
@@ -97,7 +102,7 @@ fn status(rt: &HostRuntime, program: &str, report: Report, is_lost: bool) -> u8
     ensures { result ≤ 5 }
 {
     if report.is_unread {
-        return failed(rt, program, &ProgramFault::Run(RunFault::Read));
+        return failed(rt, program, &ProgramError::Run(RunFault::Read));
     }
     if report.unknown.is_some() {
         return UNKNOWN;

@@ -6,4 +6,4 @@ mod input;
 mod run;
 mod watching;
 
-pub use console::viewed;
+pub use console::run_view;

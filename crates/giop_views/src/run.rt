@@ -3,7 +3,7 @@
 use crate::input::Input;
 use giop_lines::read;
 use giop_run::{Flush, Source};
-use giop_view_parts::{View, ViewFault};
+use giop_view_parts::{View, ViewError};
 use std::alloc::Global;
 
 /// How a run ended.
@@ -24,7 +24,7 @@ pub(crate) fn run<S: Source, O: Flush, V: View>(
     source: &mut S,
     out: &mut O,
     view: &mut V,
-) -> Result<Report, ViewFault> {
+) -> Result<Report, ViewError> {
     let mut input = Input::new(alloc)?;
     let mut report = Report {
         unknown: None,
@@ -52,10 +52,10 @@ pub(crate) fn run<S: Source, O: Flush, V: View>(
     Ok(report)
 }
 
-fn flush<O: Flush>(out: &mut O) -> Result<(), ViewFault> {
+fn flush<O: Flush>(out: &mut O) -> Result<(), ViewError> {
     match out.flush() {
         Ok(()) => Ok(()),
-        Err(_) => Err(ViewFault::Out),
+        Err(_) => Err(ViewError::Out),
     }
 }
 
@@ -64,7 +64,7 @@ fn take_lines<O: Flush, V: View>(
     input: &mut Input,
     out: &mut O,
     view: &mut V,
-) -> Result<bool, ViewFault> {
+) -> Result<bool, ViewError> {
     for _ in 0..u64::MAX {
         let Some(text) = input.next() else {
             break;

@@ -1,7 +1,7 @@
 //! Dumps the GIOP conversations of a capture: octets in, lines on standard output.
 #![tactic(auto)]
 
-use giop_capture_program::program;
+use giop_capture::program;
 use std::process::ExitCode;
 
 fn main(rt: HostRuntime) -> ExitCode {

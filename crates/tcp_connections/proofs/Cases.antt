@@ -7,14 +7,14 @@ use Rattle.tcp_flow.specs.declared.hearing.Heard.{Heard}
 use Rattle.tcp_flow.specs.declared.flow.CloseCause.{CloseCause}
 use Rattle.tcp_flow.specs.declared.flow.CloseCause.TheVariants.{Reset, Syn}
 use Rattle.tcp_flow.specs.declared.flow.FlowState.{FlowState}
-use Rattle.tcp_flow.specs.Flow.{Flow, Passes, Reader, Arrival, Octets, End, Hears, closed, gap, step as flow_step, held_by_others}
+use Rattle.tcp_flow.specs.Flow.{Flow, Passes, Reader, Arrival, Octets, End, Hears, closed, gap, is_lost, step as flow_step, held_by_others}
 use Rattle.tcp_flow.specs.State.{state}
-use Rattle.tcp_flow.proofs.Steps.{heard_none}
+use Rattle.tcp_flow.proofs.Steps.{heard_none, heard_stops}
 use Rattle.tcp_streams.specs.declared.pair.Side.{Side}
 use Rattle.tcp_streams.specs.Pairs.{pair_of, opposite, flow_id}
 use Rattle.tcp_streams.specs.Lives.{lives}
 use Rattle.tcp_waiting.specs.Payload.{blocks_of}
-use Rattle.tcp_connections.specs.Connections.{State, with_segment, flow_at, with_flow, arrived, began, gapped, closed_at, flow_forgotten, place_of, room_at, gaps_at, ended_by, cleared, goes_before, eldest, with_room, next_room, made_known, first_number, number_behind, is_first, is_looked_through, looked_through, with_capture_event, is_kept, is_anew, is_reset, syn_at, syn_kept, flow_of_side, fin_taken, unknown_taken, heard, acknowledgement_heard, payload_taken, reset_taken, known_taken, step, is_holding, gaps_from, heaviest, relieved, within_pool}
+use Rattle.tcp_connections.specs.Connections.{State, with_segment, flow_at, with_flow, arrived, began, gapped, closed_at, flow_forgotten, index_of, slot_at, gaps_at, ended_by, cleared, goes_before, eldest, with_room, next_slot, made_known, first_number, number_behind, is_first, is_looked_through, looked_through, with_capture_event, is_kept, is_anew, is_reset, syn_at, syn_kept, flow_of_side, fin_taken, unknown_taken, heard, acknowledgement_heard, payload_taken, reset_taken, known_taken, step, is_holding, gaps_from, heaviest, relieved, within_pool}
 
 pub arrived_none : (F : Reader) (w : State) (id : ℕ) (a : Arrival) → flow_at w id ≡ None →
     arrived F w id a ≡ w
@@ -62,18 +62,28 @@ pub forgot_some : (w : State) (id : ℕ) (cause : CloseCause) (s : FlowState) �
 unfolding flow_forgotten
 forgot_some w id cause s e = rw (e, flow_forgotten) refl
 
--- if nothing waits, a packet says nothing of what is missing
-none_missed : (F : Reader) (f : Flow) (h : Heard) → length f.held ≡ 0 →
-    flow_step F f (Hears h) ≡ f
-unfolding flow_step
-none_missed F f h none = heard_none F (length f.held) h f (omega (arith, none))
-
 same_flow : (w : State) (id : ℕ) (s : FlowState) → flow_at w id ≡ Some s →
     with_flow w id (state s w.held w.events) ≡ w
 unfolding with_flow
 same_flow w id s e =
     ap (λ (flows : List (Option FlowState)). record w { flows = flows })
     (ap (set w.flows id) (sym e) ∙ set-get_or w.flows id None)
+
+-- if what is missing isn't given up, a packet changes nothing
+pub kept_heard : (F : Reader) (w : State) (id : ℕ) (h : Heard) (s : FlowState) →
+    flow_at w id ≡ Some s → is_lost h (state s w.held w.events) ≡ false →
+    arrived F w id (Hears h) ≡ w
+unfolding flow_step
+kept_heard F w id h s e kept =
+    arrived_some F w id (Hears h) s e
+    ∙ ap (with_flow w id) (heard_stops F (length w.held) h (state s w.held w.events) kept)
+    ∙ same_flow w id s e
+
+-- if nothing waits, a packet says nothing of what is missing
+none_missed : (F : Reader) (f : Flow) (h : Heard) → length f.held ≡ 0 →
+    flow_step F f (Hears h) ≡ f
+unfolding flow_step
+none_missed F f h none = heard_none F (length f.held) h f (omega (arith, none))
 
 none_heard : (F : Reader) (w : State) (id : ℕ) (h : Heard) (o : Option FlowState) →
     length w.held ≡ 0 → flow_at w id ≡ o → arrived F w id (Hears h) ≡ w
@@ -140,36 +150,36 @@ pub a_fin : (F : Reader) (w : State) (id : ℕ) (s : Segment) → s.fin ≡ true
 unfolding fin_taken
 a_fin F w id s e = cond-true s.fin (arrived F w id (End (number_behind s))) w e
 
-pub no_reset : (F : Reader) (w : State) (place : ℕ) (side : Side) (s : Segment) →
-    is_reset (flow_of_side w place side) s ≡ false → reset_taken F w place side s ≡ w
+pub no_reset : (F : Reader) (w : State) (index : ℕ) (side : Side) (s : Segment) →
+    is_reset (flow_of_side w index side) s ≡ false → reset_taken F w index side s ≡ w
 unfolding reset_taken
-no_reset F w place side s e =
-    cond-false (is_reset (flow_of_side w place side) s) (ended_by F w place side Reset) w e
+no_reset F w index side s e =
+    cond-false (is_reset (flow_of_side w index side) s) (ended_by F w index side Reset) w e
 
-pub a_reset : (F : Reader) (w : State) (place : ℕ) (side : Side) (s : Segment) →
-    is_reset (flow_of_side w place side) s ≡ true →
-    reset_taken F w place side s ≡ ended_by F w place side Reset
+pub a_reset : (F : Reader) (w : State) (index : ℕ) (side : Side) (s : Segment) →
+    is_reset (flow_of_side w index side) s ≡ true →
+    reset_taken F w index side s ≡ ended_by F w index side Reset
 unfolding reset_taken
-a_reset F w place side s e =
-    cond-true (is_reset (flow_of_side w place side) s) (ended_by F w place side Reset) w e
+a_reset F w index side s e =
+    cond-true (is_reset (flow_of_side w index side) s) (ended_by F w index side Reset) w e
 
 pub unknown_nothing : (F : Reader) (w : State) (s : Segment) → is_first w.ports s ≡ false →
     unknown_taken F w s ≡ looked_through w s
 unfolding unknown_taken
 unknown_nothing F w s e = cond-false (is_first w.ports s)
     (fin_taken F (began F (made_known (with_room F w) (pair_of s.flow).0)
-    (flow_id (next_room (with_room F w).free) (pair_of s.flow).1) (first_number s) s.payload)
-    (flow_id (next_room (with_room F w).free) (pair_of s.flow).1) s) (looked_through w s) e
+    (flow_id (next_slot (with_room F w).free) (pair_of s.flow).1) (first_number s) s.payload)
+    (flow_id (next_slot (with_room F w).free) (pair_of s.flow).1) s) (looked_through w s) e
 
 pub unknown_first : (F : Reader) (w : State) (s : Segment) → is_first w.ports s ≡ true
     → unknown_taken F w s ≡ fin_taken F (began F (made_known (with_room F w) (pair_of s.flow).0)
-    (flow_id (next_room (with_room F w).free) (pair_of s.flow).1) (first_number s) s.payload)
-    (flow_id (next_room (with_room F w).free) (pair_of s.flow).1) s
+    (flow_id (next_slot (with_room F w).free) (pair_of s.flow).1) (first_number s) s.payload)
+    (flow_id (next_slot (with_room F w).free) (pair_of s.flow).1) s
 unfolding unknown_taken
 unknown_first F w s e = cond-true (is_first w.ports s)
     (fin_taken F (began F (made_known (with_room F w) (pair_of s.flow).0)
-    (flow_id (next_room (with_room F w).free) (pair_of s.flow).1) (first_number s) s.payload)
-    (flow_id (next_room (with_room F w).free) (pair_of s.flow).1) s) (looked_through w s) e
+    (flow_id (next_slot (with_room F w).free) (pair_of s.flow).1) (first_number s) s.payload)
+    (flow_id (next_slot (with_room F w).free) (pair_of s.flow).1) s) (looked_through w s) e
 
 pub room_there : (F : Reader) (w : State) → length w.known < length w.lasts → with_room F w ≡ w
 unfolding with_room
@@ -183,75 +193,75 @@ room_made F w l = cond-false (nat_lt (length w.known) (length w.lasts)) w
     (cleared F w (eldest w (length w.known))) (le-ltb (length w.known) (length w.lasts) l)
 
 pub step_unknown : (F : Reader) (w : State) (s : Segment) →
-    place_of (pair_of s.flow).0 w.known ≡ None →
+    index_of (pair_of s.flow).0 w.known ≡ None →
     step F w s ≡ unknown_taken F (record w { segments = w.segments + 1 }) s
 unfolding step
 step_unknown F w s e = rw (e, step) refl
 
-pub step_kept : (F : Reader) (w : State) (s : Segment) (place : ℕ) →
-    place_of (pair_of s.flow).0 w.known ≡ Some place →
-    is_kept (flow_of_side w place (pair_of s.flow).1) s ≡ true
-    → step F w s ≡ syn_kept (record w { segments = w.segments + 1 }) (room_at w place)
-    (flow_id (room_at w place) (pair_of s.flow).1) s
+pub step_kept : (F : Reader) (w : State) (s : Segment) (index : ℕ) →
+    index_of (pair_of s.flow).0 w.known ≡ Some index →
+    is_kept (flow_of_side w index (pair_of s.flow).1) s ≡ true
+    → step F w s ≡ syn_kept (record w { segments = w.segments + 1 }) (slot_at w index)
+    (flow_id (slot_at w index) (pair_of s.flow).1) s
 unfolding step
-step_kept F w s place e a =
+step_kept F w s index e a =
     let v : State = record w { segments = w.segments + 1 } in
     let side : Side = (pair_of s.flow).1 in
-    let id : ℕ = flow_id (room_at v place) side in
-    rw (e, step) (cond-true (is_kept (flow_of_side v place side) s)
-    (syn_kept v (room_at v place) id s)
-    (cond (is_anew (syn_at v (room_at v place)) id s)
-    (unknown_taken F (ended_by F v place side Syn) s) (known_taken F v place s)) a)
+    let id : ℕ = flow_id (slot_at v index) side in
+    rw (e, step) (cond-true (is_kept (flow_of_side v index side) s)
+    (syn_kept v (slot_at v index) id s)
+    (cond (is_anew (syn_at v (slot_at v index)) id s)
+    (unknown_taken F (ended_by F v index side Syn) s) (known_taken F v index s)) a)
 
-pub step_anew : (F : Reader) (w : State) (s : Segment) (place : ℕ) →
-    place_of (pair_of s.flow).0 w.known ≡ Some place →
-    is_kept (flow_of_side w place (pair_of s.flow).1) s ≡ false →
-    is_anew (syn_at w (room_at w place)) (flow_id (room_at w place) (pair_of s.flow).1) s ≡ true
-    → step F w s ≡ unknown_taken F (ended_by F (record w { segments = w.segments + 1 }) place
+pub step_anew : (F : Reader) (w : State) (s : Segment) (index : ℕ) →
+    index_of (pair_of s.flow).0 w.known ≡ Some index →
+    is_kept (flow_of_side w index (pair_of s.flow).1) s ≡ false →
+    is_anew (syn_at w (slot_at w index)) (flow_id (slot_at w index) (pair_of s.flow).1) s ≡ true
+    → step F w s ≡ unknown_taken F (ended_by F (record w { segments = w.segments + 1 }) index
     (pair_of s.flow).1 Syn) s
 unfolding step
-step_anew F w s place e k a =
+step_anew F w s index e k a =
     let v : State = record w { segments = w.segments + 1 } in
     let side : Side = (pair_of s.flow).1 in
-    let id : ℕ = flow_id (room_at v place) side in
-    let there : State = unknown_taken F (ended_by F v place side Syn) s in
-    rw (e, step) (cond-false (is_kept (flow_of_side v place side) s)
-    (syn_kept v (room_at v place) id s)
-    (cond (is_anew (syn_at v (room_at v place)) id s) there (known_taken F v place s)) k
-    ∙ cond-true (is_anew (syn_at v (room_at v place)) id s) there (known_taken F v place s) a)
+    let id : ℕ = flow_id (slot_at v index) side in
+    let there : State = unknown_taken F (ended_by F v index side Syn) s in
+    rw (e, step) (cond-false (is_kept (flow_of_side v index side) s)
+    (syn_kept v (slot_at v index) id s)
+    (cond (is_anew (syn_at v (slot_at v index)) id s) there (known_taken F v index s)) k
+    ∙ cond-true (is_anew (syn_at v (slot_at v index)) id s) there (known_taken F v index s) a)
 
-pub step_known : (F : Reader) (w : State) (s : Segment) (place : ℕ) →
-    place_of (pair_of s.flow).0 w.known ≡ Some place →
-    is_kept (flow_of_side w place (pair_of s.flow).1) s ≡ false →
-    is_anew (syn_at w (room_at w place)) (flow_id (room_at w place) (pair_of s.flow).1) s ≡ false
-    → step F w s ≡ known_taken F (record w { segments = w.segments + 1 }) place s
+pub step_known : (F : Reader) (w : State) (s : Segment) (index : ℕ) →
+    index_of (pair_of s.flow).0 w.known ≡ Some index →
+    is_kept (flow_of_side w index (pair_of s.flow).1) s ≡ false →
+    is_anew (syn_at w (slot_at w index)) (flow_id (slot_at w index) (pair_of s.flow).1) s ≡ false
+    → step F w s ≡ known_taken F (record w { segments = w.segments + 1 }) index s
 unfolding step
-step_known F w s place e k a =
+step_known F w s index e k a =
     let v : State = record w { segments = w.segments + 1 } in
     let side : Side = (pair_of s.flow).1 in
-    let id : ℕ = flow_id (room_at v place) side in
-    let there : State = unknown_taken F (ended_by F v place side Syn) s in
-    rw (e, step) (cond-false (is_kept (flow_of_side v place side) s)
-    (syn_kept v (room_at v place) id s)
-    (cond (is_anew (syn_at v (room_at v place)) id s) there (known_taken F v place s)) k
-    ∙ cond-false (is_anew (syn_at v (room_at v place)) id s) there (known_taken F v place s) a)
+    let id : ℕ = flow_id (slot_at v index) side in
+    let there : State = unknown_taken F (ended_by F v index side Syn) s in
+    rw (e, step) (cond-false (is_kept (flow_of_side v index side) s)
+    (syn_kept v (slot_at v index) id s)
+    (cond (is_anew (syn_at v (slot_at v index)) id s) there (known_taken F v index s)) k
+    ∙ cond-false (is_anew (syn_at v (slot_at v index)) id s) there (known_taken F v index s) a)
 
 -- what a segment of a known connection does, step by step
-pub known_is : (F : Reader) (w : State) (place : ℕ) (s : Segment) (room : ℕ) (side : Side)
-    (id other : ℕ) → room ≡ room_at w place → side ≡ (pair_of s.flow).1 → id ≡ flow_id room side →
-    other ≡ flow_id room (opposite side)
-    → known_taken F w place s
+pub known_is : (F : Reader) (w : State) (index : ℕ) (s : Segment) (slot : ℕ) (side : Side)
+    (id other : ℕ) → slot ≡ slot_at w index → side ≡ (pair_of s.flow).1 → id ≡ flow_id slot side →
+    other ≡ flow_id slot (opposite side)
+    → known_taken F w index s
     ≡ heard F (reset_taken F (fin_taken F (payload_taken F (acknowledgement_heard F
-    (with_segment w room id) other s) id s) id s) place side s)
+    (with_segment w slot id) other s) id s) id s) index side s)
     id None false
 unfolding known_taken
-known_is F w place s room side id other e f g h =
+known_is F w index s slot side id other e f g h =
     let K : ℕ → Side → ℕ → ℕ → State = λ r d i o.
     heard F (reset_taken F (fin_taken F (payload_taken F (acknowledgement_heard F
-    (with_segment w r i) o s) i s) i s) place d s) i None false in
+    (with_segment w r i) o s) i s) i s) index d s) i None false in
     let here : Side = (pair_of s.flow).1 in
-    sym (ap (λ (i : ℕ). K room side i other) g ∙ ap (λ (o : ℕ). K room side (flow_id room side) o) h
-    ∙ ap (λ (d : Side). K room d (flow_id room d) (flow_id room (opposite d))) f
+    sym (ap (λ (i : ℕ). K slot side i other) g ∙ ap (λ (o : ℕ). K slot side (flow_id slot side) o) h
+    ∙ ap (λ (d : Side). K slot d (flow_id slot d) (flow_id slot (opposite d))) f
     ∙ ap (λ (r : ℕ). K r here (flow_id r here) (flow_id r (opposite here))) e)
 
 -- ---- Gaps in a flow until it holds nothing.

@@ -6,7 +6,7 @@ use Rattle.std.proofs.lemmas.Bool.{cases_Bool, cases_eq, cond-true, cond-false, 
 use Rattle.tcp_flow.specs.declared.flow.CloseCause.{CloseCause}
 use Rattle.tcp_flow.specs.declared.flow.CloseCause.TheVariants.{Gap, End}
 use Rattle.tcp_flow.specs.declared.flow.FlowState.{FlowState}
-use Rattle.tcp_flow.specs.declared.flow.ListenerFault.{ListenerFault}
+use Rattle.tcp_flow.specs.declared.flow.ListenerError.{ListenerError}
 use Rattle.tcp_flow.specs.Flow.{Flow, Event, Closes, closed, stopped, out_of_step, with_event, lives as has_stream}
 use Rattle.tcp_flow.specs.State.{state}
 use Rattle.tcp_flow.proofs.Room.{closed_dead}
@@ -78,11 +78,11 @@ module _ (Q : Option FlowState → Type 0) (none : Q None)
 -- ---- The end of a capture.
 
 -- a stream that closes at the end keeps its place in the order
-keeps_place : (w : State) (id : ℕ) (s : FlowState) (cause : CloseCause) → flow_at w id ≡ Some s →
+keeps_index : (w : State) (id : ℕ) (s : FlowState) (cause : CloseCause) → flow_at w id ≡ Some s →
     ((xs : List ℕ) → ended s.id cause xs ≡ xs)
     → lives (closed (state s w.held w.events) cause).events ≡ lives w.events
 unfolding closed with_event behind
-keeps_place w id s cause e keeps =
+keeps_index w id s cause e keeps =
     let f : Flow = state s w.held w.events in
     elim (cases_Bool (has_stream s.live s.waits)) [
       | inl y ↦ ap (λ (g : Flow). lives g.events)
@@ -107,7 +107,7 @@ end_lives w id = by (flow_at w id) refl
     by (Some s) e =
         ap (λ (o : Option FlowState). lives (closed_at w id (end_cause o)).events) e
         ∙ ap (λ (v : State). lives v.events) (closed_some w id (end_cause (Some s)) s e)
-        ∙ keeps_place w id s (end_cause (Some s)) e (λ xs. end_keeps (is_some s.fin) s.id xs)
+        ∙ keeps_index w id s (end_cause (Some s)) e (λ xs. end_keeps (is_some s.fin) s.id xs)
 
 -- one more stream closes
 pub closes_next : (xs : List ℕ) (i : ℕ) (w : State) → i < length xs →
@@ -119,7 +119,7 @@ closes_next xs i w l =
     rw (add-one, d) refl
 
 -- the code is at the end of a capture
-pub none_at_end : {X : Type 0} (r : Result X ListenerFault) (O : List Event → Type 0)
+pub none_at_end : {X : Type 0} (r : Result X ListenerError) (O : List Event → Type 0)
     (live : List ℕ) (c : Connections) (w : State)
     → ((id : ℕ) → is_some (live_at w id) ≡ true → 0 < times id (lives w.events))
     → OnOk r (IsAt O live c (all_closed (lives w.events) w))

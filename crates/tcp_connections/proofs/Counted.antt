@@ -9,7 +9,7 @@ use Rattle.tcp_streams.specs.declared.pair.EndpointPair.{EndpointPair}
 use Rattle.tcp_streams.specs.declared.pair.Side.{Side}
 use Rattle.tcp_streams.specs.Lives.{lives, elder_side}
 use Rattle.tcp_streams.specs.Pairs.{pair_of, opposite, flow_id}
-use Rattle.tcp_connections.specs.Connections.{State, with_segment, room_at, flow_forgotten, forgotten, shown, shown_by_age, ended_by, eldest, with_room, next_room, made_known, place_of, flow_of_side, syn_at, syn_kept, is_kept, is_anew, is_reset, is_first, looked_through, first_number, began, fin_taken, acknowledgement_heard, payload_taken, reset_taken, unknown_taken, known_taken, step}
+use Rattle.tcp_connections.specs.Connections.{State, with_segment, slot_at, flow_forgotten, forgotten, shown, shown_by_age, ended_by, eldest, with_room, next_slot, made_known, index_of, flow_of_side, syn_at, syn_kept, is_kept, is_anew, is_reset, is_first, looked_through, first_number, began, fin_taken, acknowledgement_heard, payload_taken, reset_taken, unknown_taken, known_taken, step}
 use Rattle.tcp_connections.proofs.Cases.{room_there, room_made, step_unknown, step_kept, step_anew, step_known}
 use Rattle.tcp_connections.proofs.Forgotten.{forgot_either}
 use Rattle.tcp_connections.proofs.Kept.{began_kept, looked_kept, heard_kept, acknowledgement_kept, payload_kept, fin_kept}
@@ -20,30 +20,30 @@ forgot_segments : (w : State) (id : ℕ) (cause : CloseCause) →
 forgot_segments w id cause = forgot_either (λ v. v.segments ≡ w.segments) w id cause (λ e. refl)
     (λ s e. refl)
 
-forgotten_segments : (w : State) (place : ℕ) (side : Side) (cause : CloseCause) →
-    (forgotten w place side cause).segments ≡ w.segments
+forgotten_segments : (w : State) (index : ℕ) (side : Side) (cause : CloseCause) →
+    (forgotten w index side cause).segments ≡ w.segments
 unfolding forgotten
-forgotten_segments w place side cause =
-    forgot_segments (flow_forgotten w (flow_id (room_at w place) side) cause)
-    (flow_id (room_at w place) (opposite side)) cause
-    ∙ forgot_segments w (flow_id (room_at w place) side) cause
+forgotten_segments w index side cause =
+    forgot_segments (flow_forgotten w (flow_id (slot_at w index) side) cause)
+    (flow_id (slot_at w index) (opposite side)) cause
+    ∙ forgot_segments w (flow_id (slot_at w index) side) cause
 
-shown_segments : (F : Reader) (w : State) (place room : ℕ) (side other : Side)
-    (cause : CloseCause) → (forgotten (shown F w room side) place other cause).segments ≡ w.segments
-shown_segments F w place room side other cause =
-    forgotten_segments (shown F w room side) place other cause ∙ (shown_kept F w room side).segments
+shown_segments : (F : Reader) (w : State) (index slot : ℕ) (side other : Side)
+    (cause : CloseCause) → (forgotten (shown F w slot side) index other cause).segments ≡ w.segments
+shown_segments F w index slot side other cause =
+    forgotten_segments (shown F w slot side) index other cause ∙ (shown_kept F w slot side).segments
 
 room_segments : (F : Reader) (w : State) → (with_room F w).segments ≡ w.segments
 room_segments F w =
     elim (cases_lt (length w.known) (length w.lasts)) [
       | inl l ↦ ap (λ (v : State). v.segments) (room_there F w l)
       | inr g ↦
-          (let place : ℕ = eldest w (length w.known) in
-          let room : ℕ = room_at w place in
-          let v : State = shown_by_age F w room in
+          (let index : ℕ = eldest w (length w.known) in
+          let slot : ℕ = slot_at w index in
+          let v : State = shown_by_age F w slot in
           ap (λ (v : State). v.segments) (room_made F w g)
-          ∙ shown_segments F w place room (elder_side room (lives w.events))
-          (elder_side room (lives v.events)) Room)
+          ∙ shown_segments F w index slot (elder_side slot (lives w.events))
+          (elder_side slot (lives v.events)) Room)
     ]
 
 made_segments : (w : State) (p : EndpointPair) → (made_known w p).segments ≡ w.segments
@@ -61,60 +61,60 @@ unfolding unknown_taken
 unknown_segments F w s =
     let v : State = with_room F w in
     let m : State = made_known v (pair_of s.flow).0 in
-    let id : ℕ = flow_id (next_room v.free) (pair_of s.flow).1 in
+    let id : ℕ = flow_id (next_slot v.free) (pair_of s.flow).1 in
     let b : State = began F m id (first_number s) s.payload in
     either w.segments (is_first w.ports s) (fin_taken F b id s) (looked_through w s)
     ((fin_kept F b id s).segments ∙ (began_kept F m id (first_number s) s.payload).segments
     ∙ made_segments v (pair_of s.flow).0 ∙ room_segments F w) (looked_kept w s).segments
 
-reset_segments : (F : Reader) (w : State) (place : ℕ) (side : Side) (s : Segment) →
-    (reset_taken F w place side s).segments ≡ w.segments
+reset_segments : (F : Reader) (w : State) (index : ℕ) (side : Side) (s : Segment) →
+    (reset_taken F w index side s).segments ≡ w.segments
 unfolding reset_taken
-reset_segments F w place side s =
-    either w.segments (is_reset (flow_of_side w place side) s) (ended_by F w place side Reset) w
-    (shown_segments F w place (room_at w place) side side Reset) refl
+reset_segments F w index side s =
+    either w.segments (is_reset (flow_of_side w index side) s) (ended_by F w index side Reset) w
+    (shown_segments F w index (slot_at w index) side side Reset) refl
 
-known_segments : (F : Reader) (w : State) (place : ℕ) (s : Segment) →
-    (known_taken F w place s).segments ≡ w.segments
+known_segments : (F : Reader) (w : State) (index : ℕ) (s : Segment) →
+    (known_taken F w index s).segments ≡ w.segments
 unfolding known_taken
-known_segments F w place s =
+known_segments F w index s =
     let side : Side = (pair_of s.flow).1 in
-    let room : ℕ = room_at w place in
-    let id : ℕ = flow_id room side in
-    let seen : State = with_segment w room id in
-    let told : State = acknowledgement_heard F seen (flow_id room (opposite side)) s in
+    let slot : ℕ = slot_at w index in
+    let id : ℕ = flow_id slot side in
+    let seen : State = with_segment w slot id in
+    let told : State = acknowledgement_heard F seen (flow_id slot (opposite side)) s in
     let paid : State = payload_taken F told id s in
     let ended : State = fin_taken F paid id s in
-    (heard_kept F (reset_taken F ended place side s) id None false).segments
-    ∙ reset_segments F ended place side s ∙ (fin_kept F paid id s).segments
+    (heard_kept F (reset_taken F ended index side s) id None false).segments
+    ∙ reset_segments F ended index side s ∙ (fin_kept F paid id s).segments
     ∙ (payload_kept F told id s).segments
-    ∙ (acknowledgement_kept F seen (flow_id room (opposite side)) s).segments
+    ∙ (acknowledgement_kept F seen (flow_id slot (opposite side)) s).segments
 
-kept_segments : (w : State) (room id : ℕ) (s : Segment) →
-    (syn_kept w room id s).segments ≡ w.segments
+kept_segments : (w : State) (slot id : ℕ) (s : Segment) →
+    (syn_kept w slot id s).segments ≡ w.segments
 unfolding syn_kept
-kept_segments w room id s = refl
+kept_segments w slot id s = refl
 
 pub step_segments : (F : Reader) (w : State) (s : Segment) → (step F w s).segments ≡ w.segments + 1
-step_segments F w s = by (place_of (pair_of s.flow).0 w.known) refl
+step_segments F w s = by (index_of (pair_of s.flow).0 w.known) refl
   where
-    by : (o : Option ℕ) → place_of (pair_of s.flow).0 w.known ≡ o →
+    by : (o : Option ℕ) → index_of (pair_of s.flow).0 w.known ≡ o →
         (step F w s).segments ≡ w.segments + 1
     by None e = ap (λ (v : State). v.segments) (step_unknown F w s e)
         ∙ unknown_segments F (record w { segments = w.segments + 1 }) s
-    by (Some place) e =
+    by (Some index) e =
         let v : State = record w { segments = w.segments + 1 } in
         let side : Side = (pair_of s.flow).1 in
-        let id : ℕ = flow_id (room_at w place) side in
-        elim (cases_Bool (is_kept (flow_of_side w place side) s)) [
-          | inl k ↦ ap (λ (u : State). u.segments) (step_kept F w s place e k)
-              ∙ kept_segments v (room_at w place) id s
+        let id : ℕ = flow_id (slot_at w index) side in
+        elim (cases_Bool (is_kept (flow_of_side w index side) s)) [
+          | inl k ↦ ap (λ (u : State). u.segments) (step_kept F w s index e k)
+              ∙ kept_segments v (slot_at w index) id s
           | inr k ↦
-              elim (cases_Bool (is_anew (syn_at w (room_at w place)) id s)) [
-                | inl a ↦ ap (λ (u : State). u.segments) (step_anew F w s place e k a)
-                    ∙ unknown_segments F (ended_by F v place side Syn) s
-                    ∙ shown_segments F v place (room_at v place) side side Syn
-                | inr a ↦ ap (λ (u : State). u.segments) (step_known F w s place e k a)
-                    ∙ known_segments F v place s
+              elim (cases_Bool (is_anew (syn_at w (slot_at w index)) id s)) [
+                | inl a ↦ ap (λ (u : State). u.segments) (step_anew F w s index e k a)
+                    ∙ unknown_segments F (ended_by F v index side Syn) s
+                    ∙ shown_segments F v index (slot_at v index) side side Syn
+                | inr a ↦ ap (λ (u : State). u.segments) (step_known F w s index e k a)
+                    ∙ known_segments F v index s
               ]
         ]

@@ -2,12 +2,12 @@
 use Rattle.std.proofs.Common.{◌≡◌, ◌⊎◌, ℕ, zero, suc, ◌<◌, ◌≤◌, Bool, true, false, cond, nat_eq, nat_lt, ◌&&◌, ◌||◌, length, refl, sym, ◌∙◌, subst, arith, inl, inr, true≢false}
 use Rattle.std.proofs.lemmas.Bool.{cases_Bool, cases_eq, cases_lt, cond-true, cond-false, lt-ltb, ltb-true, eqb-true, eq-eqb, or_cases, or_left, or_right, and_from, and_parts}
 use Rattle.tcp_flow.specs.Flow.{Reader}
-use Rattle.tcp_connections.specs.Connections.{State, room_at, is_live, is_both, class_of, goes_before, eldest}
+use Rattle.tcp_connections.specs.Connections.{State, slot_at, is_live, is_both, class_of, goes_before, eldest}
 use Rattle.tcp_connections.specs.Forgetting.{last_at, IsEldest, MakesRoom}
 use Rattle.tcp_connections.specs.Ranks.{IsBeforeAll}
 use Rattle.tcp_connections.specs.State.{IsSound}
 use Rattle.tcp_connections.proofs.Cases.{room_made}
-use Rattle.tcp_connections.proofs.Sound.{room_below}
+use Rattle.tcp_connections.proofs.Sound.{slot_below}
 use Rattle.tcp_connections.proofs.Times.{times_both}
 use Rattle.tcp_connections.proofs.Unknown.{eldest_within}
 
@@ -65,11 +65,11 @@ none_before w (suc n) k l =
           (sym (cond-true (goes_before w n best) n best e))
           (elim (cases_lt k n) [
             | inl less ↦ not_true (goes_before w k n) (λ o. true≢false
-                (sym (before_both (class_of w (room_at w k)) (class_of w (room_at w n))
-                (class_of w (room_at w best)) (last_at w k) (last_at w n) (last_at w best) o e)
+                (sym (before_both (class_of w (slot_at w k)) (class_of w (slot_at w n))
+                (class_of w (slot_at w best)) (last_at w k) (last_at w n) (last_at w best) o e)
                 ∙ none_before w n k less))
             | inr more ↦ subst (λ (i : ℕ). goes_before w i n ≡ false) (omega (arith, l, more))
-                (not_before_itself (class_of w (room_at w n)) (last_at w n))
+                (not_before_itself (class_of w (slot_at w n)) (last_at w n))
           ])
       | inr e ↦
           subst (λ (b : ℕ). goes_before w k b ≡ false)
@@ -81,20 +81,20 @@ none_before w (suc n) k l =
     ]
 
 -- the connection that goes before all others is the eldest
-pub only_eldest : (w : State) (place : ℕ) → IsSound w → place < length w.known →
-    IsBeforeAll w.flows w.came w.lasts (room_at w place) → place ≡ eldest w (length w.known)
-only_eldest w place h l first =
+pub only_eldest : (w : State) (index : ℕ) → IsSound w → index < length w.known →
+    IsBeforeAll w.flows w.came w.lasts (slot_at w index) → index ≡ eldest w (length w.known)
+only_eldest w index h l first =
     let best : ℕ = eldest w (length w.known) in
     let within : best < length w.known =
     eldest_within w (length w.known) (omega (arith, l)) in
-    elim (cases_eq place best) [
+    elim (cases_eq index best) [
       | inl e ↦ e
       | inr ne ↦ absurd (true≢false
-          (sym (first.before (room_at w best) (room_below w best h within) (λ e.
-          (let twice = times_both w.rooms best place (omega (arith, within, h.pairs))
+          (sym (first.before (slot_at w best) (slot_below w best h within) (λ e.
+          (let twice = times_both w.slots best index (omega (arith, within, h.pairs))
           (omega (arith, l, h.pairs)) (λ o. ne (sym o)) e in
-          omega (arith, twice, h.once (room_at w place)))))
-          ∙ none_before w (length w.known) place l))
+          omega (arith, twice, h.once (slot_at w index)))))
+          ∙ none_before w (length w.known) index l))
     ]
 
 -- a class, from whether a stream is live and whether segments of both flows came
@@ -128,24 +128,24 @@ seen_later a b m n h e =
 
 eldest_is_eldest : (w : State) → 0 < length w.known → IsEldest w (eldest w (length w.known))
 eldest_is_eldest w some =
-    let place : ℕ = eldest w (length w.known) in
-    let own : ℕ = room_at w place in
+    let index : ℕ = eldest w (length w.known) in
+    let own : ℕ = slot_at w index in
     record {
       within = eldest_within w (length w.known) some;
-      idle = λ live other l. alive_too (is_live w (room_at w other)) (is_live w own)
-          (is_both w (room_at w other)) (is_both w own) (last_at w other) (last_at w place)
+      idle = λ live other l. alive_too (is_live w (slot_at w other)) (is_live w own)
+          (is_both w (slot_at w other)) (is_both w own) (last_at w other) (last_at w index)
           (none_before w (length w.known) other l) live;
-      one_way = λ live both other l. both_too (is_live w (room_at w other)) (is_live w own)
-          (is_both w (room_at w other)) (is_both w own) (last_at w other) (last_at w place)
+      one_way = λ live both other l. both_too (is_live w (slot_at w other)) (is_live w own)
+          (is_both w (slot_at w other)) (is_both w own) (last_at w other) (last_at w index)
           (none_before w (length w.known) other l) live both;
-      oldest = λ other l alike. seen_later (class_of w (room_at w other)) (class_of w own)
-          (last_at w other) (last_at w place) (none_before w (length w.known) other l) alike;
+      oldest = λ other l alike. seen_later (class_of w (slot_at w other)) (class_of w own)
+          (last_at w other) (last_at w index) (none_before w (length w.known) other l) alike;
     }
 
 pub eldest_makes_room : (F : Reader) (w : State) → 0 < length w.known →
     length w.lasts ≤ length w.known → MakesRoom F w
 eldest_makes_room F w some full = record {
-  place = eldest w (length w.known);
+  index = eldest w (length w.known);
   eldest = eldest_is_eldest w some;
   cleared = room_made F w full;
 }

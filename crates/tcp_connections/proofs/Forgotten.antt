@@ -9,7 +9,7 @@ use Rattle.tcp_streams.specs.declared.pair.EndpointPair.{EndpointPair}
 use Rattle.tcp_streams.specs.declared.pair.Side.{Side}
 use Rattle.tcp_streams.specs.declared.pair.Side.TheVariants.{FromLesser, FromGreater}
 use Rattle.tcp_streams.specs.Pairs.{flow_id, opposite}
-use Rattle.tcp_connections.specs.Connections.{State, flow_at, flow_forgotten, forgotten, room_at}
+use Rattle.tcp_connections.specs.Connections.{State, flow_at, flow_forgotten, forgotten, slot_at}
 use Rattle.tcp_connections.specs.State.{IsSound}
 use Rattle.tcp_connections.proofs.Cases.{forgot_none, forgot_some}
 use Rattle.tcp_connections.proofs.Sound.{none_stays, unknown_sound}
@@ -35,9 +35,9 @@ pub forgot_known : (w : State) (id : ℕ) (cause : CloseCause) →
 forgot_known w id cause = forgot_either (λ v. v.known ≡ w.known) w id cause (λ e. refl)
     (λ s e. refl)
 
-pub forgot_rooms : (w : State) (id : ℕ) (cause : CloseCause) →
-    (flow_forgotten w id cause).rooms ≡ w.rooms
-forgot_rooms w id cause = forgot_either (λ v. v.rooms ≡ w.rooms) w id cause (λ e. refl)
+pub forgot_slots : (w : State) (id : ℕ) (cause : CloseCause) →
+    (flow_forgotten w id cause).slots ≡ w.slots
+forgot_slots w id cause = forgot_either (λ v. v.slots ≡ w.slots) w id cause (λ e. refl)
     (λ s e. refl)
 
 pub forgot_lasts : (w : State) (id : ℕ) (cause : CloseCause) →
@@ -61,61 +61,61 @@ stays_gone w id j cause l h = forgot_either (λ v. flow_at v j ≡ None) w id ca
     (λ s e. none_stays w id j l h)
 
 abbrev pub both_forgotten : State → ℕ → Side → CloseCause → State
-both_forgotten w room side cause = flow_forgotten (flow_forgotten w (flow_id room side) cause)
-    (flow_id room (opposite side)) cause
+both_forgotten w slot side cause = flow_forgotten (flow_forgotten w (flow_id slot side) cause)
+    (flow_id slot (opposite side)) cause
 
-pub both_known : (w : State) (room : ℕ) (side : Side) (cause : CloseCause) →
-    (both_forgotten w room side cause).known ≡ w.known
-both_known w room side cause = forgot_known (flow_forgotten w (flow_id room side) cause)
-    (flow_id room (opposite side)) cause ∙ forgot_known w (flow_id room side) cause
+pub both_known : (w : State) (slot : ℕ) (side : Side) (cause : CloseCause) →
+    (both_forgotten w slot side cause).known ≡ w.known
+both_known w slot side cause = forgot_known (flow_forgotten w (flow_id slot side) cause)
+    (flow_id slot (opposite side)) cause ∙ forgot_known w (flow_id slot side) cause
 
-pub both_rooms : (w : State) (room : ℕ) (side : Side) (cause : CloseCause) →
-    (both_forgotten w room side cause).rooms ≡ w.rooms
-both_rooms w room side cause = forgot_rooms (flow_forgotten w (flow_id room side) cause)
-    (flow_id room (opposite side)) cause ∙ forgot_rooms w (flow_id room side) cause
+pub both_slots : (w : State) (slot : ℕ) (side : Side) (cause : CloseCause) →
+    (both_forgotten w slot side cause).slots ≡ w.slots
+both_slots w slot side cause = forgot_slots (flow_forgotten w (flow_id slot side) cause)
+    (flow_id slot (opposite side)) cause ∙ forgot_slots w (flow_id slot side) cause
 
-pub both_gone : (w : State) (room : ℕ) (side : Side) (cause : CloseCause) →
-    2 * room + 1 < length w.flows
-    → (flow_at (both_forgotten w room side cause) (2 * room) ≡ None)
-    × (flow_at (both_forgotten w room side cause) (2 * room + 1) ≡ None)
-both_gone w room FromLesser cause l =
-    let v : State = flow_forgotten w (2 * room) cause in
-    let m : length v.flows ≡ length w.flows = forgot_flows w (2 * room) cause in (
-      stays_gone v (2 * room + 1) (2 * room) cause (omega (arith, l, m))
-          (gone w (2 * room) cause (omega (arith, l))),
-      gone v (2 * room + 1) cause (omega (arith, l, m)),
+pub both_gone : (w : State) (slot : ℕ) (side : Side) (cause : CloseCause) →
+    2 * slot + 1 < length w.flows
+    → (flow_at (both_forgotten w slot side cause) (2 * slot) ≡ None)
+    × (flow_at (both_forgotten w slot side cause) (2 * slot + 1) ≡ None)
+both_gone w slot FromLesser cause l =
+    let v : State = flow_forgotten w (2 * slot) cause in
+    let m : length v.flows ≡ length w.flows = forgot_flows w (2 * slot) cause in (
+      stays_gone v (2 * slot + 1) (2 * slot) cause (omega (arith, l, m))
+          (gone w (2 * slot) cause (omega (arith, l))),
+      gone v (2 * slot + 1) cause (omega (arith, l, m)),
     )
-both_gone w room FromGreater cause l =
-    let v : State = flow_forgotten w (2 * room + 1) cause in
-    let m : length v.flows ≡ length w.flows = forgot_flows w (2 * room + 1) cause in (
-      gone v (2 * room) cause (omega (arith, l, m)),
-      stays_gone v (2 * room) (2 * room + 1) cause (omega (arith, l, m))
-          (gone w (2 * room + 1) cause l),
+both_gone w slot FromGreater cause l =
+    let v : State = flow_forgotten w (2 * slot + 1) cause in
+    let m : length v.flows ≡ length w.flows = forgot_flows w (2 * slot + 1) cause in (
+      gone v (2 * slot) cause (omega (arith, l, m)),
+      stays_gone v (2 * slot) (2 * slot + 1) cause (omega (arith, l, m))
+          (gone w (2 * slot + 1) cause l),
     )
 
 -- after a connection was forgotten
-pub forgotten_sound : (w : State) (place : ℕ) (side : Side) (cause : CloseCause) → IsSound w →
-    IsSound (both_forgotten w (room_at w place) side cause) → place < length w.known →
-    2 * room_at w place + 1 < length w.flows
-    → IsSound (forgotten w place side cause)
+pub forgotten_sound : (w : State) (index : ℕ) (side : Side) (cause : CloseCause) → IsSound w →
+    IsSound (both_forgotten w (slot_at w index) side cause) → index < length w.known →
+    2 * slot_at w index + 1 < length w.flows
+    → IsSound (forgotten w index side cause)
 unfolding forgotten
-forgotten_sound w place side cause h k l m =
-    let room : ℕ = room_at w place in
-    let v : State = both_forgotten w room side cause in
-    let gone = both_gone w room side cause m in
-    unknown_sound v place room k (omega (arith, l, ap length (both_known w room side cause)))
-    (ap (λ (rs : List ℕ). get_or rs place 0) (both_rooms w room side cause)) gone.0 gone.1
+forgotten_sound w index side cause h k l m =
+    let slot : ℕ = slot_at w index in
+    let v : State = both_forgotten w slot side cause in
+    let gone = both_gone w slot side cause m in
+    unknown_sound v index slot k (omega (arith, l, ap length (both_known w slot side cause)))
+    (ap (λ (rs : List ℕ). get_or rs index 0) (both_slots w slot side cause)) gone.0 gone.1
 
-pub forgotten_known : (w : State) (place : ℕ) (side : Side) (cause : CloseCause) →
-    (forgotten w place side cause).known ≡ remove w.known place
+pub forgotten_known : (w : State) (index : ℕ) (side : Side) (cause : CloseCause) →
+    (forgotten w index side cause).known ≡ remove w.known index
 unfolding forgotten
-forgotten_known w place side cause = ap (λ (ps : List EndpointPair). remove ps place)
-    (both_known w (room_at w place) side cause)
+forgotten_known w index side cause = ap (λ (ps : List EndpointPair). remove ps index)
+    (both_known w (slot_at w index) side cause)
 
-pub forgotten_lasts : (w : State) (place : ℕ) (side : Side) (cause : CloseCause) →
-    (forgotten w place side cause).lasts ≡ w.lasts
+pub forgotten_lasts : (w : State) (index : ℕ) (side : Side) (cause : CloseCause) →
+    (forgotten w index side cause).lasts ≡ w.lasts
 unfolding forgotten
-forgotten_lasts w place side cause =
-    forgot_lasts (flow_forgotten w (flow_id (room_at w place) side) cause)
-    (flow_id (room_at w place) (opposite side)) cause
-    ∙ forgot_lasts w (flow_id (room_at w place) side) cause
+forgotten_lasts w index side cause =
+    forgot_lasts (flow_forgotten w (flow_id (slot_at w index) side) cause)
+    (flow_id (slot_at w index) (opposite side)) cause
+    ∙ forgot_lasts w (flow_id (slot_at w index) side) cause

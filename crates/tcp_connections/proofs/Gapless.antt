@@ -14,9 +14,9 @@ use Rattle.tcp_flow.specs.Laws.{AllFollow, AllArePartsOf}
 use Rattle.tcp_streams.specs.declared.pair.EndpointPair.{EndpointPair}
 use Rattle.tcp_streams.specs.declared.pair.Side.{Side}
 use Rattle.tcp_streams.specs.Pairs.{compare_pairs, pair_of, opposite, flow_id, flow_from}
-use Rattle.tcp_connections.specs.Connections.{State, with_segment, none_known, flow_at, began, syn_at, syn_kept, flow_of_side, place_of, room_at, ended_by, with_room, next_room, made_known, first_number, is_first, looked_through, is_kept, is_anew, fin_taken, unknown_taken, acknowledgement_heard, payload_taken, reset_taken, known_taken, step, after, with_packet, with_capture_event, ended}
+use Rattle.tcp_connections.specs.Connections.{State, with_segment, none_known, flow_at, began, syn_at, syn_kept, flow_of_side, index_of, slot_at, ended_by, with_room, next_slot, made_known, first_number, is_first, looked_through, is_kept, is_anew, fin_taken, unknown_taken, acknowledgement_heard, payload_taken, reset_taken, known_taken, step, after, with_packet, with_capture_event, ended}
 use Rattle.tcp_connections.specs.declared.syns.KeptSyn.{KeptSyn}
-use Rattle.tcp_connections.specs.Gapless.{IsOfSegment, AreGapless, AreWhole, HaveRooms}
+use Rattle.tcp_connections.specs.Gapless.{IsOfSegment, AreGapless, AreWhole, HaveSlots}
 use Rattle.tcp_connections.specs.Owned.{AreOwned}
 use Rattle.tcp_connections.specs.State.{times}
 use Rattle.tcp_connections.proofs.Cases.{step_unknown, step_kept, step_anew, step_known}
@@ -25,7 +25,7 @@ use Rattle.tcp_connections.proofs.Following.{some_same, due_in, Follow, gaps_fol
 use Rattle.tcp_connections.proofs.Kept.{acknowledgement_kept, payload_kept, fin_kept, half}
 use Rattle.tcp_connections.proofs.Owners.{owner_of}
 use Rattle.tcp_connections.proofs.OwnersEnd.{end_owns}
-use Rattle.tcp_connections.proofs.Roomy.{rooms_in, after_rooms, ended_rooms, owned_rooms}
+use Rattle.tcp_connections.proofs.Roomy.{slots_in, after_slots, ended_slots, owned_slots}
 use Rattle.tcp_connections.proofs.OwnersGrown.{slice_more, owns_grown, none_owns}
 use Rattle.tcp_connections.proofs.OwnersKnown.{theirs_at, flow_of_pair}
 use Rattle.tcp_connections.proofs.OwnFlows.{either}
@@ -33,7 +33,7 @@ use Rattle.tcp_connections.proofs.Search.{forgotten_unknown}
 pub use Rattle.tcp_connections.proofs.SegmentParts.{At}
 use Rattle.tcp_connections.proofs.SegmentParts.{IsIn, capture_at, looked_at, fin_at, heard_at, first_at, payload_at, id_within, shown_at, reset_at, with_room_at, made_owner, made_at}
 use Rattle.tcp_connections.proofs.Shown.{shown_known}
-use Rattle.tcp_connections.proofs.Sound.{IsApart, some_none, apart_taken, room_below, sound_seen}
+use Rattle.tcp_connections.proofs.Sound.{IsApart, some_none, apart_taken, slot_below, sound_seen}
 use Rattle.tcp_connections.proofs.Start.{none_sound}
 use Rattle.tcp_connections.proofs.Times.{times_at, no_flow, none_there}
 use Rattle.tcp_connections.proofs.Unknown.{room_enough, next_below, next_vacant, next_taken, made_flows}
@@ -41,26 +41,26 @@ use Rattle.tcp_connections.proofs.Unknown.{room_enough, next_below, next_vacant,
 -- ---- A segment comes.
 
 unknown_at : (segments : List Segment) (F : Reader) (w : State) (s : Segment) → IsIn segments s →
-    place_of (pair_of s.flow).0 w.known ≡ None → At segments w → At segments (unknown_taken F w s)
+    index_of (pair_of s.flow).0 w.known ≡ None → At segments w → At segments (unknown_taken F w s)
 unfolding unknown_taken
 unknown_at segments F w s among new h =
     let pair : EndpointPair = (pair_of s.flow).0 in
     let side : Side = (pair_of s.flow).1 in
     let v : State = with_room F w in
-    let room : ℕ = next_room v.free in
-    let id : ℕ = flow_id room side in
+    let slot : ℕ = next_slot v.free in
+    let id : ℕ = flow_id slot side in
     let made : State = made_known v pair in
     let enough = room_enough F w pair h.sound new in
     let roomy : At segments v = with_room_at segments F w h in
     let m : At segments made = made_at segments v pair enough.1 enough.0 roomy in
-    let below : room < length v.lasts = next_below v roomy.sound enough.1 in
+    let below : slot < length v.lasts = next_below v roomy.sound enough.1 in
     let within : id < length made.flows = omega (
       arith,
-      id_within v room side roomy.sound below,
+      id_within v slot side roomy.sound below,
       made_flows v pair,
     ) in
-    let taken : 0 < times (id / 2) made.rooms =
-    subst (λ (n : ℕ). 0 < times n made.rooms) (sym (half room side)) (next_taken v pair) in
+    let taken : 0 < times (id / 2) made.slots =
+    subst (λ (n : ℕ). 0 < times n made.slots) (sym (half slot side)) (next_taken v pair) in
     let apart : IsApart made id = apart_taken made id m.sound taken in
     let began_there : State = began F made id (first_number s) s.payload in
     let own : owner_of made.events id ≡ Some s.flow =
@@ -83,65 +83,65 @@ seen_at : (segments : List Segment) (w : State) (lasts : List ℕ) (syns : List 
     })
 seen_at segments w lasts syns noted count arrival e h = search (arith, sound_seen)
 
-syn_kept_at : (segments : List Segment) (w : State) (room id : ℕ) (s : Segment) → At segments w →
-    At segments (syn_kept w room id s)
+syn_kept_at : (segments : List Segment) (w : State) (slot id : ℕ) (s : Segment) → At segments w →
+    At segments (syn_kept w slot id s)
 unfolding syn_kept
-syn_kept_at segments w room id s h = search (arith, seen_at, set, length-set)
+syn_kept_at segments w slot id s h = search (arith, seen_at, set, length-set)
 
-known_at : (segments : List Segment) (F : Reader) (w : State) (place : ℕ) (s : Segment) →
-    IsIn segments s → place_of (pair_of s.flow).0 w.known ≡ Some place → place < length w.known →
-    At segments w → At segments (known_taken F w place s)
+known_at : (segments : List Segment) (F : Reader) (w : State) (index : ℕ) (s : Segment) →
+    IsIn segments s → index_of (pair_of s.flow).0 w.known ≡ Some index → index < length w.known →
+    At segments w → At segments (known_taken F w index s)
 unfolding known_taken
-known_at segments F w place s among is l h =
+known_at segments F w index s among is l h =
     let side : Side = (pair_of s.flow).1 in
-    let room : ℕ = room_at w place in
-    let id : ℕ = flow_id room side in
-    let opposite_id : ℕ = flow_id room (opposite side) in
-    let seen : State = with_segment w room id in
+    let slot : ℕ = slot_at w index in
+    let id : ℕ = flow_id slot side in
+    let opposite_id : ℕ = flow_id slot (opposite side) in
+    let seen : State = with_segment w slot id in
     let told : State = acknowledgement_heard F seen opposite_id s in
     let paid : State = payload_taken F told id s in
     let kept = acknowledgement_kept F seen opposite_id s in
     let at_told : At segments told = heard_at segments F seen opposite_id
     s.acknowledgement (nat_lt 0 (length s.payload))
-    (seen_at segments w (set w.lasts room w.segments) w.syns (set w.came id true) w.segments
+    (seen_at segments w (set w.lasts slot w.segments) w.syns (set w.came id true) w.segments
     w.arrival
-    (length-set w.lasts room w.segments) h) in
+    (length-set w.lasts slot w.segments) h) in
     let within : id < length told.flows =
-    omega (arith, id_within w room side h.sound (room_below w place h.sound l), kept.flows) in
-    let own : 0 < times room w.rooms = times_at w.rooms place (omega (arith, l, h.sound.pairs)) in
-    let taken : 0 < times (id / 2) told.rooms =
-    subst (λ (rs : List ℕ). 0 < times (id / 2) rs) (sym kept.rooms)
-    (subst (λ (n : ℕ). 0 < times n w.rooms) (sym (half room side)) own) in
-    let there : owner_of told.events (flow_id (get_or told.rooms place 0) side)
+    omega (arith, id_within w slot side h.sound (slot_below w index h.sound l), kept.flows) in
+    let own : 0 < times slot w.slots = times_at w.slots index (omega (arith, l, h.sound.pairs)) in
+    let taken : 0 < times (id / 2) told.slots =
+    subst (λ (rs : List ℕ). 0 < times (id / 2) rs) (sym kept.slots)
+    (subst (λ (n : ℕ). 0 < times n w.slots) (sym (half slot side)) own) in
+    let there : owner_of told.events (flow_id (get_or told.slots index 0) side)
     ≡ Some (flow_from (pair_of s.flow).0 side) =
-    theirs_at (owner_of told.events) (pair_of s.flow).0 told.known told.rooms place side
-    (sym at_told.sound.pairs) (ap (place_of (pair_of s.flow).0) kept.known ∙ is)
+    theirs_at (owner_of told.events) (pair_of s.flow).0 told.known told.slots index side
+    (sym at_told.sound.pairs) (ap (index_of (pair_of s.flow).0) kept.known ∙ is)
     at_told.owns.known in
     let mine : owner_of told.events id ≡ Some s.flow =
-    subst (λ (rs : List ℕ). owner_of told.events (flow_id (get_or rs place 0) side)
-    ≡ Some (flow_from (pair_of s.flow).0 side)) kept.rooms there
+    subst (λ (rs : List ℕ). owner_of told.events (flow_id (get_or rs index 0) side)
+    ≡ Some (flow_from (pair_of s.flow).0 side)) kept.slots there
     ∙ ap Some (flow_of_pair s.flow) in
     let at_paid : At segments paid = payload_at segments F told id s among mine at_told within
     (apart_taken told id at_told.sound taken) in
     let known : (fin_taken F paid id s).known ≡ w.known =
     (fin_kept F paid id s).known ∙ (payload_kept F told id s).known ∙ kept.known in
-    heard_at segments F (reset_taken F (fin_taken F paid id s) place side s) id None false
-    (reset_at segments F (fin_taken F paid id s) place side s (omega (arith, l, ap length known))
+    heard_at segments F (reset_taken F (fin_taken F paid id s) index side s) id None false
+    (reset_at segments F (fin_taken F paid id s) index side s (omega (arith, l, ap length known))
     (fin_at segments F paid id s at_paid))
 
-pub place_within : (p : EndpointPair) (ps : List EndpointPair) (i : ℕ) → place_of p ps ≡ Some i →
+pub index_within : (p : EndpointPair) (ps : List EndpointPair) (i : ℕ) → index_of p ps ≡ Some i →
     i < length ps
-unfolding place_of
-place_within p [] i e = search (arith, true≢false, is_some)
-place_within p (q ∷ qs) i e =
+unfolding index_of
+index_within p [] i e = search (arith, true≢false, is_some)
+index_within p (q ∷ qs) i e =
     elim (cases_Bool (is_eq (compare_pairs q p))) [
       | inl b ↦
           (let z : 0 ≡ i = some_same 0 i (sym (cond-true (is_eq (compare_pairs q p)) (Some 0)
-          (option_map suc (place_of p qs)) b) ∙ e) in
+          (option_map suc (index_of p qs)) b) ∙ e) in
           omega (arith, z))
       | inr b ↦
-          further (place_of p qs) (length qs) i (λ k d. place_within p qs k d)
-          (sym (cond-false (is_eq (compare_pairs q p)) (Some 0) (option_map suc (place_of p qs)) b)
+          further (index_of p qs) (length qs) i (λ k d. index_within p qs k d)
+          (sym (cond-false (is_eq (compare_pairs q p)) (Some 0) (option_map suc (index_of p qs)) b)
           ∙ e)
     ]
   where
@@ -152,7 +152,7 @@ place_within p (q ∷ qs) i e =
 
 step_at_in : (segments : List Segment) (F : Reader) (w : State) (s : Segment) → IsIn segments s →
     At segments w → At segments (step F w s)
-step_at_in segments F w s among h = by (place_of (pair_of s.flow).0 w.known) refl
+step_at_in segments F w s among h = by (index_of (pair_of s.flow).0 w.known) refl
   where
     v : State
     v = record w { segments = w.segments + 1 }
@@ -160,26 +160,26 @@ step_at_in segments F w s among h = by (place_of (pair_of s.flow).0 w.known) ref
     counted : At segments v
     counted = search (arith, seen_at)
 
-    by : (o : Option ℕ) → place_of (pair_of s.flow).0 w.known ≡ o → At segments (step F w s)
+    by : (o : Option ℕ) → index_of (pair_of s.flow).0 w.known ≡ o → At segments (step F w s)
     by None e = search (arith, step_unknown, unknown_at, counted)
-    by (Some place) e =
+    by (Some index) e =
         let side : Side = (pair_of s.flow).1 in
-        let within : place < length w.known = place_within (pair_of s.flow).0 w.known place e in
-        let room : ℕ = room_at w place in
-        let id : ℕ = flow_id room side in
-        elim (cases_Bool (is_kept (flow_of_side w place side) s)) [
-          | inl k ↦ subst (At segments) (sym (step_kept F w s place e k))
-              (syn_kept_at segments v room id s counted)
+        let within : index < length w.known = index_within (pair_of s.flow).0 w.known index e in
+        let slot : ℕ = slot_at w index in
+        let id : ℕ = flow_id slot side in
+        elim (cases_Bool (is_kept (flow_of_side w index side) s)) [
+          | inl k ↦ subst (At segments) (sym (step_kept F w s index e k))
+              (syn_kept_at segments v slot id s counted)
           | inr k ↦
-              elim (cases_Bool (is_anew (syn_at w room) id s)) [
+              elim (cases_Bool (is_anew (syn_at w slot) id s)) [
                 | inl a ↦
-                    subst (At segments) (sym (step_anew F w s place e k a))
-                    (unknown_at segments F (ended_by F v place side Syn) s among
-                    (ap (place_of (pair_of s.flow).0) (shown_known F v place room side side Syn)
-                    ∙ forgotten_unknown (pair_of s.flow).0 w.known place h.sound.order e)
-                    (shown_at segments F v place room side side Syn within counted))
-                | inr a ↦ subst (At segments) (sym (step_known F w s place e k a))
-                    (known_at segments F v place s among e within counted)
+                    subst (At segments) (sym (step_anew F w s index e k a))
+                    (unknown_at segments F (ended_by F v index side Syn) s among
+                    (ap (index_of (pair_of s.flow).0) (shown_known F v index slot side side Syn)
+                    ∙ forgotten_unknown (pair_of s.flow).0 w.known index h.sound.order e)
+                    (shown_at segments F v index slot side side Syn within counted))
+                | inr a ↦ subst (At segments) (sym (step_known F w s index e k a))
+                    (known_at segments F v index s among e within counted)
               ]
         ]
 
@@ -313,18 +313,18 @@ after_end_owned F ports blocks most segments some few =
     ended_owned segments F (after F (none_known ports blocks most []) segments)
     (after_at [] segments F (none_known ports blocks most []) (start_at ports blocks most some few))
 
--- ---- Each event is in a flow of a connection that has a room.
+-- ---- Each event is in a flow of a connection that has a slot.
 
-pub ended_have_rooms : (segments : List Segment) (F : Reader) (most : ℕ) (w : State) →
-    At segments w → rooms_in w ≡ most → HaveRooms most (ended F w).events
-ended_have_rooms segments F most w h many =
-    owned_rooms segments most (ended F w) (end_owns segments h.payloads F w h.follow h.owns)
-    (ended_rooms F w ∙ many)
+pub ended_have_slots : (segments : List Segment) (F : Reader) (most : ℕ) (w : State) →
+    At segments w → slots_in w ≡ most → HaveSlots most (ended F w).events
+ended_have_slots segments F most w h many =
+    owned_slots segments most (ended F w) (end_owns segments h.payloads F w h.follow h.owns)
+    (ended_slots F w ∙ many)
 
-pub after_end_rooms : (F : Reader) (ports : List ℕ) (blocks most : ℕ) (segments : List Segment) →
+pub after_end_slots : (F : Reader) (ports : List ℕ) (blocks most : ℕ) (segments : List Segment) →
     1 ≤ most → most ≤ 65536
-    → HaveRooms most (ended F (after F (none_known ports blocks most []) segments)).events
-after_end_rooms F ports blocks most segments some few =
-    ended_have_rooms segments F most (after F (none_known ports blocks most []) segments)
+    → HaveSlots most (ended F (after F (none_known ports blocks most []) segments)).events
+after_end_slots F ports blocks most segments some few =
+    ended_have_slots segments F most (after F (none_known ports blocks most []) segments)
     (after_at [] segments F (none_known ports blocks most []) (start_at ports blocks most some few))
-    (after_rooms F (none_known ports blocks most []) segments ∙ length-replicate most 0)
+    (after_slots F (none_known ports blocks most []) segments ∙ length-replicate most 0)

@@ -3,7 +3,7 @@ use Rattle.std.proofs.Common.{◌≡◌, ℕ, zero, suc, ◌<◌, ◌≤◌, ◌
 use Rattle.std.proofs.lemmas.Bool.{cases_Bool, cases_eq, cases_lt, eqb-true}
 use Rattle.tcp_waiting.specs.Payload.{load_of}
 use Rattle.tcp_streams.specs.Lives.{lives}
-use Rattle.tcp_rooms.specs.Ranks.{IsFirst}
+use Rattle.tcp_slots.specs.Ranks.{IsFirst}
 use Rattle.tcp_connections.specs.declared.givers.Givers.{Givers}
 use Rattle.tcp_connections.specs.Connections.{State, live_at, heaviest}
 use Rattle.tcp_connections.specs.Givers.{number_at}
@@ -12,7 +12,7 @@ use Rattle.tcp_connections.specs.State.{AreRanked, IsSound, StandBefore, times}
 use Rattle.tcp_connections.proofs.Heaviest.{heaviest_first, loaded_told, loaded_within}
 use Rattle.tcp_connections.proofs.Times.{times_at}
 
--- at which place a number stands in a list
+-- at which index a number stands in a list
 there : (n : ℕ) (xs : List ℕ) → 0 < times n xs → (k : ℕ) × ((k < length xs) × (get_or xs k 0 ≡ n))
 unfolding times
 there n [] l = absurd (omega (arith, l))
@@ -56,7 +56,7 @@ heaviest_before w id h l ne as_much =
 pub first_gives_up : (g : Givers) (w : State) (id : ℕ) → IsSound w →
     ((j : ℕ) → is_some (live_at w j) ≡ true → 0 < times j (lives w.events))
     → AreRanked g (length w.flows) w.held (lives w.events)
-    → IsFirst g.ranks.rooms g.ranks.nodes.items id → ((j : ℕ) → number_at g j < 2 ^ 64)
+    → IsFirst g.ranks.slots g.ranks.nodes.items id → ((j : ℕ) → number_at g j < 2 ^ 64)
     → 0 < load_of id w.held → id ≡ heaviest w
 first_gives_up g w id h told ranked first small some =
     let ids : List ℕ = lives w.events in

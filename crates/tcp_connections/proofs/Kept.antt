@@ -1,4 +1,4 @@
--- A step of a flow leaves which connections are known, and their rooms.
+-- A step of a flow leaves which connections are known, and their slots.
 use Rattle.std.proofs.Common.{◌≡◌, ℕ, ◌/◌, Bool, true, false, cond, nat_lt, List, length, Option, Some, None, refl, sym, ◌∙◌, subst, arith, length-set}
 use Rattle.tcp_segment.specs.Segments.{Segment}
 use Rattle.tcp_flow.specs.declared.flow.FlowState.{FlowState}
@@ -13,7 +13,7 @@ use Rattle.tcp_connections.proofs.Repeated.{relieved_keep}
 
 pub record IsKept (w v : State) : Type 0 where
   pub known : v.known ≡ w.known
-  pub rooms : v.rooms ≡ w.rooms
+  pub slots : v.slots ≡ w.slots
   pub free : v.free ≡ w.free
   pub lasts : v.lasts ≡ w.lasts
   pub flows : length v.flows ≡ length w.flows
@@ -22,7 +22,7 @@ pub record IsKept (w v : State) : Type 0 where
 pub kept_self : (w : State) → IsKept w w
 kept_self w = record {
   known = refl;
-  rooms = refl;
+  slots = refl;
   free = refl;
   lasts = refl;
   flows = refl;
@@ -33,7 +33,7 @@ pub with_flow_kept : (w : State) (id : ℕ) (f : Flow) → IsKept w (with_flow w
 unfolding with_flow
 with_flow_kept w id f = record {
   known = refl;
-  rooms = refl;
+  slots = refl;
   free = refl;
   lasts = refl;
   flows =
@@ -73,7 +73,7 @@ unfolding looked_through
 looked_kept w s = either w (is_looked_through w.ports s)
     (with_capture_event w (Passes s.payload)) w (record {
       known = refl;
-      rooms = refl;
+      slots = refl;
       free = refl;
       lasts = refl;
       flows = refl;
@@ -90,7 +90,7 @@ gapped_kept F v w id h = by (flow_at w id) refl
         let k = with_flow_kept w id (gap F (state s w.held w.events)) in
         subst (IsKept v) (sym (gapped_some F w id s e)) (record {
           known = k.known ∙ h.known;
-          rooms = k.rooms ∙ h.rooms;
+          slots = k.slots ∙ h.slots;
           free = k.free ∙ h.free;
           lasts = k.lasts ∙ h.lasts;
           flows = k.flows ∙ h.flows;
@@ -122,7 +122,7 @@ unfolding fin_taken
 fin_kept F w id s = either w s.fin (arrived F w id (End (number_behind s))) w
     (arrived_kept F w id (End (number_behind s))) (kept_self w)
 
--- the room of an id
-pub half : (room : ℕ) (side : Side) → flow_id room side / 2 ≡ room
-half room FromLesser = omega arith
-half room FromGreater = omega arith
+-- the slot of an id
+pub half : (slot : ℕ) (side : Side) → flow_id slot side / 2 ≡ slot
+half slot FromLesser = omega arith
+half slot FromGreater = omega arith

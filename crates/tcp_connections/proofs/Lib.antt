@@ -21,7 +21,7 @@ pub mod OwnersGrown
 pub mod OwnersKnown
 pub mod Ranked
 pub mod Repeated
-pub mod Rooms
+pub mod Slots
 pub mod Roomy
 pub mod SamePairs
 pub mod Search

@@ -200,6 +200,7 @@ resumed_turn : (id : ℕ) (es : List Event) (g : Flow) → id < most_ids → IsT
 resumed_turn id es g l t = either (IsTurn id es) g.waits (started g g.next) g
     (started_turn id es g g.next l t) t
 
+-- looking through a payload tells of no stream of another flow
 looked_turn : (F : Reader) (id : ℕ) (es : List Event) (g : Flow) (q : Payload)
     (o : Option Tail) → id < most_ids → IsTurn id es g →
     IsTurn id es (flow_looked F g q o)

@@ -56,7 +56,7 @@ StandsAs segments s (Some f) =
 
 -- the ids of the flows of known connections stand for those flows
 abbrev pub AreTheirs : (ℕ → Option Endpoints) → List EndpointPair → List ℕ → Type 0
-AreTheirs owners [] rooms = Unit {0}
+AreTheirs owners [] slots = Unit {0}
 AreTheirs owners (p ∷ ps) [] = Unit {0}
 AreTheirs owners (p ∷ ps) (r ∷ rs) =
     (owners (2 * r) ≡ Some (flow_from p FromLesser))
@@ -66,7 +66,7 @@ pub record Owns (segments : List Segment) (w : State) : Type 0 where
   pub come : (id : ℕ) → AllMayCome segments id Unopened w.events
   pub flows : (id : ℕ) → StandsAs segments (stands_for w.events id) (flow_at w id)
   pub held : AllByRecursion (IsPartOfOwn segments (owner_of w.events)) w.held
-  pub known : AreTheirs (owner_of w.events) w.known w.rooms
+  pub known : AreTheirs (owner_of w.events) w.known w.slots
   pub beyond : (id : ℕ) → 2 * length w.lasts ≤ id → owner_of w.events id ≡ None
 
 pub all_map : (P Q : Payload → Type 0) (ps : List Payload) → ((p : Payload) → P p → Q p) →
@@ -137,7 +137,7 @@ owned_flow segments w id o f h l own t others =
                 (h.flows j))
           ];
       held = held_same segments (owner_of w.events) (owner_of f.events) f.held same t.held;
-      known = theirs_same (owner_of w.events) (owner_of f.events) w.known w.rooms same h.known;
+      known = theirs_same (owner_of w.events) (owner_of f.events) w.known w.slots same h.known;
       beyond = λ j many. same j ∙ h.beyond j many;
     }
 

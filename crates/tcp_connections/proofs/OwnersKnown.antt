@@ -16,7 +16,7 @@ use Rattle.tcp_streams.specs.declared.pair.EndpointPair.{EndpointPair}
 use Rattle.tcp_streams.specs.declared.pair.Side.{Side}
 use Rattle.tcp_streams.specs.declared.pair.Side.TheVariants.{FromLesser, FromGreater}
 use Rattle.tcp_streams.specs.Pairs.{compare_pairs, pair_of, flow_id, flow_from}
-use Rattle.tcp_connections.specs.Connections.{State, flow_at, flow_forgotten, place_of, place_among, next_room, made_known, with_capture_event}
+use Rattle.tcp_connections.specs.Connections.{State, flow_at, flow_forgotten, index_of, index_among, next_slot, made_known, with_capture_event}
 use Rattle.tcp_connections.specs.Owned.{Standing, Unopened, Idle, Live, owner, MayCome, AllMayCome}
 use Rattle.tcp_connections.specs.State.{times}
 use Rattle.tcp_connections.proofs.Forgotten.{forgot_either}
@@ -91,7 +91,7 @@ forgot_owns segments w id cause numbers h =
       held = held_same segments (owner_of w.events) (owner_of c.events)
           (held_by_others id w.held) there
           (all_others (IsPartOfOwn segments (owner_of w.events)) id w.held h.held);
-      known = theirs_same (owner_of w.events) (owner_of c.events) w.known w.rooms there h.known;
+      known = theirs_same (owner_of w.events) (owner_of c.events) w.known w.slots there h.known;
       beyond = λ j many. there j ∙ h.beyond j many;
     })
 
@@ -130,7 +130,7 @@ told_owns segments w event h =
           (h.flows j);
       held = held_same segments (owner_of w.events) (owner_of events) w.held
           (λ j. ap owner (all j).is) h.held;
-      known = theirs_same (owner_of w.events) (owner_of events) w.known w.rooms
+      known = theirs_same (owner_of w.events) (owner_of events) w.known w.slots
           (λ j. ap owner (all j).is) h.known;
       beyond = λ j many. ap owner (all j).is ∙ h.beyond j many;
     }
@@ -207,45 +207,45 @@ opens_owns segments flows held events id o e none h =
       record { own = ap owner here.is; others = λ j n. ap owner (there j n).is },
     )
 
--- the ids of other rooms stand for what they did
-theirs_kept : (owners owners' : ℕ → Option Endpoints) (room : ℕ) (ps : List EndpointPair)
-    (rs : List ℕ) → times room rs ≡ 0
-    → ((j : ℕ) → (j ≡ 2 * room → ⊥) → (j ≡ 2 * room + 1 → ⊥) → owners' j ≡ owners j)
+-- the ids of other slots stand for what they did
+theirs_kept : (owners owners' : ℕ → Option Endpoints) (slot : ℕ) (ps : List EndpointPair)
+    (rs : List ℕ) → times slot rs ≡ 0
+    → ((j : ℕ) → (j ≡ 2 * slot → ⊥) → (j ≡ 2 * slot + 1 → ⊥) → owners' j ≡ owners j)
     → AreTheirs owners ps rs → AreTheirs owners' ps rs
 unfolding times
-theirs_kept owners owners' room [] rs none same h = tt
-theirs_kept owners owners' room (q ∷ ps) [] none same h = tt
-theirs_kept owners owners' room (q ∷ ps) (r ∷ rs) none same h = search (
+theirs_kept owners owners' slot [] rs none same h = tt
+theirs_kept owners owners' slot (q ∷ ps) [] none same h = tt
+theirs_kept owners owners' slot (q ∷ ps) (r ∷ rs) none same h = search (
   arith,
   cond,
   nat_eq,
   eq-eqb,
-  theirs_kept owners owners' room ps rs (omega (arith, none)) same h.2,
+  theirs_kept owners owners' slot ps rs (omega (arith, none)) same h.2,
 )
 
--- the ids of a room stand for its flows from now on
-pub theirs_with : (owners owners' : ℕ → Option Endpoints) (p : EndpointPair) (room : ℕ)
-    (ps : List EndpointPair) (rs : List ℕ) (i : ℕ) → times room rs ≡ 0
-    → owners' (2 * room) ≡ Some (flow_from p FromLesser) →
-    owners' (2 * room + 1) ≡ Some (flow_from p FromGreater)
-    → ((j : ℕ) → (j ≡ 2 * room → ⊥) → (j ≡ 2 * room + 1 → ⊥) → owners' j ≡ owners j)
+-- the ids of a slot stand for its flows from now on
+pub theirs_with : (owners owners' : ℕ → Option Endpoints) (p : EndpointPair) (slot : ℕ)
+    (ps : List EndpointPair) (rs : List ℕ) (i : ℕ) → times slot rs ≡ 0
+    → owners' (2 * slot) ≡ Some (flow_from p FromLesser) →
+    owners' (2 * slot + 1) ≡ Some (flow_from p FromGreater)
+    → ((j : ℕ) → (j ≡ 2 * slot → ⊥) → (j ≡ 2 * slot + 1 → ⊥) → owners' j ≡ owners j)
     → length ps ≡ length rs → AreTheirs owners ps rs →
-    AreTheirs owners' (insert ps i p) (insert rs i room)
+    AreTheirs owners' (insert ps i p) (insert rs i slot)
 unfolding times
-theirs_with owners owners' p room [] [] zero none a b same l h = (a, b, tt)
-theirs_with owners owners' p room [] [] (suc i) none a b same l h = (a, b, tt)
-theirs_with owners owners' p room [] (r ∷ rs) i none a b same l h = absurd (omega (arith, l))
-theirs_with owners owners' p room (q ∷ ps) [] i none a b same l h = absurd (omega (arith, l))
-theirs_with owners owners' p room (q ∷ ps) (r ∷ rs) zero none a b same l h = search (
+theirs_with owners owners' p slot [] [] zero none a b same l h = (a, b, tt)
+theirs_with owners owners' p slot [] [] (suc i) none a b same l h = (a, b, tt)
+theirs_with owners owners' p slot [] (r ∷ rs) i none a b same l h = absurd (omega (arith, l))
+theirs_with owners owners' p slot (q ∷ ps) [] i none a b same l h = absurd (omega (arith, l))
+theirs_with owners owners' p slot (q ∷ ps) (r ∷ rs) zero none a b same l h = search (
   arith,
   theirs_kept,
 )
-theirs_with owners owners' p room (q ∷ ps) (r ∷ rs) (suc i) none a b same l h = search (
+theirs_with owners owners' p slot (q ∷ ps) (r ∷ rs) (suc i) none a b same l h = search (
   arith,
   cond,
   nat_eq,
   eq-eqb,
-  theirs_with owners owners' p room ps rs i (omega (arith, none)) a b same
+  theirs_with owners owners' p slot ps rs i (omega (arith, none)) a b same
       (omega (arith, l)) h.2,
 )
 
@@ -257,9 +257,9 @@ equal_of Equal e = refl
 equal_of Greater e = absurd (true≢false (sym e))
 
 pub theirs_at : (owners : ℕ → Option Endpoints) (p : EndpointPair) (ps : List EndpointPair)
-    (rs : List ℕ) (i : ℕ) (side : Side) → length ps ≡ length rs → place_of p ps ≡ Some i →
+    (rs : List ℕ) (i : ℕ) (side : Side) → length ps ≡ length rs → index_of p ps ≡ Some i →
     AreTheirs owners ps rs → owners (flow_id (get_or rs i 0) side) ≡ Some (flow_from p side)
-unfolding place_of
+unfolding index_of
 theirs_at owners p [] rs i side l e h = search (arith, true≢false, is_some)
 theirs_at owners p (q ∷ ps) [] i side l e h = absurd (omega (arith, l))
 theirs_at owners p (q ∷ ps) (r ∷ rs) i side l e h =
@@ -267,13 +267,13 @@ theirs_at owners p (q ∷ ps) (r ∷ rs) i side l e h =
       | inl b ↦
           (let same : q ≡ p = same_pair_of q p (equal_of (compare_pairs q p) b) in
           let z : 0 ≡ i = some_number 0 i (sym (cond-true (is_eq (compare_pairs q p)) (Some 0)
-          (option_map suc (place_of p ps)) b) ∙ e) in
+          (option_map suc (index_of p ps)) b) ∙ e) in
           subst (λ (k : ℕ). owners (flow_id (get_or (r ∷ rs) k 0) side) ≡ Some (flow_from p side)) z
           (subst (λ (x : EndpointPair). owners (flow_id r side) ≡ Some (flow_from x side)) same
           (first side)))
-      | inr b ↦ further (place_of p ps) i
+      | inr b ↦ further (index_of p ps) i
           (λ k d. theirs_at owners p ps rs k side (omega (arith, l)) d h.2)
-          (sym (cond-false (is_eq (compare_pairs q p)) (Some 0) (option_map suc (place_of p ps)) b)
+          (sym (cond-false (is_eq (compare_pairs q p)) (Some 0) (option_map suc (index_of p ps)) b)
           ∙ e)
     ]
   where
@@ -297,51 +297,51 @@ flow_of_pair flow = search (arith)
 
 -- ---- A connection becomes known.
 
-pub record MadeKnown (segments : List Segment) (w : State) (p : EndpointPair) (room : ℕ)
+pub record MadeKnown (segments : List Segment) (w : State) (p : EndpointPair) (slot : ℕ)
     : Type 0 where
   pub owns : Owns segments (made_known w p)
-  pub own : (side : Side) → owner_of (made_known w p).events (flow_id room side)
+  pub own : (side : Side) → owner_of (made_known w p).events (flow_id slot side)
       ≡ Some (flow_from p side)
 
 pub made_owns : (segments : List Segment) (w : State) (p : EndpointPair) →
-    next_room w.free < length w.lasts → flow_at w (2 * next_room w.free) ≡ None → flow_at w
-    (2 * next_room w.free + 1) ≡ None
-    → count_of (2 * next_room w.free) w.held ≡ 0 → count_of (2 * next_room w.free + 1) w.held ≡ 0
-    → times (next_room w.free) w.rooms ≡ 0 → length w.known ≡ length w.rooms → Owns segments w →
-    MadeKnown segments w p (next_room w.free)
+    next_slot w.free < length w.lasts → flow_at w (2 * next_slot w.free) ≡ None → flow_at w
+    (2 * next_slot w.free + 1) ≡ None
+    → count_of (2 * next_slot w.free) w.held ≡ 0 → count_of (2 * next_slot w.free + 1) w.held ≡ 0
+    → times (next_slot w.free) w.slots ≡ 0 → length w.known ≡ length w.slots → Owns segments w →
+    MadeKnown segments w p (next_slot w.free)
 unfolding made_known
 made_owns segments w p below lesser greater none none' apart l h =
-    let room : ℕ = next_room w.free in
+    let slot : ℕ = next_slot w.free in
     let a : Endpoints = flow_from p FromLesser in
     let b : Endpoints = flow_from p FromGreater in
-    let one : List Event = w.events ++ Opens (2 * room) a ∷ [] in
-    let two : List Event = one ++ Opens (2 * room + 1) b ∷ [] in
-    let first = opens_owns segments w.flows w.held w.events (2 * room) a lesser none
+    let one : List Event = w.events ++ Opens (2 * slot) a ∷ [] in
+    let two : List Event = one ++ Opens (2 * slot + 1) b ∷ [] in
+    let first = opens_owns segments w.flows w.held w.events (2 * slot) a lesser none
     (record { come = h.come; flows = h.flows; held = h.held }) in
-    let second = opens_owns segments w.flows w.held one (2 * room + 1) b greater none' first.0 in
-    let own : owner_of two (2 * room) ≡ Some a =
-    second.1.others (2 * room) (λ o. absurd (omega (arith, o))) ∙ first.1.own in
+    let second = opens_owns segments w.flows w.held one (2 * slot + 1) b greater none' first.0 in
+    let own : owner_of two (2 * slot) ≡ Some a =
+    second.1.others (2 * slot) (λ o. absurd (omega (arith, o))) ∙ first.1.own in
     record {
       owns = record {
         come = second.0.come;
         flows = second.0.flows;
         held = second.0.held;
-        known = theirs_with (owner_of w.events) (owner_of two) p room w.known w.rooms
-            (place_among p w.known) apart own second.1.own
+        known = theirs_with (owner_of w.events) (owner_of two) p slot w.known w.slots
+            (index_among p w.known) apart own second.1.own
             (λ j m n. second.1.others j n ∙ first.1.others j m) l h.known;
         beyond =
             λ j many.
-            let size = length-set w.lasts room w.segments in
+            let size = length-set w.lasts slot w.segments in
             second.1.others j (λ o. absurd (omega (arith, o, many, size, below)))
             ∙ first.1.others j (λ o. absurd (omega (arith, o, many, size, below)))
             ∙ h.beyond j (omega (arith, many, size));
       };
-      own = λ side. by (owner_of two) room p own second.1.own side;
+      own = λ side. by (owner_of two) slot p own second.1.own side;
     }
   where
-    by : (owners : ℕ → Option Endpoints) (room : ℕ) (q : EndpointPair) →
-        owners (2 * room) ≡ Some (flow_from q FromLesser) →
-        owners (2 * room + 1) ≡ Some (flow_from q FromGreater) → (side : Side) →
-        owners (flow_id room side) ≡ Some (flow_from q side)
-    by owners room q x y FromLesser = x
-    by owners room q x y FromGreater = y
+    by : (owners : ℕ → Option Endpoints) (slot : ℕ) (q : EndpointPair) →
+        owners (2 * slot) ≡ Some (flow_from q FromLesser) →
+        owners (2 * slot + 1) ≡ Some (flow_from q FromGreater) → (side : Side) →
+        owners (flow_id slot side) ≡ Some (flow_from q side)
+    by owners slot q x y FromLesser = x
+    by owners slot q x y FromGreater = y

@@ -1,8 +1,8 @@
--- The ranks of rooms have the order in which connections make room, and they only rise.
+-- The ranks of slots have the order in which connections make room, and they only rise.
 use Rattle.std.proofs.Common.{◌≡◌, ℕ, zero, suc, ◌+◌, ◌*◌, ◌^◌, ◌<◌, ◌≤◌, Bool, true, false, cond, nat_eq, nat_lt, ◌&&◌, ◌||◌, List, [], ◌∷◌, length, get_or, set, replicate, Option, Some, None, is_some, refl, sym, ap, ◌∙◌, arith, inl, inr, true≢false}
 use Rattle.std.proofs.lemmas.Bool.{cases_eq, cases_lt, lt-ltb, le-ltb, eq-eqb, ne_eqb, or_cases, or_left, or_right, or_from, and_from, and_left, and_right, and_parts}
 use Rattle.tcp_flow.specs.declared.flow.FlowState.{FlowState}
-use Rattle.tcp_rooms.specs.Ranks.{IsFirst, rank_at}
+use Rattle.tcp_slots.specs.Ranks.{IsFirst, rank_at}
 use Rattle.tcp_connections.specs.Connections.{has_live}
 use Rattle.tcp_connections.specs.Ranks.{AreAtMost, IsBeforeAll, rank_among, class_among, has_come_among}
 
@@ -30,23 +30,23 @@ ranks_before a b m n k l =
       ]
     ]
 
--- the room of the least noted rank makes room before all others, if that is its true rank
-pub first_before : (rooms : ℕ) (nodes : List ℕ) (flows : List (Option FlowState))
-    (came : List Bool) (lasts : List ℕ) (room : ℕ) → IsFirst rooms nodes room →
-    AreAtMost rooms nodes flows came lasts →
-    rank_at rooms nodes room ≡ rank_among flows came lasts room → length lasts ≡ rooms →
-    ((k : ℕ) → get_or lasts k 0 < 2 ^ 64) → IsBeforeAll flows came lasts room
-first_before rooms nodes flows came lasts room h most own many small = record {
+-- the slot of the least noted rank makes room before all others, if that is its true rank
+pub first_before : (slots : ℕ) (nodes : List ℕ) (flows : List (Option FlowState))
+    (came : List Bool) (lasts : List ℕ) (slot : ℕ) → IsFirst slots nodes slot →
+    AreAtMost slots nodes flows came lasts →
+    rank_at slots nodes slot ≡ rank_among flows came lasts slot → length lasts ≡ slots →
+    ((k : ℕ) → get_or lasts k 0 < 2 ^ 64) → IsBeforeAll flows came lasts slot
+first_before slots nodes flows came lasts slot h most own many small = record {
   within = omega (arith, h.within, many);
   before = λ other l ne.
-      let within : other < rooms = omega (arith, l, many) in
+      let within : other < slots = omega (arith, l, many) in
       let noted = h.least other within ne in
       let up = most other within in
-      let less : rank_among flows came lasts room < rank_among flows came lasts other =
+      let less : rank_among flows came lasts slot < rank_among flows came lasts other =
       omega (arith, noted, up, own) in
-      sym (ranks_before (class_among flows came room) (class_among flows came other)
-      (get_or lasts room 0) (get_or lasts other 0) (small room) (small other))
-      ∙ lt-ltb (rank_among flows came lasts room) (rank_among flows came lasts other) less;
+      sym (ranks_before (class_among flows came slot) (class_among flows came other)
+      (get_or lasts slot 0) (get_or lasts other 0) (small slot) (small other))
+      ∙ lt-ltb (rank_among flows came lasts slot) (rank_among flows came lasts other) less;
 }
 
 -- ---- What rises.
@@ -70,13 +70,13 @@ class_up true true true false h k = absurd (true≢false (sym (k refl)))
 class_up true true true true h k = omega arith
 
 -- a class doesn't fall if live streams stay live, and segments that came have come
-class_rises : (flows flows' : List (Option FlowState)) (came came' : List Bool) (room : ℕ)
+class_rises : (flows flows' : List (Option FlowState)) (came came' : List Bool) (slot : ℕ)
     → ((k : ℕ) → has_live (get_or flows k None) ≡ true → has_live (get_or flows' k None) ≡ true)
     → ((k : ℕ) → has_come_among flows came k ≡ true → has_come_among flows' came' k ≡ true)
-    → class_among flows came room ≤ class_among flows' came' room
-class_rises flows flows' came came' room live come =
-    let a : ℕ = 2 * room in
-    let b : ℕ = 2 * room + 1 in
+    → class_among flows came slot ≤ class_among flows' came' slot
+class_rises flows flows' came came' slot live come =
+    let a : ℕ = 2 * slot in
+    let b : ℕ = 2 * slot + 1 in
     class_up (has_live (get_or flows a None) || has_live (get_or flows b None))
     (has_live (get_or flows' a None) || has_live (get_or flows' b None))
     (has_come_among flows came a && has_come_among flows came b)
@@ -110,16 +110,16 @@ some_set (f ∷ fs) (suc id) zero o some h = h
 some_set (f ∷ fs) (suc id) (suc k) o some h = some_set fs id k o some h
 
 -- a flow with a live stream is set
-pub set_at_most : (rooms : ℕ) (nodes : List ℕ) (flows : List (Option FlowState))
+pub set_at_most : (slots : ℕ) (nodes : List ℕ) (flows : List (Option FlowState))
     (came : List Bool) (lasts : List ℕ) (id : ℕ) (o : Option FlowState) → has_live o ≡ true →
-    AreAtMost rooms nodes flows came lasts → AreAtMost rooms nodes (set flows id o) came lasts
-set_at_most rooms nodes flows came lasts id o live h room within =
-    let up = class_rises flows (set flows id o) came came room
+    AreAtMost slots nodes flows came lasts → AreAtMost slots nodes (set flows id o) came lasts
+set_at_most slots nodes flows came lasts id o live h slot within =
+    let up = class_rises flows (set flows id o) came came slot
     (λ k. live_set flows id k o live)
     (λ k. or_up (is_some (get_or flows k None)) (get_or came k false)
     (is_some (get_or (set flows id o) k None)) (get_or came k false)
     (some_set flows id k o (live_some o live)) (λ e. e)) in
-    let own = h room within in
+    let own = h slot within in
     omega (arith, own, up)
 
 same_all : {A : Type 0} → (a : A) (n i : ℕ) → get_or (replicate n a) i a ≡ a

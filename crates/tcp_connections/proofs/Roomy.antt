@@ -1,4 +1,4 @@
--- The number of rooms stays, and each event is in a flow of one of them.
+-- The number of slots stays, and each event is in a flow of one of them.
 use Rattle.std.proofs.Common.{◌≡◌, ℕ, ◌+◌, ◌*◌, ◌/◌, ◌≤◌, Bool, true, false, cond, List, [], ◌∷◌, length, Option, Some, None, is_some, unwrap_or, refl, sym, ◌∙◌, ap, inl, inr, arith, true≢false, length-set}
 use Rattle.std.specs.List.{AllByRecursion}
 use Rattle.std.proofs.lemmas.Bool.{cases_Bool, cases_lt, eq-eqb}
@@ -12,8 +12,8 @@ use Rattle.tcp_streams.specs.Lives.{lives, elder_side}
 use Rattle.tcp_streams.specs.Pairs.{pair_of, opposite, flow_id}
 use Rattle.tcp_streams.specs.declared.pair.EndpointPair.{EndpointPair}
 use Rattle.tcp_streams.specs.declared.pair.Side.{Side}
-use Rattle.tcp_connections.specs.Connections.{State, with_segment, flow_at, with_flow, gapped, closed_at, room_at, shown_by_age, ended_by, eldest, with_room, next_room, made_known, place_of, flow_of_side, syn_at, syn_kept, is_kept, is_anew, is_reset, is_first, looked_through, first_number, began, fin_taken, acknowledgement_heard, payload_taken, reset_taken, unknown_taken, known_taken, step, after, gaps_from, ended}
-use Rattle.tcp_connections.specs.Gapless.{HaveRooms}
+use Rattle.tcp_connections.specs.Connections.{State, with_segment, flow_at, with_flow, gapped, closed_at, slot_at, shown_by_age, ended_by, eldest, with_room, next_slot, made_known, index_of, flow_of_side, syn_at, syn_kept, is_kept, is_anew, is_reset, is_first, looked_through, first_number, began, fin_taken, acknowledgement_heard, payload_taken, reset_taken, unknown_taken, known_taken, step, after, gaps_from, ended}
+use Rattle.tcp_connections.specs.Gapless.{HaveSlots}
 use Rattle.tcp_connections.specs.Owned.{Standing, Unopened, Idle, Live, owner, is_of, behind, MayCome, standing, AllMayCome}
 use Rattle.tcp_connections.proofs.Cases.{room_there, room_made, step_unknown, step_kept, step_anew, step_known}
 use Rattle.tcp_connections.proofs.Kept.{began_kept, looked_kept, heard_kept, acknowledgement_kept, payload_kept, fin_kept}
@@ -21,130 +21,130 @@ use Rattle.tcp_connections.proofs.Owners.{Owns}
 use Rattle.tcp_connections.proofs.Repeated.{gaps_keep, closes_keep}
 use Rattle.tcp_connections.proofs.Shown.{shown_lasts}
 
--- ---- There are as many rooms as before.
+-- ---- There are as many slots as before.
 
--- how many rooms there are
-abbrev pub rooms_in : State → ℕ
-rooms_in w = length w.lasts
+-- how many slots there are
+abbrev pub slots_in : State → ℕ
+slots_in w = length w.lasts
 
-room_rooms : (F : Reader) (w : State) → rooms_in (with_room F w) ≡ rooms_in w
-room_rooms F w =
+room_slots : (F : Reader) (w : State) → slots_in (with_room F w) ≡ slots_in w
+room_slots F w =
     elim (cases_lt (length w.known) (length w.lasts)) [
-      | inl l ↦ ap rooms_in (room_there F w l)
+      | inl l ↦ ap slots_in (room_there F w l)
       | inr g ↦
-          (let place : ℕ = eldest w (length w.known) in
-          let room : ℕ = room_at w place in
-          let v : State = shown_by_age F w room in
-          ap rooms_in (room_made F w g)
-          ∙ ap length (shown_lasts F w place room (elder_side room (lives w.events))
-          (elder_side room (lives v.events)) Room))
+          (let index : ℕ = eldest w (length w.known) in
+          let slot : ℕ = slot_at w index in
+          let v : State = shown_by_age F w slot in
+          ap slots_in (room_made F w g)
+          ∙ ap length (shown_lasts F w index slot (elder_side slot (lives w.events))
+          (elder_side slot (lives v.events)) Room))
     ]
 
-made_rooms : (w : State) (p : EndpointPair) → rooms_in (made_known w p) ≡ rooms_in w
+made_slots : (w : State) (p : EndpointPair) → slots_in (made_known w p) ≡ slots_in w
 unfolding made_known
-made_rooms w p = length-set w.lasts (next_room w.free) w.segments
+made_slots w p = length-set w.lasts (next_slot w.free) w.segments
 
-either : (n : ℕ) (b : Bool) (v w : State) → rooms_in v ≡ n → rooms_in w ≡ n →
-    rooms_in (cond b v w) ≡ n
+either : (n : ℕ) (b : Bool) (v w : State) → slots_in v ≡ n → slots_in w ≡ n →
+    slots_in (cond b v w) ≡ n
 either n true v w h k = h
 either n false v w h k = k
 
-unknown_rooms : (F : Reader) (w : State) (s : Segment) → rooms_in (unknown_taken F w s) ≡ rooms_in w
+unknown_slots : (F : Reader) (w : State) (s : Segment) → slots_in (unknown_taken F w s) ≡ slots_in w
 unfolding unknown_taken
-unknown_rooms F w s =
+unknown_slots F w s =
     let v : State = with_room F w in
     let m : State = made_known v (pair_of s.flow).0 in
-    let id : ℕ = flow_id (next_room v.free) (pair_of s.flow).1 in
+    let id : ℕ = flow_id (next_slot v.free) (pair_of s.flow).1 in
     let b : State = began F m id (first_number s) s.payload in
-    either (rooms_in w) (is_first w.ports s) (fin_taken F b id s) (looked_through w s)
+    either (slots_in w) (is_first w.ports s) (fin_taken F b id s) (looked_through w s)
     (ap length (fin_kept F b id s).lasts
     ∙ ap length (began_kept F m id (first_number s) s.payload).lasts
-    ∙ made_rooms v (pair_of s.flow).0 ∙ room_rooms F w) (ap length (looked_kept w s).lasts)
+    ∙ made_slots v (pair_of s.flow).0 ∙ room_slots F w) (ap length (looked_kept w s).lasts)
 
-reset_rooms : (F : Reader) (w : State) (place : ℕ) (side : Side) (s : Segment) →
-    rooms_in (reset_taken F w place side s) ≡ rooms_in w
+reset_slots : (F : Reader) (w : State) (index : ℕ) (side : Side) (s : Segment) →
+    slots_in (reset_taken F w index side s) ≡ slots_in w
 unfolding reset_taken
-reset_rooms F w place side s =
-    either (rooms_in w) (is_reset (flow_of_side w place side) s) (ended_by F w place side Reset) w
-    (ap length (shown_lasts F w place (room_at w place) side side Reset)) refl
+reset_slots F w index side s =
+    either (slots_in w) (is_reset (flow_of_side w index side) s) (ended_by F w index side Reset) w
+    (ap length (shown_lasts F w index (slot_at w index) side side Reset)) refl
 
-known_rooms : (F : Reader) (w : State) (place : ℕ) (s : Segment) →
-    rooms_in (known_taken F w place s) ≡ rooms_in w
+known_slots : (F : Reader) (w : State) (index : ℕ) (s : Segment) →
+    slots_in (known_taken F w index s) ≡ slots_in w
 unfolding known_taken
-known_rooms F w place s =
+known_slots F w index s =
     let side : Side = (pair_of s.flow).1 in
-    let room : ℕ = room_at w place in
-    let id : ℕ = flow_id room side in
-    let seen : State = with_segment w room id in
-    let told : State = acknowledgement_heard F seen (flow_id room (opposite side)) s in
+    let slot : ℕ = slot_at w index in
+    let id : ℕ = flow_id slot side in
+    let seen : State = with_segment w slot id in
+    let told : State = acknowledgement_heard F seen (flow_id slot (opposite side)) s in
     let paid : State = payload_taken F told id s in
     let ended : State = fin_taken F paid id s in
-    ap length (heard_kept F (reset_taken F ended place side s) id None false).lasts
-    ∙ reset_rooms F ended place side s ∙ ap length (fin_kept F paid id s).lasts
+    ap length (heard_kept F (reset_taken F ended index side s) id None false).lasts
+    ∙ reset_slots F ended index side s ∙ ap length (fin_kept F paid id s).lasts
     ∙ ap length (payload_kept F told id s).lasts
-    ∙ ap length (acknowledgement_kept F seen (flow_id room (opposite side)) s).lasts
-    ∙ length-set w.lasts room w.segments
+    ∙ ap length (acknowledgement_kept F seen (flow_id slot (opposite side)) s).lasts
+    ∙ length-set w.lasts slot w.segments
 
-kept_rooms : (w : State) (room id : ℕ) (s : Segment) →
-    rooms_in (syn_kept w room id s) ≡ rooms_in w
+kept_slots : (w : State) (slot id : ℕ) (s : Segment) →
+    slots_in (syn_kept w slot id s) ≡ slots_in w
 unfolding syn_kept
-kept_rooms w room id s = length-set w.lasts room w.segments
+kept_slots w slot id s = length-set w.lasts slot w.segments
 
-pub step_rooms : (F : Reader) (w : State) (s : Segment) → rooms_in (step F w s) ≡ rooms_in w
-step_rooms F w s = by (place_of (pair_of s.flow).0 w.known) refl
+pub step_slots : (F : Reader) (w : State) (s : Segment) → slots_in (step F w s) ≡ slots_in w
+step_slots F w s = by (index_of (pair_of s.flow).0 w.known) refl
   where
-    by : (o : Option ℕ) → place_of (pair_of s.flow).0 w.known ≡ o →
-        rooms_in (step F w s) ≡ rooms_in w
-    by None e = ap rooms_in (step_unknown F w s e)
-        ∙ unknown_rooms F (record w { segments = w.segments + 1 }) s
-    by (Some place) e =
+    by : (o : Option ℕ) → index_of (pair_of s.flow).0 w.known ≡ o →
+        slots_in (step F w s) ≡ slots_in w
+    by None e = ap slots_in (step_unknown F w s e)
+        ∙ unknown_slots F (record w { segments = w.segments + 1 }) s
+    by (Some index) e =
         let v : State = record w { segments = w.segments + 1 } in
         let side : Side = (pair_of s.flow).1 in
-        let id : ℕ = flow_id (room_at w place) side in
-        elim (cases_Bool (is_kept (flow_of_side w place side) s)) [
-          | inl k ↦ ap rooms_in (step_kept F w s place e k) ∙ kept_rooms v (room_at w place) id s
+        let id : ℕ = flow_id (slot_at w index) side in
+        elim (cases_Bool (is_kept (flow_of_side w index side) s)) [
+          | inl k ↦ ap slots_in (step_kept F w s index e k) ∙ kept_slots v (slot_at w index) id s
           | inr k ↦
-              elim (cases_Bool (is_anew (syn_at w (room_at w place)) id s)) [
-                | inl a ↦ ap rooms_in (step_anew F w s place e k a)
-                    ∙ unknown_rooms F (ended_by F v place side Syn) s
-                    ∙ ap length (shown_lasts F v place (room_at v place) side side Syn)
-                | inr a ↦ ap rooms_in (step_known F w s place e k a) ∙ known_rooms F v place s
+              elim (cases_Bool (is_anew (syn_at w (slot_at w index)) id s)) [
+                | inl a ↦ ap slots_in (step_anew F w s index e k a)
+                    ∙ unknown_slots F (ended_by F v index side Syn) s
+                    ∙ ap length (shown_lasts F v index (slot_at v index) side side Syn)
+                | inr a ↦ ap slots_in (step_known F w s index e k a) ∙ known_slots F v index s
               ]
         ]
 
-pub after_rooms : (F : Reader) (w : State) (ss : List Segment) →
-    rooms_in (after F w ss) ≡ rooms_in w
+pub after_slots : (F : Reader) (w : State) (ss : List Segment) →
+    slots_in (after F w ss) ≡ slots_in w
 unfolding after
-after_rooms F w [] = refl
-after_rooms F w (s ∷ ss) = after_rooms F (step F w s) ss ∙ step_rooms F w s
+after_slots F w [] = refl
+after_slots F w (s ∷ ss) = after_slots F (step F w s) ss ∙ step_slots F w s
 
-gapped_rooms : (F : Reader) (w : State) (id : ℕ) → rooms_in (gapped F w id) ≡ rooms_in w
+gapped_slots : (F : Reader) (w : State) (id : ℕ) → slots_in (gapped F w id) ≡ slots_in w
 unfolding gapped with_flow
-gapped_rooms F w id =
-    elim (flow_at w id) as (λ (o : Option FlowState). rooms_in (elim o [
+gapped_slots F w id =
+    elim (flow_at w id) as (λ (o : Option FlowState). slots_in (elim o [
       | None ↦ w
       | Some s ↦ with_flow w id (gap F (state s w.held w.events))
-    ]) ≡ rooms_in w) [ None ↦ refl | Some s ↦ refl ]
+    ]) ≡ slots_in w) [ None ↦ refl | Some s ↦ refl ]
 
-closed_rooms : (w : State) (id : ℕ) (cause : CloseCause) →
-    rooms_in (closed_at w id cause) ≡ rooms_in w
+closed_slots : (w : State) (id : ℕ) (cause : CloseCause) →
+    slots_in (closed_at w id cause) ≡ slots_in w
 unfolding closed_at with_flow
-closed_rooms w id cause =
-    elim (flow_at w id) as (λ (o : Option FlowState). rooms_in (elim o [
+closed_slots w id cause =
+    elim (flow_at w id) as (λ (o : Option FlowState). slots_in (elim o [
       | None ↦ w
       | Some s ↦ with_flow w id (closed (state s w.held w.events) cause)
-    ]) ≡ rooms_in w) [ None ↦ refl | Some s ↦ refl ]
+    ]) ≡ slots_in w) [ None ↦ refl | Some s ↦ refl ]
 
-pub ended_rooms : (F : Reader) (w : State) → rooms_in (ended F w) ≡ rooms_in w
+pub ended_slots : (F : Reader) (w : State) → slots_in (ended F w) ≡ slots_in w
 unfolding ended
-ended_rooms F w =
+ended_slots F w =
     let many : ℕ = length w.held + length (lives w.events) in
     let v : State = gaps_from F many 0 w in
-    let P : State → Type 0 = λ u. rooms_in u ≡ rooms_in w in
-    closes_keep P (λ u id cause o. closed_rooms u id cause ∙ o) (lives v.events) v
-    (gaps_keep F P (λ u id o. gapped_rooms F u id ∙ o) many 0 w refl)
+    let P : State → Type 0 = λ u. slots_in u ≡ slots_in w in
+    closes_keep P (λ u id cause o. closed_slots u id cause ∙ o) (lives v.events) v
+    (gaps_keep F P (λ u id o. gapped_slots F u id ∙ o) many 0 w refl)
 
--- ---- No event is in a flow beyond the rooms.
+-- ---- No event is in a flow beyond the slots.
 
 -- an id that stands for no flow at the end never stood for one
 unopened_before : (id : ℕ) (s : Standing) (es : List Event) → owner (standing id s es) ≡ None →
@@ -199,20 +199,20 @@ is_there (Delivers k xs) id of = eq-eqb k id (ap (λ (s : Option ℕ). unwrap_or
 is_there (Closes k cause) id of = eq-eqb k id (ap (λ (s : Option ℕ). unwrap_or s k) of)
 is_there (OfCapture event) id of = absurd (true≢false (sym (ap is_some of)))
 
-in_rooms : (most : ℕ) (es : List Event) →
-    ((id : ℕ) → 2 * most ≤ id → AllByRecursion (λ e. is_of id e ≡ false) es) → HaveRooms most es
-in_rooms most [] none = tt
-in_rooms most (e ∷ es) none = (
+in_slots : (most : ℕ) (es : List Event) →
+    ((id : ℕ) → 2 * most ≤ id → AllByRecursion (λ e. is_of id e ≡ false) es) → HaveSlots most es
+in_slots most [] none = tt
+in_slots most (e ∷ es) none = (
   λ id of.
       elim (cases_lt (id / 2) most) [
         | inl l ↦ l
         | inr g ↦ absurd (true≢false (sym (is_there e id of) ∙ (none id (omega (arith, g))).0))
       ],
-  in_rooms most es (λ id many. (none id many).1),
+  in_slots most es (λ id many. (none id many).1),
 )
 
-pub owned_rooms : (segments : List Segment) (most : ℕ) (w : State) → Owns segments w →
-    rooms_in w ≡ most → HaveRooms most w.events
-owned_rooms segments most w h many =
-    in_rooms most w.events (λ id beyond. none_of segments id w.events (h.come id)
+pub owned_slots : (segments : List Segment) (most : ℕ) (w : State) → Owns segments w →
+    slots_in w ≡ most → HaveSlots most w.events
+owned_slots segments most w h many =
+    in_slots most w.events (λ id beyond. none_of segments id w.events (h.come id)
     (h.beyond id (omega (arith, many, beyond))))

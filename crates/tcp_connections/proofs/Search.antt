@@ -10,7 +10,7 @@ use Rattle.std.proofs.lemmas.Bool.{cases_eq, cases_lt, cases_Bool, cond-true, co
 use Rattle.tcp_streams.specs.declared.pair.EndpointPair.{EndpointPair}
 use Rattle.tcp_streams.specs.contracts.pair.EndpointPairOrd.TheImpl.Laws.{total-law}
 use Rattle.tcp_streams.specs.Pairs.{compare_pairs as C}
-use Rattle.tcp_connections.specs.Connections.{place_of, place_among}
+use Rattle.tcp_connections.specs.Connections.{index_of, index_among}
 
 order : IsTotalOrder C
 order = total-law
@@ -38,10 +38,10 @@ sorted_at (x ∷ xs) zero (suc j) d h l m = all_at (λ y. C x y ≡ Less) xs j d
 sorted_at (x ∷ xs) (suc i) (suc j) d h l m =
     sorted_at xs i j d h.1 (omega (arith, l)) (omega (arith, m))
 
--- an element that compares as equal is at the place that is found
+-- an element that compares as equal is at the index that is found
 pub found : (p : EndpointPair) (xs : List EndpointPair) (i : ℕ) → IsStrictlySortedBy C xs →
-    i < length xs → ((d : EndpointPair) → C (get_or xs i d) p ≡ Equal) → place_of p xs ≡ Some i
-unfolding IsStrictlySortedBy place_of
+    i < length xs → ((d : EndpointPair) → C (get_or xs i d) p ≡ Equal) → index_of p xs ≡ Some i
+unfolding IsStrictlySortedBy index_of
 found p [] i s l h = absurd (omega (arith, l))
 found p (x ∷ xs) zero s l h = let e : C x p ≡ Equal = h p in rw e refl
 found p (x ∷ xs) (suc i) s l h =
@@ -57,21 +57,21 @@ not_eq Greater h = refl
 
 pub absent : (p : EndpointPair) (xs : List EndpointPair) →
     ((k : ℕ) (d : EndpointPair) → k < length xs → C (get_or xs k d) p ≡ Equal → ⊥) →
-    place_of p xs ≡ None
-unfolding place_of
+    index_of p xs ≡ None
+unfolding index_of
 absent p [] h = refl
 absent p (x ∷ xs) h =
     let e : is_eq (C x p) ≡ false = not_eq (C x p) (h 0 p (omega arith)) in
     rw e (ap (option_map suc) (absent p xs (λ k d l. h (suc k) d (omega (arith, l)))))
 
--- if no place is found, no element compares as equal
-pub none_same : (p : EndpointPair) (xs : List EndpointPair) → place_of p xs ≡ None →
+-- if no index is found, no element compares as equal
+pub none_same : (p : EndpointPair) (xs : List EndpointPair) → index_of p xs ≡ None →
     (k : ℕ) (d : EndpointPair) → k < length xs → C (get_or xs k d) p ≡ Equal → ⊥
-unfolding place_of
+unfolding index_of
 none_same p [] h k d l e = absurd (omega (arith, l))
 none_same p (x ∷ xs) h zero d l e = true≢false
-    (ap is_some (let f : place_of p (x ∷ xs) ≡ Some 0 = rw e refl in sym f ∙ h))
-none_same p (x ∷ xs) h (suc k) d l e = none_same p xs (none_under (is_eq (C x p)) (place_of p xs) h)
+    (ap is_some (let f : index_of p (x ∷ xs) ≡ Some 0 = rw e refl in sym f ∙ h))
+none_same p (x ∷ xs) h (suc k) d l e = none_same p xs (none_under (is_eq (C x p)) (index_of p xs) h)
     k d (omega (arith, l)) e
   where
     none_under : (b : Bool) (r : Option ℕ) → cond b (Some 0) (option_map suc r) ≡ None → r ≡ None
@@ -79,12 +79,12 @@ none_same p (x ∷ xs) h (suc k) d l e = none_same p xs (none_under (is_eq (C x 
     none_under false None h = refl
     none_under false (Some i) h = absurd (true≢false (ap is_some h))
 
--- the place of a pair is where the lesser elements end
+-- the index of a pair is where the lesser elements end
 pub parted : (p : EndpointPair) (xs : List EndpointPair) (i : ℕ) → i ≤ length xs →
     ((k : ℕ) (d : EndpointPair) → k < i → C (get_or xs k d) p ≡ Less) →
     ((k : ℕ) (d : EndpointPair) → i ≤ k → k < length xs → C (get_or xs k d) p ≡ Greater) →
-    place_among p xs ≡ i
-unfolding place_among
+    index_among p xs ≡ i
+unfolding index_among
 parted p [] i l below above = omega (arith, l)
 parted p (x ∷ xs) zero l below above = let e : C x p ≡ Greater =
     above 0 p (omega arith) (omega arith) in rw e refl
@@ -117,12 +117,12 @@ rises p xs s i j d le l =
 -- the answer of a binary search among sorted pairs
 pub searched : (p : EndpointPair) (xs : List EndpointPair) (i : ℕ) → IsStrictlySortedBy C xs →
     IsBinarySearchResult (λ y. C y p) xs (Ok i) → IsSearchInRange (Ok i) (length xs) →
-    place_of p xs ≡ Some i
+    index_of p xs ≡ Some i
 searched p xs i s h l = found p xs i s l h
 
 pub unfound : (p : EndpointPair) (xs : List EndpointPair) (i : ℕ) → IsStrictlySortedBy C xs →
     IsBinarySearchResult (λ y. C y p) xs (Err i) → IsSearchInRange (Err i) (length xs) →
-    (place_of p xs ≡ None) × (place_among p xs ≡ i)
+    (index_of p xs ≡ None) × (index_among p xs ≡ i)
 unfound p xs i s h l =
     let parts = h (rises p xs s) in (
       absent p xs (λ k d m e. ⊎_elim (λ b. absurd
@@ -172,16 +172,16 @@ all_after p x (y ∷ ys) e h = (order.trans p x y e h.0, all_after p x ys e h.1)
 turned : (p x : EndpointPair) → C x p ≡ Greater → C p x ≡ Less
 turned p x e = order.antisymm p x ∙ ap ordering_reverse e
 
--- after a pair that isn't known was inserted at its place
+-- after a pair that isn't known was inserted at its index
 pub sorted_insert : (p : EndpointPair) (xs : List EndpointPair) → IsStrictlySortedBy C xs →
-    place_of p xs ≡ None → IsStrictlySortedBy C (insert xs (place_among p xs) p)
-unfolding IsStrictlySortedBy place_among
+    index_of p xs ≡ None → IsStrictlySortedBy C (insert xs (index_among p xs) p)
+unfolding IsStrictlySortedBy index_among
 sorted_insert p [] h n = (tt, tt)
 sorted_insert p (x ∷ xs) h n =
     elim (C x p) as (λ (r : Ordering). C x p ≡ r →
-    IsStrictlySortedBy C (insert (x ∷ xs) (cond (is_lt r) (suc (place_among p xs)) 0) p)) [
+    IsStrictlySortedBy C (insert (x ∷ xs) (cond (is_lt r) (suc (index_among p xs)) 0) p)) [
       | Less ↦ (λ e. (
-        all_insert (λ y. C x y ≡ Less) xs (place_among p xs) p h.0 e,
+        all_insert (λ y. C x y ≡ Less) xs (index_among p xs) p h.0 e,
         sorted_insert p xs h.1 (absent p xs (λ k d l s.
             none_same p (x ∷ xs) n (suc k) d (omega (arith, l)) s)),
       ))
@@ -190,9 +190,9 @@ sorted_insert p (x ∷ xs) h n =
     ] refl
 
 -- a pair that isn't known isn't so after another was removed
-pub unknown_remove : (p : EndpointPair) (xs : List EndpointPair) (i : ℕ) → place_of p xs ≡ None →
-    place_of p (remove xs i) ≡ None
-unfolding place_of
+pub unknown_remove : (p : EndpointPair) (xs : List EndpointPair) (i : ℕ) → index_of p xs ≡ None →
+    index_of p (remove xs i) ≡ None
+unfolding index_of
 unknown_remove p [] zero h = refl
 unknown_remove p [] (suc i) h = refl
 unknown_remove p (x ∷ xs) zero h = absent p xs
@@ -203,7 +203,7 @@ unknown_remove p (x ∷ xs) (suc i) h =
     (absent p xs (λ k d l s. none_same p (x ∷ xs) h (suc k) d (omega (arith, l)) s))))
 
 none_later : (p x : EndpointPair) (xs : List EndpointPair) → C x p ≡ Equal →
-    AllByRecursion (λ y. C x y ≡ Less) xs → place_of p xs ≡ None
+    AllByRecursion (λ y. C x y ≡ Less) xs → index_of p xs ≡ None
 none_later p x xs e h = absent p xs (λ k d l s.
     let less : C x (get_or xs k d) ≡ Less = all_at (λ y. C x y ≡ Less) xs k d h l in
     let same : C x (get_or xs k d) ≡ Equal = alike_right order (get_or xs k d) p x s ∙ e in
@@ -220,23 +220,23 @@ eq_is Greater e = absurd (true≢false (sym e))
 
 -- a pair that was removed isn't known
 pub forgotten_unknown : (p : EndpointPair) (xs : List EndpointPair) (i : ℕ) →
-    IsStrictlySortedBy C xs → place_of p xs ≡ Some i → place_of p (remove xs i) ≡ None
-unfolding IsStrictlySortedBy place_of
+    IsStrictlySortedBy C xs → index_of p xs ≡ Some i → index_of p (remove xs i) ≡ None
+unfolding IsStrictlySortedBy index_of
 forgotten_unknown p [] i s h = absurd (true≢false (sym (ap is_some h)))
 forgotten_unknown p (x ∷ xs) i s h =
     elim (cases_Bool (is_eq (C x p))) [
       | inl b ↦
-          (let f : place_of p (x ∷ xs) ≡ Some 0 =
-          cond-true (is_eq (C x p)) (Some 0) (option_map suc (place_of p xs)) b in
+          (let f : index_of p (x ∷ xs) ≡ Some 0 =
+          cond-true (is_eq (C x p)) (Some 0) (option_map suc (index_of p xs)) b in
           let z : 0 ≡ i = ap (λ (o : Option ℕ). unwrap_or o 0) (sym f ∙ h) in
-          subst (λ (n : ℕ). place_of p (remove (x ∷ xs) n) ≡ None) z
+          subst (λ (n : ℕ). index_of p (remove (x ∷ xs) n) ≡ None) z
           (none_later p x xs (eq_is (C x p) b) s.0))
       | inr b ↦
-          (let f : place_of p (x ∷ xs) ≡ option_map suc (place_of p xs) =
-          cond-false (is_eq (C x p)) (Some 0) (option_map suc (place_of p xs)) b in
-          let u = under (place_of p xs) i (sym f ∙ h) in
-          let g : place_of p (remove (x ∷ xs) (suc u.0)) ≡ None =
-          cond-false (is_eq (C x p)) (Some 0) (option_map suc (place_of p (remove xs u.0))) b
+          (let f : index_of p (x ∷ xs) ≡ option_map suc (index_of p xs) =
+          cond-false (is_eq (C x p)) (Some 0) (option_map suc (index_of p xs)) b in
+          let u = under (index_of p xs) i (sym f ∙ h) in
+          let g : index_of p (remove (x ∷ xs) (suc u.0)) ≡ None =
+          cond-false (is_eq (C x p)) (Some 0) (option_map suc (index_of p (remove xs u.0))) b
           ∙ ap (option_map suc) (forgotten_unknown p xs u.0 s.1 u.1.0) in
-          subst (λ (n : ℕ). place_of p (remove (x ∷ xs) n) ≡ None) u.1.1 g)
+          subst (λ (n : ℕ). index_of p (remove (x ∷ xs) n) ≡ None) u.1.1 g)
     ]

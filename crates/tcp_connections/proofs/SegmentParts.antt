@@ -22,7 +22,7 @@ use Rattle.tcp_streams.specs.declared.pair.Side.{Side}
 use Rattle.tcp_streams.specs.declared.pair.Side.TheVariants.{FromLesser, FromGreater}
 use Rattle.tcp_streams.specs.Lives.{lives, elder_side}
 use Rattle.tcp_streams.specs.Pairs.{opposite, flow_id, flow_from}
-use Rattle.tcp_connections.specs.Connections.{State, flow_at, within_pool, arrived, began, flow_forgotten, place_of, room_at, gapped, shown, forgotten, shown_by_age, eldest, with_room, next_room, rest_of_rooms, made_known, first_number, number_behind, looked_through, with_capture_event, fin_taken, heard, payload_taken, reset_taken}
+use Rattle.tcp_connections.specs.Connections.{State, flow_at, within_pool, arrived, began, flow_forgotten, index_of, slot_at, gapped, shown, forgotten, shown_by_age, eldest, with_room, next_slot, rest_of_slots, made_known, first_number, number_behind, looked_through, with_capture_event, fin_taken, heard, payload_taken, reset_taken}
 use Rattle.tcp_connections.specs.Gapless.{IsOfSegment}
 use Rattle.tcp_connections.specs.Owned.{IsPartOf}
 use Rattle.tcp_connections.specs.State.{IsSound, times}
@@ -35,7 +35,7 @@ use Rattle.tcp_connections.proofs.OwnersKnown.{MadeKnown, told_owns, forgot_owns
 use Rattle.tcp_connections.proofs.OwnFlows.{either, all_push}
 use Rattle.tcp_connections.proofs.Repeated.{relieved_keep}
 use Rattle.tcp_connections.proofs.Shown.{shown_kept, shown_keeps}
-use Rattle.tcp_connections.proofs.Sound.{IsApart, some_none, some_within, room_below, sound_seen, forgot_sound, known_sound}
+use Rattle.tcp_connections.proofs.Sound.{IsApart, some_none, some_within, slot_below, sound_seen, forgot_sound, known_sound}
 use Rattle.tcp_connections.proofs.Unknown.{eldest_within, next_free, next_below}
 
 -- ---- What is true of a state after these segments.
@@ -48,7 +48,7 @@ pub record At (segments : List Segment) (w : State) : Type 0 where
   pub owns : Owns segments w
 
 unfoldable pub IsIn : List Segment → Segment → Type 0
-IsIn segments s = (index : ℕ) × (slice_get segments index ≡ Some s)
+IsIn segments s = (k : ℕ) × (slice_get segments k ≡ Some s)
 
 abbrev is_octets : Arrival → Bool
 is_octets (Octets n octets arrival) = true
@@ -288,23 +288,23 @@ flow_forgotten_at segments w id cause h =
         get_or (set w.flows id None) j None ≡ None
     gone w id j l y = search (arith, get_or, set, get_or-set_same)
 
-pub id_within : (w : State) (room : ℕ) (side : Side) → IsSound w → room < length w.lasts →
-    flow_id room side < length w.flows
-id_within w room FromLesser h l = omega (arith, l, h.flows)
-id_within w room FromGreater h l = omega (arith, l, h.flows)
+pub id_within : (w : State) (slot : ℕ) (side : Side) → IsSound w → slot < length w.lasts →
+    flow_id slot side < length w.flows
+id_within w slot FromLesser h l = omega (arith, l, h.flows)
+id_within w slot FromGreater h l = omega (arith, l, h.flows)
 
-pub forgotten_at : (segments : List Segment) (w : State) (place : ℕ) (side : Side)
-    (cause : CloseCause) → place < length w.known → At segments w →
-    At segments (forgotten w place side cause)
+pub forgotten_at : (segments : List Segment) (w : State) (index : ℕ) (side : Side)
+    (cause : CloseCause) → index < length w.known → At segments w →
+    At segments (forgotten w index side cause)
 unfolding forgotten
-forgotten_at segments w place side cause l h =
-    let room : ℕ = room_at w place in
-    let v = flow_forgotten_at segments (flow_forgotten w (flow_id room side) cause)
-    (flow_id room (opposite side)) cause
-    (flow_forgotten_at segments w (flow_id room side) cause h) in
+forgotten_at segments w index side cause l h =
+    let slot : ℕ = slot_at w index in
+    let v = flow_forgotten_at segments (flow_forgotten w (flow_id slot side) cause)
+    (flow_id slot (opposite side)) cause
+    (flow_forgotten_at segments w (flow_id slot side) cause h) in
     record {
-      sound = forgotten_sound w place side cause h.sound v.sound l
-          (id_within w room FromGreater h.sound (room_below w place h.sound l));
+      sound = forgotten_sound w index side cause h.sound v.sound l
+          (id_within w slot FromGreater h.sound (slot_below w index h.sound l));
       payloads = v.payloads;
       came = v.came;
       follow = record {
@@ -318,27 +318,27 @@ forgotten_at segments w place side cause l h =
         come = v.owns.come;
         flows = v.owns.flows;
         held = v.owns.held;
-        known = theirs_without (owner_of (both_forgotten w room side cause).events)
-            (both_forgotten w room side cause).known (both_forgotten w room side cause).rooms place
+        known = theirs_without (owner_of (both_forgotten w slot side cause).events)
+            (both_forgotten w slot side cause).known (both_forgotten w slot side cause).slots index
             v.owns.known;
         beyond = v.owns.beyond;
       };
     }
 
 -- after what a connection holds was shown
-pub shown_at : (segments : List Segment) (F : Reader) (w : State) (place room : ℕ)
-    (side other : Side) (cause : CloseCause) → place < length w.known → At segments w →
-    At segments (forgotten (shown F w room side) place other cause)
-shown_at segments F w place room side other cause l h =
-    forgotten_at segments (shown F w room side) place other cause
-    (omega (arith, l, ap length (shown_kept F w room side).known))
-    (shown_keeps F (At segments) (gapped_at segments F) w room side h)
+pub shown_at : (segments : List Segment) (F : Reader) (w : State) (index slot : ℕ)
+    (side other : Side) (cause : CloseCause) → index < length w.known → At segments w →
+    At segments (forgotten (shown F w slot side) index other cause)
+shown_at segments F w index slot side other cause l h =
+    forgotten_at segments (shown F w slot side) index other cause
+    (omega (arith, l, ap length (shown_kept F w slot side).known))
+    (shown_keeps F (At segments) (gapped_at segments F) w slot side h)
 
-pub reset_at : (segments : List Segment) (F : Reader) (w : State) (place : ℕ) (side : Side)
-    (s : Segment) → place < length w.known → At segments w →
-    At segments (reset_taken F w place side s)
+pub reset_at : (segments : List Segment) (F : Reader) (w : State) (index : ℕ) (side : Side)
+    (s : Segment) → index < length w.known → At segments w →
+    At segments (reset_taken F w index side s)
 unfolding reset_taken
-reset_at segments F w place side s l h = search (arith, either, shown_at)
+reset_at segments F w index side s l h = search (arith, either, shown_at)
 
 pub with_room_at : (segments : List Segment) (F : Reader) (w : State) → At segments w →
     At segments (with_room F w)
@@ -346,11 +346,11 @@ with_room_at segments F w h =
     elim (cases_lt (length w.known) (length w.lasts)) [
       | inl l ↦ subst (At segments) (sym (room_there F w l)) h
       | inr g ↦
-          (let place : ℕ = eldest w (length w.known) in
-          let room : ℕ = room_at w place in
+          (let index : ℕ = eldest w (length w.known) in
+          let slot : ℕ = slot_at w index in
           subst (At segments) (sym (room_made F w g))
-          (shown_at segments F w place room (elder_side room (lives w.events))
-          (elder_side room (lives (shown_by_age F w room).events)) Room
+          (shown_at segments F w index slot (elder_side slot (lives w.events))
+          (elder_side slot (lives (shown_by_age F w slot).events)) Room
           (eldest_within w (length w.known) (omega (arith, g, h.sound.some))) h))
     ]
 
@@ -363,9 +363,9 @@ last_of (x ∷ []) (suc n) e = absurd (omega (arith, e))
 last_of (x ∷ y ∷ ys) zero e = absurd (omega (arith, e))
 last_of (x ∷ y ∷ ys) (suc n) e = search (arith, last_of (y ∷ ys) n (omega (arith, e)))
 
-rooms_parted : (free : List ℕ) → 0 < length free → free ≡ rest_of_rooms free ++ next_room free ∷ []
-unfolding rest_of_rooms next_room
-rooms_parted free l = search (arith, last_of)
+slots_parted : (free : List ℕ) → 0 < length free → free ≡ rest_of_slots free ++ next_slot free ∷ []
+unfolding rest_of_slots next_slot
+slots_parted free l = search (arith, last_of)
 
 opens_more : (payloads : List Payload) (w : State) (es : List Event) (id other : ℕ)
     (endpoints : Endpoints) → flow_at w id ≡ None
@@ -383,28 +383,28 @@ opens_more payloads w es id other endpoints none t = search (
 
 pub made_owner : (segments : List Segment) (w : State) (p : EndpointPair) →
     length w.known < length w.lasts → IsSound w → Owns segments w →
-    MadeKnown segments w p (next_room w.free)
+    MadeKnown segments w p (next_slot w.free)
 made_owner segments w p l h owns =
-    let room : ℕ = next_room w.free in
-    let free : 0 < times room w.free = next_free w h l in
-    let none = h.freed room free in
-    made_owns segments w p (next_below w h l) none.0 none.1 (h.vacant (2 * room) none.0)
-    (h.vacant (2 * room + 1) none.1) (omega (arith, free, h.once room)) (sym h.pairs) owns
+    let slot : ℕ = next_slot w.free in
+    let free : 0 < times slot w.free = next_free w h l in
+    let none = h.freed slot free in
+    made_owns segments w p (next_below w h l) none.0 none.1 (h.vacant (2 * slot) none.0)
+    (h.vacant (2 * slot + 1) none.1) (omega (arith, free, h.once slot)) (sym h.pairs) owns
 
 pub made_at : (segments : List Segment) (w : State) (p : EndpointPair) →
-    length w.known < length w.lasts → place_of p w.known ≡ None → At segments w →
+    length w.known < length w.lasts → index_of p w.known ≡ None → At segments w →
     At segments (made_known w p)
 unfolding made_known
 made_at segments w p l new h =
-    let room : ℕ = next_room w.free in
-    let had : w.free ≡ rest_of_rooms w.free ++ room ∷ [] =
-    rooms_parted w.free (omega (arith, l, h.sound.all)) in
-    let lasts : List ℕ = set w.lasts room w.segments in
-    let none = h.sound.freed room (next_free w h.sound l) in
+    let slot : ℕ = next_slot w.free in
+    let had : w.free ≡ rest_of_slots w.free ++ slot ∷ [] =
+    slots_parted w.free (omega (arith, l, h.sound.all)) in
+    let lasts : List ℕ = set w.lasts slot w.segments in
+    let none = h.sound.freed slot (next_free w h.sound l) in
     record {
-      sound = known_sound w p (rest_of_rooms w.free) room lasts (set w.syns room None)
-          (came_none w.came room) (opened room p w.events) h.sound had new
-          (length-set w.lasts room w.segments);
+      sound = known_sound w p (rest_of_slots w.free) slot lasts (set w.syns slot None)
+          (came_none w.came slot) (opened slot p w.events) h.sound had new
+          (length-set w.lasts slot w.segments);
       payloads = h.payloads;
       came = h.came;
       follow =
@@ -414,9 +414,9 @@ made_at segments w p l new h =
             events =
                 λ id.
                 opens_more h.payloads w (w.events
-                ++ Opens (flow_id room FromLesser) (flow_from p FromLesser) ∷ [])
-                (flow_id room FromGreater) id (flow_from p FromGreater) none.1
-                (opens_more h.payloads w w.events (flow_id room FromLesser) id
+                ++ Opens (flow_id slot FromLesser) (flow_from p FromLesser) ∷ [])
+                (flow_id slot FromGreater) id (flow_from p FromGreater) none.1
+                (opens_more h.payloads w w.events (flow_id slot FromLesser) id
                 (flow_from p FromLesser) none.0 (h.follow.events id));
             tails = h.follow.tails;
             few = h.follow.few;

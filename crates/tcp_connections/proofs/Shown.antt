@@ -17,12 +17,12 @@ use Rattle.tcp_connections.proofs.Kept.{IsKept, kept_self, gapped_kept}
 use Rattle.tcp_connections.proofs.Repeated.{own_keep}
 
 pub shown_keeps : (F : Reader) (P : State → Type 0) →
-    ((w : State) (id : ℕ) → P w → P (gapped F w id)) → (w : State) (room : ℕ) (side : Side) →
-    P w → P (shown F w room side)
+    ((w : State) (id : ℕ) → P w → P (gapped F w id)) → (w : State) (slot : ℕ) (side : Side) →
+    P w → P (shown F w slot side)
 unfolding shown
-shown_keeps F P k w room side h =
-    let own : ℕ = flow_id room side in
-    let other : ℕ = flow_id room (opposite side) in
+shown_keeps F P k w slot side h =
+    let own : ℕ = flow_id slot side in
+    let other : ℕ = flow_id slot (opposite side) in
     let v : State = gaps_at F (length w.held) w own in
     own_keep F P other (λ u. k u other) (length v.held) v
     (own_keep F P own (λ u. k u own) (length w.held) w h)
@@ -45,19 +45,19 @@ none_counts id [] l = refl
 none_counts id (p ∷ ps) l = absurd (omega (arith, l))
 
 -- the known connections stay
-pub shown_kept : (F : Reader) (w : State) (room : ℕ) (side : Side) → IsKept w (shown F w room side)
-shown_kept F w room side = shown_keeps F (IsKept w) (λ v id h. gapped_kept F w v id h) w room side
+pub shown_kept : (F : Reader) (w : State) (slot : ℕ) (side : Side) → IsKept w (shown F w slot side)
+shown_kept F w slot side = shown_keeps F (IsKept w) (λ v id h. gapped_kept F w v id h) w slot side
     (kept_self w)
 
 -- the connection is forgotten afterwards
-pub shown_known : (F : Reader) (w : State) (place room : ℕ) (side other : Side)
-    (cause : CloseCause) → (forgotten (shown F w room side) place other cause).known
-    ≡ remove w.known place
-shown_known F w place room side other cause =
-    forgotten_known (shown F w room side) place other cause
-    ∙ ap (λ (ps : List EndpointPair). remove ps place) (shown_kept F w room side).known
+pub shown_known : (F : Reader) (w : State) (index slot : ℕ) (side other : Side)
+    (cause : CloseCause) → (forgotten (shown F w slot side) index other cause).known
+    ≡ remove w.known index
+shown_known F w index slot side other cause =
+    forgotten_known (shown F w slot side) index other cause
+    ∙ ap (λ (ps : List EndpointPair). remove ps index) (shown_kept F w slot side).known
 
-pub shown_lasts : (F : Reader) (w : State) (place room : ℕ) (side other : Side)
-    (cause : CloseCause) → (forgotten (shown F w room side) place other cause).lasts ≡ w.lasts
-shown_lasts F w place room side other cause =
-    forgotten_lasts (shown F w room side) place other cause ∙ (shown_kept F w room side).lasts
+pub shown_lasts : (F : Reader) (w : State) (index slot : ℕ) (side other : Side)
+    (cause : CloseCause) → (forgotten (shown F w slot side) index other cause).lasts ≡ w.lasts
+shown_lasts F w index slot side other cause =
+    forgotten_lasts (shown F w slot side) index other cause ∙ (shown_kept F w slot side).lasts

@@ -12,7 +12,7 @@ use Rattle.tcp_flow.specs.State.{state}
 use Rattle.tcp_flow.proofs.Others.{settled_beside, others_twice}
 use Rattle.tcp_streams.specs.declared.pair.EndpointPair.{EndpointPair}
 use Rattle.tcp_streams.specs.Pairs.{compare_pairs}
-use Rattle.tcp_connections.specs.Connections.{State, flow_at, flow_state, with_flow, place_of, place_among}
+use Rattle.tcp_connections.specs.Connections.{State, flow_at, flow_state, with_flow, index_of, index_among}
 use Rattle.tcp_connections.specs.declared.syns.KeptSyn.{KeptSyn}
 use Rattle.tcp_connections.specs.State.{IsSound, times}
 use Rattle.tcp_connections.proofs.Search.{sorted_insert, sorted_remove}
@@ -58,27 +58,27 @@ count_gone a (p ∷ ps) = gone_by a p (held_by_others a ps) (nat_eq p.flow a) re
 -- ---- One flow.
 
 pub IsApart : State → ℕ → Type 0
-IsApart w id = (room : ℕ) → 0 < times room w.free → (2 * room ≡ id → ⊥) × (2 * room + 1 ≡ id → ⊥)
+IsApart w id = (slot : ℕ) → 0 < times slot w.free → (2 * slot ≡ id → ⊥) × (2 * slot + 1 ≡ id → ⊥)
 
 pub apart_some : (w : State) (id : ℕ) (s : FlowState) → IsSound w → flow_at w id ≡ Some s →
     IsApart w id
 unfolding IsApart
-apart_some w id s h e room m =
-    let z = h.freed room m in (
+apart_some w id s h e slot m =
+    let z = h.freed slot m in (
       (λ o. some_none (flow_at w id) s e (subst (λ (k : ℕ). flow_at w k ≡ None) o z.0)),
       (λ o. some_none (flow_at w id) s e (subst (λ (k : ℕ). flow_at w k ≡ None) o z.1)),
     )
 
-pub apart_taken : (w : State) (id : ℕ) → IsSound w → 0 < times (id / 2) w.rooms → IsApart w id
+pub apart_taken : (w : State) (id : ℕ) → IsSound w → 0 < times (id / 2) w.slots → IsApart w id
 unfolding IsApart
-apart_taken w id h t room m = (
-  (λ o. clash (let e : id / 2 ≡ room = omega (arith, o) in e)),
-  (λ o. clash (let e : id / 2 ≡ room = omega (arith, o) in e)),
+apart_taken w id h t slot m = (
+  (λ o. clash (let e : id / 2 ≡ slot = omega (arith, o) in e)),
+  (λ o. clash (let e : id / 2 ≡ slot = omega (arith, o) in e)),
 )
   where
-    clash : id / 2 ≡ room → ⊥
-    clash e = let u : 0 < times room w.rooms = subst (λ (k : ℕ). 0 < times k w.rooms) e t in
-        absurd (omega (arith, h.once room, m, u))
+    clash : id / 2 ≡ slot → ⊥
+    clash e = let u : 0 < times slot w.slots = subst (λ (k : ℕ). 0 < times k w.slots) e t in
+        absurd (omega (arith, h.once slot, m, u))
 
 other_flow : (w : State) (id j : ℕ) (o : Option FlowState) → (j ≡ id → ⊥) →
     get_or (set w.flows id o) j None ≡ flow_at w j
@@ -102,11 +102,11 @@ with_flow_sound w id f h l own beside settled apart =
       below = h.below;
       once = h.once;
       freed =
-          λ room m.
-          let a = apart room m in
-          let z = h.freed room m in (
-            other_flow w id (2 * room) flow a.0 ∙ z.0,
-            other_flow w id (2 * room + 1) flow a.1 ∙ z.1,
+          λ slot m.
+          let a = apart slot m in
+          let z = h.freed slot m in (
+            other_flow w id (2 * slot) flow a.0 ∙ z.0,
+            other_flow w id (2 * slot + 1) flow a.1 ∙ z.1,
           );
       all = h.all;
       flows = length-set w.flows id flow ∙ h.flows;
@@ -160,8 +160,8 @@ forgot_sound w id events h l =
       pairs = h.pairs;
       below = h.below;
       once = h.once;
-      freed = λ room m. let z = h.freed room m in
-          (none_stays w id (2 * room) l z.0, none_stays w id (2 * room + 1) l z.1);
+      freed = λ slot m. let z = h.freed slot m in
+          (none_stays w id (2 * slot) l z.0, none_stays w id (2 * slot + 1) l z.1);
       all = h.all;
       flows = length-set w.flows id None ∙ h.flows;
       order = h.order;
@@ -210,7 +210,7 @@ sound_seen w lasts syns came segments events arrival e h =
       some = rw e h.some;
       most = rw e h.most;
       pairs = h.pairs;
-      below = λ room m. rw e (h.below room m);
+      below = λ slot m. rw e (h.below slot m);
       once = h.once;
       freed = h.freed;
       all = rw e h.all;
@@ -223,50 +223,50 @@ sound_seen w lasts syns came segments events arrival e h =
 
 -- ---- A connection.
 
-among_most : (p : EndpointPair) (xs : List EndpointPair) → place_among p xs ≤ length xs
-unfolding place_among
+among_most : (p : EndpointPair) (xs : List EndpointPair) → index_among p xs ≤ length xs
+unfolding index_among
 among_most p [] = omega arith
-among_most p (x ∷ xs) = most_by (is_lt (compare_pairs x p)) (place_among p xs) (length xs)
+among_most p (x ∷ xs) = most_by (is_lt (compare_pairs x p)) (index_among p xs) (length xs)
     (among_most p xs)
   where
     most_by : (b : Bool) (m n : ℕ) → m ≤ n → cond b (suc m) 0 ≤ suc n
     most_by true m n h = omega (arith, h)
     most_by false m n h = omega arith
 
--- after a connection became known, in a room that was free
-pub known_sound : (w : State) (p : EndpointPair) (rest : List ℕ) (room : ℕ) (lasts : List ℕ)
+-- after a connection became known, in a slot that was free
+pub known_sound : (w : State) (p : EndpointPair) (rest : List ℕ) (slot : ℕ) (lasts : List ℕ)
     (syns : List (Option KeptSyn)) (came : List Bool) (events : List Event) → IsSound w →
-    w.free ≡ rest ++ room ∷ [] → place_of p w.known ≡ None →
+    w.free ≡ rest ++ slot ∷ [] → index_of p w.known ≡ None →
     length lasts ≡ length w.lasts
     → IsSound (record w {
-      known = insert w.known (place_among p w.known) p;
-      rooms =
-          insert w.rooms (place_among p w.known) room;
+      known = insert w.known (index_among p w.known) p;
+      slots =
+          insert w.slots (index_among p w.known) slot;
       free = rest;
       lasts = lasts;
       syns = syns;
       came = came;
       events = events;
     })
-known_sound w p rest room lasts syns came events h free new e =
-    let place : ℕ = place_among p w.known in
-    let most : place ≤ length w.known = among_most p w.known in
-    let pairs : length (insert w.known place p) ≡ length w.known + 1 =
-    length-insert w.known place p most in
-    let rooms : length (insert w.rooms place room) ≡ length w.rooms + 1 =
-    length-insert w.rooms place room (omega (arith, most, h.pairs)) in
-    let long : length w.free ≡ length rest + 1 = ap length free ∙ length-append rest (room ∷ []) in
-    let sum : (n : ℕ) → times n (insert w.rooms place room) + times n rest
-    ≡ times n w.rooms + times n w.free =
-    λ n. omega (arith, times_insert n w.rooms place room, ap (times n) free, times_last n rest room)
+known_sound w p rest slot lasts syns came events h free new e =
+    let index : ℕ = index_among p w.known in
+    let most : index ≤ length w.known = among_most p w.known in
+    let pairs : length (insert w.known index p) ≡ length w.known + 1 =
+    length-insert w.known index p most in
+    let slots : length (insert w.slots index slot) ≡ length w.slots + 1 =
+    length-insert w.slots index slot (omega (arith, most, h.pairs)) in
+    let long : length w.free ≡ length rest + 1 = ap length free ∙ length-append rest (slot ∷ []) in
+    let sum : (n : ℕ) → times n (insert w.slots index slot) + times n rest
+    ≡ times n w.slots + times n w.free =
+    λ n. omega (arith, times_insert n w.slots index slot, ap (times n) free, times_last n rest slot)
     in
     record {
       some = rw e h.some;
       most = rw e h.most;
-      pairs = omega (arith, pairs, rooms, h.pairs);
+      pairs = omega (arith, pairs, slots, h.pairs);
       below = λ n m. rw e (h.below n (omega (arith, m, sum n)));
       once = λ n. omega (arith, h.once n, sum n);
-      freed = λ n m. h.freed n (omega (arith, m, ap (times n) free, times_last n rest room));
+      freed = λ n m. h.freed n (omega (arith, m, ap (times n) free, times_last n rest slot));
       all = rw e (omega (arith, h.all, long, pairs));
       flows = rw e h.flows;
       order = sorted_insert p w.known h.order new;
@@ -275,62 +275,62 @@ known_sound w p rest room lasts syns came events h free new e =
       vacant = h.vacant;
     }
 
--- after a connection whose flows were forgotten is no longer known, and its room is free
-pub unknown_sound : (w : State) (place room : ℕ) → IsSound w → place < length w.known →
-    get_or w.rooms place 0 ≡ room → flow_at w (2 * room) ≡ None → flow_at w (2 * room + 1) ≡ None
+-- after a connection whose flows were forgotten is no longer known, and its slot is free
+pub unknown_sound : (w : State) (index slot : ℕ) → IsSound w → index < length w.known →
+    get_or w.slots index 0 ≡ slot → flow_at w (2 * slot) ≡ None → flow_at w (2 * slot + 1) ≡ None
     → IsSound (record w {
-      known = remove w.known place;
-      rooms = remove w.rooms place;
+      known = remove w.known index;
+      slots = remove w.slots index;
       free =
-          w.free ++ room ∷ [];
+          w.free ++ slot ∷ [];
     })
-unknown_sound w place room h l at lesser greater =
-    let within : place < length w.rooms = omega (arith, l, h.pairs) in
-    let pairs : length (remove w.known place) + 1 ≡ length w.known =
-    length-remove w.known place l in
-    let rooms : length (remove w.rooms place) + 1 ≡ length w.rooms =
-    length-remove w.rooms place within in
-    let long : length (w.free ++ room ∷ []) ≡ length w.free + 1 =
-    length-append w.free (room ∷ []) in
-    let sum : (n : ℕ) → times n (remove w.rooms place) + times n (w.free ++ room ∷ [])
-    ≡ times n w.rooms + times n w.free =
+unknown_sound w index slot h l at lesser greater =
+    let within : index < length w.slots = omega (arith, l, h.pairs) in
+    let pairs : length (remove w.known index) + 1 ≡ length w.known =
+    length-remove w.known index l in
+    let slots : length (remove w.slots index) + 1 ≡ length w.slots =
+    length-remove w.slots index within in
+    let long : length (w.free ++ slot ∷ []) ≡ length w.free + 1 =
+    length-append w.free (slot ∷ []) in
+    let sum : (n : ℕ) → times n (remove w.slots index) + times n (w.free ++ slot ∷ [])
+    ≡ times n w.slots + times n w.free =
     λ n. omega (
       arith,
-      times_remove n w.rooms place within,
+      times_remove n w.slots index within,
       ap {B = ℕ} (λ (r : ℕ). cond (nat_eq r n) 1 0) at,
-      times_last n w.free room,
+      times_last n w.free slot,
     ) in
     record {
       some = h.some;
       most = h.most;
-      pairs = omega (arith, pairs, rooms, h.pairs);
+      pairs = omega (arith, pairs, slots, h.pairs);
       below = λ n m. h.below n (omega (arith, m, sum n));
       once = λ n. omega (arith, h.once n, sum n);
       freed =
           λ n m.
-          elim (cases_Bool (nat_eq room n)) [
+          elim (cases_Bool (nat_eq slot n)) [
             | inl b ↦
-                (let own : room ≡ n = eqb-true room n b in (
+                (let own : slot ≡ n = eqb-true slot n b in (
                   subst (λ (k : ℕ). flow_at w (2 * k) ≡ None) own lesser,
                   subst (λ (k : ℕ). flow_at w (2 * k + 1) ≡ None) own greater,
                 ))
             | inr b ↦
-                (let none : ◌≡◌ {A = ℕ} (cond (nat_eq room n) 1 0) 0 = rw b refl in
-                h.freed n (omega (arith, m, times_last n w.free room, none)))
+                (let none : ◌≡◌ {A = ℕ} (cond (nat_eq slot n) 1 0) 0 = rw b refl in
+                h.freed n (omega (arith, m, times_last n w.free slot, none)))
           ];
       all = omega (arith, h.all, pairs, long);
       flows = h.flows;
-      order = sorted_remove w.known place h.order;
+      order = sorted_remove w.known index h.order;
       ids = h.ids;
       settled = h.settled;
       vacant = h.vacant;
     }
 
--- the room of a connection is one of the rooms
-pub room_below : (w : State) (place : ℕ) → IsSound w → place < length w.known →
-    get_or w.rooms place 0 < length w.lasts
-room_below w place h l = h.below (get_or w.rooms place 0)
-    (omega (arith, times_at w.rooms place (omega (arith, l, h.pairs))))
+-- the slot of a connection is one of the slots
+pub slot_below : (w : State) (index : ℕ) → IsSound w → index < length w.known →
+    get_or w.slots index 0 < length w.lasts
+slot_below w index h l = h.below (get_or w.slots index 0)
+    (omega (arith, times_at w.slots index (omega (arith, l, h.pairs))))
 
 -- the id of a flow is one of the ids
 pub some_within : (flows : List (Option FlowState)) (id : ℕ) (s : FlowState) →

@@ -6,13 +6,13 @@ use Rattle.tcp_waiting.specs.declared.arrival.Arrival as origin
 use Rattle.tcp_waiting.specs.Payload.{Payload, count_of}
 use Rattle.tcp_flow.specs.declared.flow.FlowState.{FlowState}
 use Rattle.tcp_flow.specs.Flow.{Event}
-use Rattle.tcp_rooms.specs.Rooms.{rooms_below}
+use Rattle.tcp_slots.specs.Slots.{slots_below}
 use Rattle.tcp_streams.specs.declared.pair.EndpointPair.{EndpointPair}
 use Rattle.tcp_connections.specs.declared.syns.KeptSyn.{KeptSyn}
 use Rattle.tcp_connections.specs.Connections.{none_known}
 use Rattle.tcp_connections.specs.State.{IsSound, times}
 use Rattle.tcp_connections.proofs.Sound.{some_none}
-use Rattle.tcp_connections.proofs.Times.{all_below, rooms_length, no_flow, none_there}
+use Rattle.tcp_connections.proofs.Times.{all_below, slots_length, no_flow, none_there}
 
 pub none_sound : (ports : List ℕ) (blocks most : ℕ) (events : List Event) → 1 ≤ most →
     most ≤ 65536 → IsSound (none_known ports blocks most events)
@@ -23,11 +23,11 @@ none_sound ports blocks most events some few =
       some = omega (arith, long, some);
       most = omega (arith, long, few);
       pairs = refl;
-      below = λ room m. let l = (all_below most room).1 (omega (arith, m)) in
+      below = λ slot m. let l = (all_below most slot).1 (omega (arith, m)) in
           omega (arith, long, l);
-      once = λ room. omega (arith, (all_below most room).0);
-      freed = λ room m. (none_there (2 * most) (2 * room), none_there (2 * most) (2 * room + 1));
-      all = omega (arith, long, rooms_length most);
+      once = λ slot. omega (arith, (all_below most slot).0);
+      freed = λ slot m. (none_there (2 * most) (2 * slot), none_there (2 * most) (2 * slot + 1));
+      all = omega (arith, long, slots_length most);
       flows = omega (arith, long, length-replicate (2 * most) no_flow);
       order = tt;
       ids = λ id s e. absurd (some_none (get_or (replicate (2 * most) no_flow) id None) s e
@@ -38,10 +38,10 @@ none_sound ports blocks most events some few =
     }
 
 pub start_sound : (ports : List ℕ) (blocks most segments : ℕ) (known : List EndpointPair)
-    (rooms free lasts : List ℕ) (syns : List (Option KeptSyn)) (came : List Bool)
+    (slots free lasts : List ℕ) (syns : List (Option KeptSyn)) (came : List Bool)
     (flows : List (Option FlowState))
     (held : List Payload) (events : List Event) (arrival : origin.Arrival)
-    → known ≡ [] → rooms ≡ [] → free ≡ rooms_below most → lasts ≡ replicate most 0 →
+    → known ≡ [] → slots ≡ [] → free ≡ slots_below most → lasts ≡ replicate most 0 →
     syns ≡ replicate most None → came ≡ replicate (2 * most) false →
     flows ≡ replicate (2 * most) None → held ≡ [] → segments ≡ 0 →
     arrival ≡ (record { time = None; packet = 0 }) →
@@ -50,7 +50,7 @@ pub start_sound : (ports : List ℕ) (blocks most segments : ℕ) (known : List 
       ports = ports;
       blocks = blocks;
       known = known;
-      rooms = rooms;
+      slots = slots;
       free = free;
       lasts = lasts;
       syns = syns;
@@ -61,6 +61,6 @@ pub start_sound : (ports : List ℕ) (blocks most segments : ℕ) (known : List 
       segments = segments;
       arrival = arrival;
     })
-start_sound ports blocks most segments known rooms free lasts syns came flows held events arrival
+start_sound ports blocks most segments known slots free lasts syns came flows held events arrival
     k r f l y o w h s a some few = rw (k, r, f, l, y, o, w, h, s, a) (none_sound ports blocks most
     events some few)

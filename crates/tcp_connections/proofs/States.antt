@@ -7,7 +7,7 @@ use Rattle.std.specs.Prelude.{Result, Ok, Err, OnOk}
 use Rattle.tcp_waiting.specs.Payload.{Payload, blocks_of, load_of}
 use Rattle.tcp_flow.specs.declared.flow.CloseCause.{CloseCause}
 use Rattle.tcp_flow.specs.declared.flow.FlowState.{FlowState}
-use Rattle.tcp_flow.specs.declared.flow.ListenerFault.{ListenerFault}
+use Rattle.tcp_flow.specs.declared.flow.ListenerError.{ListenerError}
 use Rattle.tcp_flow.specs.Flow.{Flow, Event, CaptureEvent, OfCapture, held_by_others}
 use Rattle.tcp_flow.specs.Laws.{IsSettled}
 use Rattle.tcp_flow.specs.State.{state, IsState as IsFlow}
@@ -16,19 +16,19 @@ use Rattle.tcp_connections.specs.declared.came.Came.{Came}
 use Rattle.tcp_connections.specs.declared.connections.Connections.{Connections}
 use Rattle.tcp_connections.specs.declared.flows.Flows.{Flows}
 use Rattle.tcp_connections.specs.declared.givers.Givers.{Givers}
-use Rattle.tcp_rooms.specs.declared.stamps.Stamps.{Stamps}
+use Rattle.tcp_slots.specs.declared.stamps.Stamps.{Stamps}
 use Rattle.tcp_waiting.specs.declared.pool.Pool.{Pool}
 use Rattle.tcp_streams.specs.declared.pair.Side.{Side}
 use Rattle.tcp_streams.specs.Lives.{lives, behind, most_ids}
 use Rattle.tcp_streams.proofs.Order.{lives_more}
-use Rattle.tcp_connections.specs.Connections.{State, none_known, flow_at, live_at, live_of, with_flow, with_packet, with_capture_event, room_at, flow_forgotten, forgotten, eldest}
+use Rattle.tcp_connections.specs.Connections.{State, none_known, flow_at, live_at, live_of, with_flow, with_packet, with_capture_event, slot_at, flow_forgotten, forgotten, eldest}
 use Rattle.tcp_connections.specs.Givers.{IsNoted}
 use Rattle.tcp_connections.specs.State.{AreRanked, IsSound, IsStateOver, IsState, IsAt, state_of, times}
 use Rattle.tcp_connections.proofs.Before.{IsOrdered, noted_ranked, others_twice, still_ranked}
 use Rattle.tcp_connections.proofs.Living.{IsTold, IsTurn, lives_ids, no_turn}
 use Rattle.tcp_connections.proofs.Forgotten.{both_forgotten, forgotten_sound}
 use Rattle.tcp_connections.proofs.Times.{no_flow, none_there}
-use Rattle.tcp_connections.proofs.Sound.{IsApart, room_below, some_within, apart_some, with_flow_sound, forgot_sound, sound_seen}
+use Rattle.tcp_connections.proofs.Sound.{IsApart, slot_below, some_within, apart_some, with_flow_sound, forgot_sound, sound_seen}
 
 -- what is true of the code's state, whatever has happened, is true of each state that it has
 pub by_state : {over : ℕ} (P : State → Type 0) (O : List Event → Type 0) (live : List ℕ)
@@ -37,13 +37,13 @@ pub by_state : {over : ℕ} (P : State → Type 0) (O : List Event → Type 0) (
     → ((es : List Event) → IsStateOver over O live c (state_of c es) → P (state_of c es)) → P w
 by_state P O live c w h k = search (arith, is_some)
 
-pub moved_ok : {X : Type 0} (r : Result X ListenerFault) (O : List Event → Type 0) (live : List ℕ)
+pub moved_ok : {X : Type 0} (r : Result X ListenerError) (O : List Event → Type 0) (live : List ℕ)
     (c : Connections) (v w : State) → v ≡ w → OnOk r (IsState O live c w) →
     OnOk r (IsState O live c v)
 moved_ok r O live c v w e h = search (arith)
 
 -- how many segments came in the code's state
-pub segments_of : {X : Type 0} (r : Result X ListenerFault) (O : List Event → Type 0)
+pub segments_of : {X : Type 0} (r : Result X ListenerError) (O : List Event → Type 0)
     (live : List ℕ) (c : Connections) (w : State) (n : ℕ) → w.segments ≡ n →
     OnOk r (IsState O live c w) → OnOk r (c.segments ≡ n)
 segments_of (Ok x) O live c w n e h = search (arith)
@@ -71,7 +71,7 @@ pub kept : (O : List Event → Type 0) (live : List ℕ) (c c' : Connections) (w
     → ((es : List Event) → state_of c' es ≡ state_of c es) → c'.free.most ≡ c.free.most →
     c'.table.most ≡ c.table.most → c'.givers ≡ c.givers → IsState O live c w →
     IsState O live c' w
-kept O live c c' w same free room givers h = record {
+kept O live c c' w same free slot givers h = record {
   observed = h.observed;
   live = h.live;
   same = same w.events ∙ h.same;
@@ -79,7 +79,7 @@ kept O live c c' w same free room givers h = record {
   sound = h.sound;
   blocks = h.blocks;
   free = free ∙ h.free;
-  room = room ∙ h.room;
+  room = slot ∙ h.room;
   ranked = still_ranked _ _ _ _ _ givers h.ranked;
 }
 
@@ -197,7 +197,7 @@ pub flow_done : {over rest : ℕ} (O O' : List Event → Type 0) (live live' : L
 unfolding with_flow live_of
 flow_done {rest = most} O O' live live' c c' es id s' f h l n own beside blocks settled apart turn
     rest flows pool
-    free room noted =
+    free slot noted =
     subst (λ (g : Flow). IsStateOver most O' live' c' (with_flow (state_of c es) id g)) n.same
     (record {
       observed = n.observed.0;
@@ -210,7 +210,7 @@ flow_done {rest = most} O O' live live' c c' es id s' f h l n own beside blocks 
           beside settled apart;
       blocks = blocks;
       free = free ∙ h.free;
-      room = room ∙ h.room;
+      room = slot ∙ h.room;
       ranked = stepped_ranked O live c es id (set c.flows.states.items id (Some s')) c'.givers live'
           c'.pool.held f.events h l (length-set c.flows.states.items id (Some s')) n.observed.1
           noted beside turn.order;
@@ -263,7 +263,7 @@ pub forgot_done : (O O' : List Event → Type 0) (live live' : List ℕ) (c c' :
       events = f.events;
     })
 unfolding live_of
-forgot_done O O' live live' c c' es id s' f h l n turn rest flows pool held free room noted =
+forgot_done O O' live live' c c' es id s' f h l n turn rest flows pool held free slot noted =
     record {
       observed = n.observed.0;
       live = n.observed.1;
@@ -275,7 +275,7 @@ forgot_done O O' live live' c c' es id s' f h l n turn rest flows pool held free
       sound = forgot_sound (state_of c es) id f.events h.sound l;
       blocks = omega (arith, h.blocks, others_blocks id c.pool.held);
       free = free ∙ h.free;
-      room = room ∙ h.room;
+      room = slot ∙ h.room;
       ranked = stepped_ranked O live c es id (set c.flows.states.items id None) c'.givers live'
           (held_by_others id c.pool.held) f.events h l (length-set c.flows.states.items id None)
           n.observed.1
@@ -288,11 +288,11 @@ pub sound_of : (O : List Event → Type 0) (live : List ℕ) (c : Connections) (
     IsState O live c w → IsSound (state_of c [])
 sound_of O live c w h = search (arith, sound_any)
 
--- the room at a place is below 65,536
-pub small_room : (O : List Event → Type 0) (live : List ℕ) (c : Connections) (w : State)
-    (place : ℕ) → IsState O live c w → place < length c.table.keys →
-    get_or c.table.rooms place 0 < 65536
-small_room O live c w place h l = search (arith, sound_of, room_below)
+-- the slot at an index is below 65,536
+pub small_slot : (O : List Event → Type 0) (live : List ℕ) (c : Connections) (w : State)
+    (index : ℕ) → IsState O live c w → index < length c.table.keys →
+    get_or c.table.slots index 0 < 65536
+small_slot O live c w index h l = search (arith, sound_of, slot_below)
 
 -- which connection makes room doesn't depend on what has happened either
 pub eldest_any : (c : Connections) (es fs : List Event) (n : ℕ) →
@@ -308,44 +308,44 @@ pub known_of : (O : List Event → Type 0) (live : List ℕ) (c : Connections) (
 known_of O live c w h = search (arith)
 
 pub connection_forgotten : (O' : List Event → Type 0) (live' : List ℕ) (c c' : Connections)
-    (w : State) (place : ℕ) (side : Side) (cause : CloseCause) → IsSound w
-    → IsState O' live' c (both_forgotten w (room_at w place) side cause) → place < length w.known →
-    2 * room_at w place + 1 < length w.flows
+    (w : State) (index : ℕ) (side : Side) (cause : CloseCause) → IsSound w
+    → IsState O' live' c (both_forgotten w (slot_at w index) side cause) → index < length w.known →
+    2 * slot_at w index + 1 < length w.flows
     → ((e : List Event) → state_of c' e ≡ record (state_of c e) {
       known =
-          remove c.table.keys place;
-      rooms = remove c.table.rooms place;
+          remove c.table.keys index;
+      slots = remove c.table.slots index;
       free =
-          c.free.free.items ++ room_at w place ∷ [];
+          c.free.free.items ++ slot_at w index ∷ [];
     })
     → c'.free.most ≡ c.free.most → c'.table.most ≡ c.table.most → c'.givers ≡ c.givers
-    → IsState O' live' c' (forgotten w place side cause)
+    → IsState O' live' c' (forgotten w index side cause)
 unfolding forgotten
-connection_forgotten O' live' c c' w place side cause sound h l m same free room givers =
-    let v : State = both_forgotten w (room_at w place) side cause in
+connection_forgotten O' live' c c' w index side cause sound h l m same free slot givers =
+    let v : State = both_forgotten w (slot_at w index) side cause in
     record {
       observed = h.observed;
       live = h.live;
       same = same v.events ∙ ap (λ (u : State).
           record u {
-            known = remove u.known place;
-            rooms = remove u.rooms place;
+            known = remove u.known index;
+            slots = remove u.slots index;
             free =
-                u.free ++ room_at w place ∷ [];
+                u.free ++ slot_at w index ∷ [];
           }) h.same;
       told = h.told;
-      sound = forgotten_sound w place side cause sound h.sound l m;
+      sound = forgotten_sound w index side cause sound h.sound l m;
       blocks = h.blocks;
       free = free ∙ h.free;
-      room = room ∙ h.room;
+      room = slot ∙ h.room;
       ranked = still_ranked _ _ _ _ _ givers h.ranked;
     }
 
--- there are fewer free rooms than rooms if a connection is known
+-- there are fewer free slots than slots if a connection is known
 pub some_known : (O : List Event → Type 0) (live : List ℕ) (c : Connections) (w : State)
-    (place : ℕ) → IsState O live c w → place < length w.known →
+    (index : ℕ) → IsState O live c w → index < length w.known →
     length c.free.free.items < c.free.most
-some_known O live c w place h l = search (arith)
+some_known O live c w index h l = search (arith)
 
 pub forgot_at : (O : List Event → Type 0) (live : List ℕ) (c : Connections) (w : State) (a b : ℕ)
     (cause : CloseCause) → a ≡ b → IsState O live c (flow_forgotten w a cause) →
@@ -399,7 +399,7 @@ pub starts : (O : List Event → Type 0) (live : List ℕ) (c : Connections) (po
     c.free.most ≡ most → c.table.most ≡ most
     → ((xs : List ℕ) → AreRanked c.givers (2 * most) [] xs) → IsState O live c (state_of c events)
 unfolding blocks_of
-starts O live c ports blocks most events o lived same sound free room ranked =
+starts O live c ports blocks most events o lived same sound free slot ranked =
     let many : length (state_of c events).lasts ≡ most =
     ap (λ (w : State). length w.lasts) same ∙ length-replicate most 0 in
     record {
@@ -411,7 +411,7 @@ starts O live c ports blocks most events o lived same sound free room ranked =
       sound = sound_any c [] events sound;
       blocks = omega (arith, ap (λ (w : State). blocks_of w.held) same);
       free = free ∙ sym many;
-      room = room ∙ sym many;
+      room = slot ∙ sym many;
       ranked = subst (λ (w : State). AreRanked c.givers (length w.flows) w.held (lives w.events))
           (sym same)
           (subst (λ (n : ℕ). AreRanked c.givers n [] (lives events))

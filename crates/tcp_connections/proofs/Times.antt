@@ -1,10 +1,10 @@
--- How often a room is in a list, after each change of the list.
+-- How often a slot is in a list, after each change of the list.
 use Rattle.std.proofs.Common.{◌≡◌, ℕ, zero, suc, ◌+◌, ◌-◌, ◌<◌, ◌≤◌, cond, nat_eq, List, [], ◌∷◌, ◌++◌, length, take, get_or, replicate, Option, None, true, refl, ap, subst, arith, inl, inr, length-append}
 use Rattle.std.specs.List.{insert, remove}
 use Rattle.std.proofs.lemmas.Bool.{cases_Bool, cases_lt, eqb-true, eq-eqb}
 use Rattle.tcp_flow.specs.declared.flow.FlowState.{FlowState}
-use Rattle.tcp_rooms.specs.Rooms.{rooms_below}
-use Rattle.tcp_connections.specs.Connections.{next_room, rest_of_rooms}
+use Rattle.tcp_slots.specs.Slots.{slots_below}
+use Rattle.tcp_connections.specs.Connections.{next_slot, rest_of_slots}
 use Rattle.tcp_connections.specs.State.{times}
 
 pub times_insert : (n : ℕ) (xs : List ℕ) (i y : ℕ) →
@@ -55,7 +55,7 @@ times_both (x ∷ xs) (suc i) (suc j) k l ne e =
     let rest = times_both xs i j (omega (arith, k)) (omega (arith, l)) (λ o. ne (ap suc o)) e in
     omega (arith, rest)
 
--- the room that is taken next, and the others
+-- the slot that is taken next, and the others
 
 last_at : (xs : List ℕ) (x : ℕ) → get_or (xs ++ x ∷ []) (length xs) 0 ≡ x
 last_at [] x = refl
@@ -68,49 +68,49 @@ take_all_but (y ∷ ys) x = ap (λ (zs : List ℕ). y ∷ zs) (take_all_but ys x
 one_less : (xs : List ℕ) (x : ℕ) → length (xs ++ x ∷ []) - 1 ≡ length xs
 one_less xs x = omega (arith, length-append xs (x ∷ []))
 
-pub next_is : (xs : List ℕ) (x : ℕ) → next_room (xs ++ x ∷ []) ≡ x
-unfolding next_room
+pub next_is : (xs : List ℕ) (x : ℕ) → next_slot (xs ++ x ∷ []) ≡ x
+unfolding next_slot
 next_is xs x = rw (one_less xs x) (last_at xs x)
 
-pub rest_is : (xs : List ℕ) (x : ℕ) → rest_of_rooms (xs ++ x ∷ []) ≡ xs
-unfolding rest_of_rooms
+pub rest_is : (xs : List ℕ) (x : ℕ) → rest_of_slots (xs ++ x ∷ []) ≡ xs
+unfolding rest_of_slots
 rest_is xs x = rw (one_less xs x) (take_all_but xs x)
 
--- if all rooms are free
+-- if all slots are free
 
-pub all_below : (m n : ℕ) → (times n (rooms_below m) ≤ 1) × (0 < times n (rooms_below m) → n < m)
-unfolding times rooms_below
+pub all_below : (m n : ℕ) → (times n (slots_below m) ≤ 1) × (0 < times n (slots_below m) → n < m)
+unfolding times slots_below
 all_below zero n = (omega arith, λ l. absurd (omega (arith, l)))
 all_below (suc m) n =
     let h = all_below m n in
-    let e : times n (rooms_below m ++ m ∷ []) ≡ times n (rooms_below m) + cond (nat_eq m n) 1 0 =
-    times_last n (rooms_below m) m in
+    let e : times n (slots_below m ++ m ∷ []) ≡ times n (slots_below m) + cond (nat_eq m n) 1 0 =
+    times_last n (slots_below m) m in
     elim (cases_Bool (nat_eq m n)) [
       | inl b ↦
           (let own : m ≡ n = eqb-true m n b in
           let one : ◌≡◌ {A = ℕ} (cond (nat_eq m n) 1 0) 1 = rw b refl in
-          let none : times n (rooms_below m) ≤ 0 = rest_none h own in
+          let none : times n (slots_below m) ≤ 0 = rest_none h own in
           (omega (arith, e, one, none), λ l. omega (arith, own)))
       | inr b ↦
           (let one : ◌≡◌ {A = ℕ} (cond (nat_eq m n) 1 0) 0 = rw b refl in (
             omega (arith, e, one, h.0),
-            λ l. (let k : 0 < times n (rooms_below m) =
+            λ l. (let k : 0 < times n (slots_below m) =
                 omega (arith, l, e, one) in let z : n < m = h.1 k in omega (arith, z)),
           ))
     ]
   where
-    rest_none : {m n : ℕ} → (times n (rooms_below m) ≤ 1) × (0 < times n (rooms_below m) → n < m) →
-        m ≡ n → times n (rooms_below m) ≤ 0
+    rest_none : {m n : ℕ} → (times n (slots_below m) ≤ 1) × (0 < times n (slots_below m) → n < m) →
+        m ≡ n → times n (slots_below m) ≤ 0
     rest_none {m} {n} h own =
-        elim (cases_lt 0 (times n (rooms_below m))) [
+        elim (cases_lt 0 (times n (slots_below m))) [
           | inl l ↦ absurd (let z : n < m = h.1 l in omega (arith, z, own))
           | inr g ↦ g
         ]
 
-pub rooms_length : (m : ℕ) → length (rooms_below m) ≡ m
-unfolding rooms_below
-rooms_length zero = refl
-rooms_length (suc m) = omega (arith, length-append (rooms_below m) (m ∷ []), rooms_length m)
+pub slots_length : (m : ℕ) → length (slots_below m) ≡ m
+unfolding slots_below
+slots_length zero = refl
+slots_length (suc m) = omega (arith, length-append (slots_below m) (m ∷ []), slots_length m)
 
 abbrev pub no_flow : Option FlowState
 no_flow = None

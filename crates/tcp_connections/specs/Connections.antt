@@ -15,7 +15,7 @@ use Rattle.tcp_flow.specs.declared.flow.FlowState.{FlowState}
 use Rattle.tcp_flow.specs.Flow.{Flow, Event, CaptureEvent, Opens, OfCapture, Passes, Reader, Arrival, Octets, End, Hears, is_near, stream_at, is_beginning, lives as has_stream, closed, gap, step as flow_step, first_payload, held_by_others}
 use Rattle.tcp_flow.specs.State.{state}
 use Rattle.tcp_connections.specs.declared.syns.KeptSyn.{KeptSyn}
-use Rattle.tcp_rooms.specs.Rooms.{rooms_below}
+use Rattle.tcp_slots.specs.Slots.{slots_below}
 use Rattle.tcp_streams.specs.declared.pair.EndpointPair.{EndpointPair}
 use Rattle.tcp_streams.specs.declared.pair.Side.{Side}
 use Rattle.tcp_streams.specs.declared.pair.Side.TheVariants.{FromLesser, FromGreater}
@@ -23,8 +23,8 @@ use Rattle.tcp_streams.specs.Pairs.{compare_pairs, pair_of, opposite, flow_id, f
 use Rattle.tcp_streams.specs.Lives.{lives, elder_side}
 
 -- `ports` are the chosen ports, and `blocks` is how many the pool has. `known` are the pairs that
--- are known, in order, and `rooms` the room of each. `free` are the rooms that are free; the last
--- one is taken next. For each room, `lasts` has the number of its last segment, and `syns` the SYN
+-- are known, in order, and `slots` the slot of each. `free` are the slots that are free; the last
+-- one is taken next. For each slot, `lasts` has the number of its last segment, and `syns` the SYN
 -- that is kept. For each id, `came` says whether a segment came after the one that made its
 -- connection known, and `flows` has the flow, from its first stream on. `held` is what waits,
 -- `events` what has happened, `segments` how many segments came, and `arrival` the packet that is
@@ -33,7 +33,7 @@ pub record State : Type 0 where
   pub ports : List ℕ
   pub blocks : ℕ
   pub known : List EndpointPair
-  pub rooms : List ℕ
+  pub slots : List ℕ
   pub free : List ℕ
   pub lasts : List ℕ
   pub syns : List (Option KeptSyn)
@@ -44,14 +44,14 @@ pub record State : Type 0 where
   pub segments : ℕ
   pub arrival : origin.Arrival
 
--- no connection is known, and there are `most` rooms
+-- no connection is known, and there are `most` slots
 abbrev pub none_known : List ℕ → ℕ → ℕ → List Event → State
 none_known ports blocks most events = record {
   ports = ports;
   blocks = blocks;
   known = [];
-  rooms = [];
-  free = rooms_below most;
+  slots = [];
+  free = slots_below most;
   lasts = replicate most 0;
   syns = replicate most None;
   came = replicate (2 * most) false;
@@ -190,124 +190,124 @@ live_at w id = live_of (flow_at w id)
 
 -- ---- Which connections are known.
 
--- the place of a pair among those that are known, or at which it would be inserted
-unfoldable pub place_among : EndpointPair → List EndpointPair → ℕ
-place_among p [] = 0
-place_among p (q ∷ qs) = cond (is_lt (compare_pairs q p)) (suc (place_among p qs)) 0
+-- the index of a pair among those that are known, or at which it would be inserted
+unfoldable pub index_among : EndpointPair → List EndpointPair → ℕ
+index_among p [] = 0
+index_among p (q ∷ qs) = cond (is_lt (compare_pairs q p)) (suc (index_among p qs)) 0
 
--- the place of a pair among those that are known
-unfoldable pub place_of : EndpointPair → List EndpointPair → Option ℕ
-place_of p [] = None
-place_of p (q ∷ qs) = cond (is_eq (compare_pairs q p)) (Some 0) (option_map suc (place_of p qs))
+-- the index of a pair among those that are known
+unfoldable pub index_of : EndpointPair → List EndpointPair → Option ℕ
+index_of p [] = None
+index_of p (q ∷ qs) = cond (is_eq (compare_pairs q p)) (Some 0) (option_map suc (index_of p qs))
 
--- the room of the connection at a place
-abbrev pub room_at : State → ℕ → ℕ
-room_at w place = get_or w.rooms place 0
+-- the slot of the connection at an index
+abbrev pub slot_at : State → ℕ → ℕ
+slot_at w index = get_or w.slots index 0
 
 -- a connection is forgotten: first the flow of one side, then the other
 unfoldable pub forgotten : State → ℕ → Side → CloseCause → State
-forgotten w place side cause =
-    let room : ℕ = room_at w place in
+forgotten w index side cause =
+    let slot : ℕ = slot_at w index in
     let v : State =
-    flow_forgotten (flow_forgotten w (flow_id room side) cause)
-    (flow_id room (opposite side)) cause in
+    flow_forgotten (flow_forgotten w (flow_id slot side) cause)
+    (flow_id slot (opposite side)) cause in
     record v {
-      known = remove v.known place;
-      rooms = remove v.rooms place;
-      free = v.free ++ room ∷ [];
+      known = remove v.known index;
+      slots = remove v.slots index;
+      free = v.free ++ slot ∷ [];
     }
 
--- what the flows of a room hold is shown, before its connection is forgotten: first that of the
+-- what the flows of a slot hold is shown, before its connection is forgotten: first that of the
 -- flow of one side
 unfoldable pub shown : Reader → State → ℕ → Side → State
-shown F w room side = emptied F (emptied F w (flow_id room side)) (flow_id room (opposite side))
+shown F w slot side = emptied F (emptied F w (flow_id slot side)) (flow_id slot (opposite side))
 
 -- whether a stream of a flow is live
 unfoldable pub has_live : Option FlowState → Bool
 has_live None = false
 has_live (Some s) = has_stream s.live s.waits
 
--- whether a room's connection has a live stream
+-- whether a slot's connection has a live stream
 abbrev pub is_live : State → ℕ → Bool
-is_live w room =
-    has_live (flow_at w (flow_id room FromLesser))
-    || has_live (flow_at w (flow_id room FromGreater))
+is_live w slot =
+    has_live (flow_at w (flow_id slot FromLesser))
+    || has_live (flow_at w (flow_id slot FromGreater))
 
 -- whether segments of a flow came since its connection became known; in the flow that made it
 -- known, the first payload counts
 abbrev pub has_come : State → ℕ → Bool
 has_come w id = is_some (flow_at w id) || get_or w.came id false
 
--- whether segments of both flows of a room's connection came
+-- whether segments of both flows of a slot's connection came
 abbrev pub is_both : State → ℕ → Bool
-is_both w room =
-    has_come w (flow_id room FromLesser) && has_come w (flow_id room FromGreater)
+is_both w slot =
+    has_come w (flow_id slot FromLesser) && has_come w (flow_id slot FromGreater)
 
--- how late a room's connection makes room: 0 without a live stream, 1 if segments of one flow alone
+-- how late a slot's connection makes room: 0 without a live stream, 1 if segments of one flow alone
 -- came, and 2 for any other
 abbrev pub class_of : State → ℕ → ℕ
-class_of w room = cond (is_live w room) (cond (is_both w room) 2 1) 0
+class_of w slot = cond (is_live w slot) (cond (is_both w slot) 2 1) 0
 
--- whether the connection at one place was last seen before that at another
+-- whether the connection at one index was last seen before that at another
 abbrev pub is_older : State → ℕ → ℕ → Bool
 is_older w a b =
-    nat_lt (get_or w.lasts (room_at w a) 0) (get_or w.lasts (room_at w b) 0)
+    nat_lt (get_or w.lasts (slot_at w a) 0) (get_or w.lasts (slot_at w b) 0)
 
--- whether the connection at one place makes room before that at another: by their classes, then by
+-- whether the connection at one index makes room before that at another: by their classes, then by
 -- their last segments
 abbrev pub goes_before : State → ℕ → ℕ → Bool
 goes_before w a b =
-    nat_lt (class_of w (room_at w a)) (class_of w (room_at w b))
-    || nat_eq (class_of w (room_at w a)) (class_of w (room_at w b)) && is_older w a b
+    nat_lt (class_of w (slot_at w a)) (class_of w (slot_at w b))
+    || nat_eq (class_of w (slot_at w a)) (class_of w (slot_at w b)) && is_older w a b
 
--- the place of the connection that makes room, among the first n
+-- the index of the connection that makes room, among the first n
 unfoldable pub eldest : State → ℕ → ℕ
 eldest w zero = 0
 eldest w (suc n) = cond (goes_before w n (eldest w n)) n (eldest w n)
 
--- what the connection of a room holds is shown, first that of the flow whose stream began first
+-- what the connection of a slot holds is shown, first that of the flow whose stream began first
 abbrev pub shown_by_age : Reader → State → ℕ → State
-shown_by_age F w room = shown F w room (elder_side room (lives w.events))
+shown_by_age F w slot = shown F w slot (elder_side slot (lives w.events))
 
--- the connection at a place makes room: what it holds is shown, and then the stream that began
+-- the connection at an index makes room: what it holds is shown, and then the stream that began
 -- first closes first
 abbrev pub cleared : Reader → State → ℕ → State
-cleared F w place =
-    let v : State = shown_by_age F w (room_at w place) in
-    forgotten v place (elder_side (room_at w place) (lives v.events)) Room
+cleared F w index =
+    let v : State = shown_by_age F w (slot_at w index) in
+    forgotten v index (elder_side (slot_at w index) (lives v.events)) Room
 
 -- if no more connections may be known, one makes room
 unfoldable pub with_room : Reader → State → State
 with_room F w =
     cond (nat_lt (length w.known) (length w.lasts)) w (cleared F w (eldest w (length w.known)))
 
--- the room that is taken next
-unfoldable pub next_room : List ℕ → ℕ
-next_room free = get_or free (length free - 1) 0
+-- the slot that is taken next
+unfoldable pub next_slot : List ℕ → ℕ
+next_slot free = get_or free (length free - 1) 0
 
--- the rooms that are free after that one was taken
-unfoldable pub rest_of_rooms : List ℕ → List ℕ
-rest_of_rooms free = take (length free - 1) free
+-- the slots that are free after that one was taken
+unfoldable pub rest_of_slots : List ℕ → List ℕ
+rest_of_slots free = take (length free - 1) free
 
--- a segment of a flow of the connection of a room came
+-- a segment of a flow of the connection of a slot came
 abbrev pub with_segment : State → ℕ → ℕ → State
-with_segment w room id =
-    record w { lasts = set w.lasts room w.segments; came = set w.came id true }
+with_segment w slot id =
+    record w { lasts = set w.lasts slot w.segments; came = set w.came id true }
 
 -- a connection becomes known
 unfoldable pub made_known : State → EndpointPair → State
 made_known w p =
-    let room : ℕ = next_room w.free in
-    let place : ℕ = place_among p w.known in
+    let slot : ℕ = next_slot w.free in
+    let index : ℕ = index_among p w.known in
     record w {
-      known = insert w.known place p;
-      rooms = insert w.rooms place room;
-      free = rest_of_rooms w.free;
-      lasts = set w.lasts room w.segments;
-      syns = set w.syns room None;
-      came = set (set w.came (flow_id room FromLesser) false) (flow_id room FromGreater) false;
-      events = (w.events ++ Opens (flow_id room FromLesser) (flow_from p FromLesser) ∷ [])
-          ++ Opens (flow_id room FromGreater) (flow_from p FromGreater) ∷ [];
+      known = insert w.known index p;
+      slots = insert w.slots index slot;
+      free = rest_of_slots w.free;
+      lasts = set w.lasts slot w.segments;
+      syns = set w.syns slot None;
+      came = set (set w.came (flow_id slot FromLesser) false) (flow_id slot FromGreater) false;
+      events = (w.events ++ Opens (flow_id slot FromLesser) (flow_from p FromLesser) ∷ [])
+          ++ Opens (flow_id slot FromGreater) (flow_from p FromGreater) ∷ [];
     }
 
 -- ---- A segment.
@@ -365,14 +365,14 @@ is_kept flow s =
 
 -- a SYN is kept, in place of an older one, and the segment does nothing more
 unfoldable pub syn_kept : State → ℕ → ℕ → Segment → State
-syn_kept w room id s =
-    record (with_segment w room id) {
-      syns = set w.syns room (Some (record { flow = id; number = onward s.sequence 1 }));
+syn_kept w slot id s =
+    record (with_segment w slot id) {
+      syns = set w.syns slot (Some (record { flow = id; number = onward s.sequence 1 }));
     }
 
--- the SYN that a room's connection keeps
+-- the SYN that a slot's connection keeps
 abbrev pub syn_at : State → ℕ → Option KeptSyn
-syn_at w room = get_or w.syns room None
+syn_at w slot = get_or w.syns slot None
 
 -- whether a segment of an id answers a SYN: it is of the opposite flow, has SYN and ACK, and
 -- acknowledges the SYN
@@ -402,7 +402,7 @@ fin_taken F w id s = cond s.fin (arrived F w id (End (number_behind s))) w
 unfoldable pub unknown_taken : Reader → State → Segment → State
 unknown_taken F w s =
     let v : State = with_room F w in
-    let id : ℕ = flow_id (next_room v.free) (pair_of s.flow).1 in
+    let id : ℕ = flow_id (next_slot v.free) (pair_of s.flow).1 in
     cond (is_first w.ports s)
     (fin_taken F (began F (made_known v (pair_of s.flow).0) id (first_number s) s.payload) id s)
     (looked_through w s)
@@ -434,35 +434,35 @@ payload_taken F w id s =
 abbrev pub is_reset : Option FlowState → Segment → Bool
 is_reset flow s = s.reset && is_near_due flow s.sequence
 
--- the flow of one side of the connection at a place
+-- the flow of one side of the connection at an index
 abbrev pub flow_of_side : State → ℕ → Side → Option FlowState
-flow_of_side w place side = flow_at w (flow_id (room_at w place) side)
+flow_of_side w index side = flow_at w (flow_id (slot_at w index) side)
 
 -- what a connection holds is shown, and it is forgotten, because of a segment of one side
 abbrev pub ended_by : Reader → State → ℕ → Side → CloseCause → State
-ended_by F w place side cause = forgotten (shown F w (room_at w place) side) place side cause
+ended_by F w index side cause = forgotten (shown F w (slot_at w index) side) index side cause
 
 -- the RST of a segment, if it counts
 unfoldable pub reset_taken : Reader → State → ℕ → Side → Segment → State
-reset_taken F w place side s =
-    cond (is_reset (flow_of_side w place side) s) (ended_by F w place side Reset) w
+reset_taken F w index side s =
+    cond (is_reset (flow_of_side w index side) s) (ended_by F w index side Reset) w
 
 -- a segment of a known connection, up to its RST
 abbrev pub before_reset : Reader → State → ℕ → Segment → State
-before_reset F w place s =
+before_reset F w index s =
     let side : Side = (pair_of s.flow).1 in
-    let room : ℕ = room_at w place in
-    let id : ℕ = flow_id room side in
-    let seen : State = with_segment w room id in
-    let told : State = acknowledgement_heard F seen (flow_id room (opposite side)) s in
+    let slot : ℕ = slot_at w index in
+    let id : ℕ = flow_id slot side in
+    let seen : State = with_segment w slot id in
+    let told : State = acknowledgement_heard F seen (flow_id slot (opposite side)) s in
     fin_taken F (payload_taken F told id s) id s
 
 -- a segment of a known connection; at the end, its own flow is told of the packet, as what it holds
 -- may be too old
 unfoldable pub known_taken : Reader → State → ℕ → Segment → State
-known_taken F w place s =
+known_taken F w index s =
     let side : Side = (pair_of s.flow).1 in
-    heard F (reset_taken F (before_reset F w place s) place side s) (flow_id (room_at w place) side)
+    heard F (reset_taken F (before_reset F w index s) index side s) (flow_id (slot_at w index) side)
     None false
 
 -- one more segment
@@ -470,13 +470,13 @@ unfoldable pub step : Reader → State → Segment → State
 step F w s =
     let v : State = record w { segments = w.segments + 1 } in
     let side : Side = (pair_of s.flow).1 in
-    elim (place_of (pair_of s.flow).0 v.known) [
+    elim (index_of (pair_of s.flow).0 v.known) [
       | None ↦ unknown_taken F v s
-      | Some place ↦
-          cond (is_kept (flow_of_side v place side) s)
-          (syn_kept v (room_at v place) (flow_id (room_at v place) side) s)
-          (cond (is_anew (syn_at v (room_at v place)) (flow_id (room_at v place) side) s)
-          (unknown_taken F (ended_by F v place side Syn) s) (known_taken F v place s))
+      | Some index ↦
+          cond (is_kept (flow_of_side v index side) s)
+          (syn_kept v (slot_at v index) (flow_id (slot_at v index) side) s)
+          (cond (is_anew (syn_at v (slot_at v index)) (flow_id (slot_at v index) side) s)
+          (unknown_taken F (ended_by F v index side Syn) s) (known_taken F v index s))
     ]
 
 -- all segments, in this order

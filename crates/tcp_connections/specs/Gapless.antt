@@ -30,7 +30,7 @@ pub record AreWhole (segments : List Segment) (events : List Event) : Type 0 whe
   pub came : AllByRecursion (IsOfSegment segments) payloads
   pub follow : (flow : ℕ) → AllFollow payloads flow None events None
 
--- each event in a flow is in one of a connection whose room is below `most`
-abbrev pub HaveRooms : ℕ → List Event → Type 0
-HaveRooms most events =
+-- each event in a flow is in one of a connection whose slot is below `most`
+abbrev pub HaveSlots : ℕ → List Event → Type 0
+HaveSlots most events =
     AllByRecursion (λ e. (id : ℕ) → flow_of e ≡ Some id → id / 2 < most) events

@@ -1,7 +1,7 @@
 -- Which flow gives up if the pool is short: the one of the least rank. A flow's rank goes by the
 -- blocks that it holds, and then by its last stream (state).
 use Rattle.std.specs.Prelude.{◌≡◌, ℕ, ◌+◌, ◌-◌, ◌*◌, ◌^◌, ◌<◌, ◌≤◌, cond, nat_eq, get_or, Option, Some}
-use Rattle.tcp_rooms.specs.Ranks.{rank_at}
+use Rattle.tcp_slots.specs.Ranks.{rank_at}
 use Rattle.tcp_connections.specs.declared.givers.Givers.{Givers}
 
 -- the rank of a flow, by its blocks and its number: of two flows, the one that holds more blocks
@@ -15,16 +15,16 @@ number_at g id = get_or g.numbers.items id 0
 
 -- the rank of a flow
 abbrev pub noted_at : Givers → ℕ → ℕ
-noted_at g id = rank_at g.ranks.rooms g.ranks.nodes.items id
+noted_at g id = rank_at g.ranks.slots g.ranks.nodes.items id
 
 -- The rank of a flow was set, by these blocks and its number. The number is the greatest if the
 -- last of all streams is the flow's; if not, it stays. Other flows keep theirs.
 pub record IsNoted (g g' : Givers) (id load : ℕ) (last : Option ℕ) : Type 0 where
-  pub flows : g'.ranks.rooms ≡ g.ranks.rooms
+  pub flows : g'.ranks.slots ≡ g.ranks.slots
   pub small : load < 2 ^ 64
-  pub ranks : (other : ℕ) → other < g.ranks.rooms → noted_at g' other
+  pub ranks : (other : ℕ) → other < g.ranks.slots → noted_at g' other
       ≡ cond (nat_eq other id) (rank_of load (number_at g' id)) (noted_at g other)
   pub beside : (other : ℕ) → (other ≡ id → ⊥) → number_at g' other ≡ number_at g other
   pub same : (last ≡ Some id → ⊥) → number_at g' id ≡ number_at g id
-  pub greatest : last ≡ Some id → id < g.ranks.rooms →
+  pub greatest : last ≡ Some id → id < g.ranks.slots →
       (other : ℕ) → number_at g' other ≤ number_at g' id

@@ -1,31 +1,31 @@
--- The order in which connections make room, by a rank for each room: first those without a live
+-- The order in which connections make room, by a rank for each slot: first those without a live
 -- stream, then those of which segments of one flow alone came, then all others; of several like
 -- that, the one that was seen longest ago (meaning).
 use Rattle.std.specs.Prelude.{◌≡◌, ℕ, ◌+◌, ◌*◌, ◌^◌, ◌<◌, ◌≤◌, Bool, true, false, cond, nat_eq, nat_lt, ◌&&◌, ◌||◌, List, length, get_or, Option, None, is_some}
 use Rattle.tcp_flow.specs.declared.flow.FlowState.{FlowState}
-use Rattle.tcp_rooms.specs.Ranks.{rank_at}
+use Rattle.tcp_slots.specs.Ranks.{rank_at}
 use Rattle.tcp_connections.specs.Connections.{has_live}
 
 -- whether segments of the flow of an id came since its connection became known
 abbrev pub has_come_among : List (Option FlowState) → List Bool → ℕ → Bool
 has_come_among flows came id = is_some (get_or flows id None) || get_or came id false
 
--- whether the connection of a room has a live stream
+-- whether the connection of a slot has a live stream
 abbrev pub is_live_among : List (Option FlowState) → ℕ → Bool
-is_live_among flows room =
-    has_live (get_or flows (2 * room) None) || has_live (get_or flows (2 * room + 1) None)
+is_live_among flows slot =
+    has_live (get_or flows (2 * slot) None) || has_live (get_or flows (2 * slot + 1) None)
 
--- whether segments of both flows of a room's connection came
+-- whether segments of both flows of a slot's connection came
 abbrev pub is_both_among : List (Option FlowState) → List Bool → ℕ → Bool
-is_both_among flows came room =
-    has_come_among flows came (2 * room) && has_come_among flows came (2 * room + 1)
+is_both_among flows came slot =
+    has_come_among flows came (2 * slot) && has_come_among flows came (2 * slot + 1)
 
--- how late the connection of a room makes room
+-- how late the connection of a slot makes room
 abbrev pub class_among : List (Option FlowState) → List Bool → ℕ → ℕ
-class_among flows came room =
-    cond (is_live_among flows room) (cond (is_both_among flows came room) 2 1) 0
+class_among flows came slot =
+    cond (is_live_among flows slot) (cond (is_both_among flows came slot) 2 1) 0
 
--- whether the connection of one room makes room before that of another: by their classes, then by
+-- whether the connection of one slot makes room before that of another: by their classes, then by
 -- their last segments
 abbrev pub is_before : List (Option FlowState) → List Bool → List ℕ → ℕ → ℕ → Bool
 is_before flows came lasts a b =
@@ -33,18 +33,18 @@ is_before flows came lasts a b =
     || nat_eq (class_among flows came a) (class_among flows came b)
     && nat_lt (get_or lasts a 0) (get_or lasts b 0)
 
--- the connection of a room makes room before all others
+-- the connection of a slot makes room before all others
 pub record IsBeforeAll (flows : List (Option FlowState)) (came : List Bool) (lasts : List ℕ)
-    (room : ℕ) : Type 0 where
-  pub within : room < length lasts
-  pub before : (other : ℕ) → other < length lasts → (other ≡ room → ⊥) →
-      is_before flows came lasts room other ≡ true
+    (slot : ℕ) : Type 0 where
+  pub within : slot < length lasts
+  pub before : (other : ℕ) → other < length lasts → (other ≡ slot → ⊥) →
+      is_before flows came lasts slot other ≡ true
 
--- the rank of a room: by its class, then by its last segment, whose number is less than 2^64
+-- the rank of a slot: by its class, then by its last segment, whose number is less than 2^64
 abbrev pub rank_among : List (Option FlowState) → List Bool → List ℕ → ℕ → ℕ
-rank_among flows came lasts room = class_among flows came room * 2 ^ 64 + get_or lasts room 0
+rank_among flows came lasts slot = class_among flows came slot * 2 ^ 64 + get_or lasts slot 0
 
--- the noted rank of each room is at most its true one
+-- the noted rank of each slot is at most its true one
 abbrev pub AreAtMost : ℕ → List ℕ → List (Option FlowState) → List Bool → List ℕ → Type 0
-AreAtMost rooms nodes flows came lasts =
-    (room : ℕ) → room < rooms → rank_at rooms nodes room ≤ rank_among flows came lasts room
+AreAtMost slots nodes flows came lasts =
+    (slot : ℕ) → slot < slots → rank_at slots nodes slot ≤ rank_among flows came lasts slot

@@ -3,7 +3,7 @@ use Rattle.std.specs.Prelude.{◌≡◌, ◌⊎◌, ℕ, cond, nat_eq, ◌+◌, 
 use Rattle.std.specs.List.Sorted.{IsStrictlySortedBy}
 use Rattle.tcp_waiting.specs.Payload.{Payload, count_of, blocks_of, load_of}
 use Rattle.tcp_flow.specs.declared.flow.FlowState.{FlowState}
-use Rattle.tcp_flow.specs.declared.flow.ListenerFault.{ListenerFault}
+use Rattle.tcp_flow.specs.declared.flow.ListenerError.{ListenerError}
 use Rattle.tcp_flow.specs.Flow.{Event}
 use Rattle.tcp_flow.specs.Laws.{IsSettled}
 use Rattle.tcp_flow.specs.State.{state}
@@ -28,22 +28,22 @@ StandBefore a b (x ∷ xs) = ((x ≡ a) × (0 < times b xs)) ⊎ StandBefore a b
 -- as great or greater.
 pub record AreRanked (g : Givers) (flows : ℕ) (held : List Payload) (live : List ℕ)
     : Type 0 where
-  pub many : g.ranks.rooms ≡ flows
+  pub many : g.ranks.slots ≡ flows
   pub loads : (id : ℕ) → load_of id held < 2 ^ 64
   pub ranks : (id : ℕ) → id < flows → noted_at g id ≡ rank_of (load_of id held) (number_at g id)
   pub order : (a b : ℕ) → StandBefore a b live → number_at g a ≤ number_at g b
 
--- Each room is that of one connection, or it is free and has no flows. The pairs are in order. Only
+-- Each slot is that of one connection, or it is free and has no flows. The pairs are in order. Only
 -- flows that have begun hold something, and all of it is to come.
 pub record IsSound (w : State) : Type 0 where
   pub some : 1 ≤ length w.lasts
   pub most : length w.lasts ≤ 65536
-  pub pairs : length w.rooms ≡ length w.known
+  pub pairs : length w.slots ≡ length w.known
   pub below :
-      (room : ℕ) → 0 < times room w.rooms + times room w.free → room < length w.lasts
-  pub once : (room : ℕ) → times room w.rooms + times room w.free ≤ 1
-  pub freed : (room : ℕ) → 0 < times room w.free
-      → (flow_at w (2 * room) ≡ None) × (flow_at w (2 * room + 1) ≡ None)
+      (slot : ℕ) → 0 < times slot w.slots + times slot w.free → slot < length w.lasts
+  pub once : (slot : ℕ) → times slot w.slots + times slot w.free ≤ 1
+  pub freed : (slot : ℕ) → 0 < times slot w.free
+      → (flow_at w (2 * slot) ≡ None) × (flow_at w (2 * slot + 1) ≡ None)
   pub all : length w.free + length w.known ≡ length w.lasts
   pub flows : length w.flows ≡ 2 * length w.lasts
   pub order : IsStrictlySortedBy compare_pairs w.known
@@ -58,7 +58,7 @@ state_of c events = record {
   ports = c.ports.items;
   blocks = c.pool.blocks;
   known = c.table.keys;
-  rooms = c.table.rooms;
+  slots = c.table.slots;
   free = c.free.free.items;
   lasts = c.flows.stamps.last.items;
   syns = c.syns.kept.items;
@@ -106,20 +106,20 @@ HasState = HasStateOver 0
 
 -- on Ok the code has the state that f makes of each that it had; at most `over` blocks were missing
 -- before, and `rest` are afterwards
-abbrev pub MakesOver : ℕ → ℕ → {X : Type 0} → Result X ListenerFault → (State → State)
+abbrev pub MakesOver : ℕ → ℕ → {X : Type 0} → Result X ListenerError → (State → State)
     → (List Event → Type 0) → List ℕ → Connections
     → (List Event → Type 0) → List ℕ → Connections → Type 0
 MakesOver over rest r f O live c O' live' c' =
     (w : State) → IsStateOver over O live c w → OnOk r (IsStateOver rest O' live' c' (f w))
 
 -- on Ok the code has the state that f makes of each that it had
-abbrev pub Makes : {X : Type 0} → Result X ListenerFault → (State → State)
+abbrev pub Makes : {X : Type 0} → Result X ListenerError → (State → State)
     → (List Event → Type 0) → List ℕ → Connections
     → (List Event → Type 0) → List ℕ → Connections → Type 0
 Makes = MakesOver 0 0
 
 -- the same at the end of the capture
-abbrev pub Ends : {X : Type 0} → Result X ListenerFault → (State → State)
+abbrev pub Ends : {X : Type 0} → Result X ListenerError → (State → State)
     → (List Event → Type 0) → List ℕ → Connections
     → (List Event → Type 0) → List ℕ → Connections → Type 0
 Ends r f O live c O' live' c' =

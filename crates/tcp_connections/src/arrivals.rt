@@ -8,7 +8,7 @@ ghost use Rattle.tcp_connections.specs.Connections.{first_number as spec_first_n
 ghost use Rattle.tcp_connections.specs.Connections.{number_behind as spec_number_behind};
 
 use crate::connections::Connections;
-use tcp_flow::{FlowState, Heard, Listener, ListenerFault, is_beginning, stream_at};
+use tcp_flow::{FlowState, Heard, Listener, ListenerError, is_beginning, stream_at};
 use tcp_segment::{Flow, Segment};
 use tcp_streams::Streams;
 use tcp_waiting::onward;
@@ -27,7 +27,7 @@ impl Connections {
         id: u32,
         segment: Segment<'_>,
         to: &mut Streams<L>,
-    ) -> Result<(), ListenerFault>
+    ) -> Result<(), ListenerError>
         requires state { HasState (L.observed to.old.listener) to.old.live.items self.old }
         ensures does { Makes result
             (λ w. acknowledgement_heard L.reader w id (segment_view segment.entry))
@@ -48,7 +48,7 @@ impl Connections {
         acknowledged: Option<u32>,
         answers: bool,
         to: &mut Streams<L>,
-    ) -> Result<(), ListenerFault>
+    ) -> Result<(), ListenerError>
         requires state { HasState (L.observed to.old.listener) to.old.live.items self.old }
         ensures does { Makes result (λ w. heard L.reader w id acknowledged answers)
             (L.observed to.old.listener) to.old.live.items self.old
@@ -70,7 +70,7 @@ impl Connections {
         acknowledged: Option<u32>,
         answers: bool,
         to: &mut Streams<L>,
-    ) -> Result<(), ListenerFault>
+    ) -> Result<(), ListenerError>
         requires state { HasState (L.observed to.old.listener) to.old.live.items self.old }
         ensures does { Makes result (λ w. heard L.reader w id acknowledged answers)
             (L.observed to.old.listener) to.old.live.items self.old
@@ -85,6 +85,9 @@ impl Connections {
             answers,
             arrival: self.arrival,
         };
+        if !flow.is_lost(packet, &self.pool) {
+            return Ok(());
+        }
         flow.hear(packet, &mut self.pool, to)?;
         self.flows.set(id, Some(flow));
         self.givers.note(id, &self.pool, to);
@@ -97,11 +100,11 @@ impl Connections {
         id: u32,
         segment: Segment<'_>,
         to: &mut Streams<L>,
-    ) -> Result<(), ListenerFault>
+    ) -> Result<(), ListenerError>
         requires state { HasState (L.observed to.old.listener) to.old.live.items self.old }
         requires within { id < vec_len self.old.flows.states }
         requires whole { length segment.payload.now ≤ 262_144 }
-        requires taken { 0 < times (id / 2) self.old.table.rooms }
+        requires taken { 0 < times (id / 2) self.old.table.slots }
         ensures does { Makes result (λ w. payload_taken L.reader w id (segment_view segment.entry))
             (L.observed to.old.listener) to.old.live.items self.old
             (L.observed to.new.listener) to.new.live.items self.new }
@@ -126,7 +129,7 @@ impl Connections {
         mut flow: FlowState,
         segment: Segment<'_>,
         to: &mut Streams<L>,
-    ) -> Result<(), ListenerFault>
+    ) -> Result<(), ListenerError>
         requires state { HasState (L.observed to.old.listener) to.old.live.items self.old }
         requires whole { length segment.payload.now ≤ 262_144 }
         requires flow { get_or self.old.flows.states.items id None ≡ Some flow }
@@ -155,11 +158,11 @@ impl Connections {
         id: u32,
         segment: Segment<'_>,
         to: &mut Streams<L>,
-    ) -> Result<(), ListenerFault>
+    ) -> Result<(), ListenerError>
         requires state { HasState (L.observed to.old.listener) to.old.live.items self.old }
         requires within { id < vec_len self.old.flows.states }
         requires whole { length segment.payload.now ≤ 262_144 }
-        requires taken { 0 < times (id / 2) self.old.table.rooms }
+        requires taken { 0 < times (id / 2) self.old.table.slots }
         requires vacant { get_or self.old.flows.states.items id None ≡ None }
         ensures does { Makes result (λ w. payload_taken L.reader w id (segment_view segment.entry))
             (L.observed to.old.listener) to.old.live.items self.old
@@ -181,7 +184,7 @@ impl Connections {
             (looked_through w (segment_view segment.entry)) }
     {
         if self.is_looked_through(segment) {
-            to.passes(segment.payload);
+            to.on_pass(segment.payload);
         }
     }
 
@@ -198,11 +201,11 @@ impl Connections {
         id: u32,
         segment: Segment<'_>,
         to: &mut Streams<L>,
-    ) -> Result<(), ListenerFault>
+    ) -> Result<(), ListenerError>
         requires state { HasState (L.observed to.old.listener) to.old.live.items self.old }
         requires within { id < vec_len self.old.flows.states }
         requires whole { length segment.payload.now ≤ 262_144 }
-        requires taken { 0 < times (id / 2) self.old.table.rooms }
+        requires taken { 0 < times (id / 2) self.old.table.slots }
         requires vacant { get_or self.old.flows.states.items id None ≡ None }
         ensures does { Makes result (λ w. began L.reader w id
             (spec_first_number (segment_view segment.entry)) (segment_view segment.entry).payload)
@@ -251,7 +254,7 @@ impl Connections {
         id: u32,
         segment: Segment<'_>,
         to: &mut Streams<L>,
-    ) -> Result<(), ListenerFault>
+    ) -> Result<(), ListenerError>
         requires state { HasState (L.observed to.old.listener) to.old.live.items self.old }
         ensures does { Makes result (λ w. fin_taken L.reader w id (segment_view segment.entry))
             (L.observed to.old.listener) to.old.live.items self.old
@@ -272,7 +275,7 @@ impl Connections {
         id: u32,
         number: u32,
         to: &mut Streams<L>,
-    ) -> Result<(), ListenerFault>
+    ) -> Result<(), ListenerError>
         requires state { HasState (L.observed to.old.listener) to.old.live.items self.old }
         ensures does { Makes result (λ w. arrived L.reader w id (End number))
             (L.observed to.old.listener) to.old.live.items self.old

@@ -3,7 +3,7 @@
 ghost use Rattle.std.specs.Prelude.{◌≡◌, ◌+◌, ℕ, [], length, get_or, OnOk, OnErr, None};
 
 use crate::connections::Connections;
-use tcp_flow::{CloseCause, Listener, ListenerFault};
+use tcp_flow::{CloseCause, Listener, ListenerError};
 use tcp_streams::Streams;
 
 impl Connections {
@@ -15,7 +15,7 @@ impl Connections {
     /// Ends the capture. While flows hold something, the one of them whose last stream began first
     /// has a gap. Then the live streams close in their order. Afterwards no flow has a live stream
     /// or waits for one.
-    pub fn end<L: Listener + Drop>(&mut self, to: &mut Streams<L>) -> Result<(), ListenerFault>
+    pub fn end<L: Listener + Drop>(&mut self, to: &mut Streams<L>) -> Result<(), ListenerError>
         requires state { HasState (L.observed to.old.listener) to.old.live.items self.old }
         ensures does { (w : State)
             → IsState (L.observed to.old.listener) to.old.live.items self.old w
@@ -32,7 +32,7 @@ impl Connections {
     }
 
     /// While flows hold something, makes a gap in the one of them whose last stream began first.
-    fn end_gaps<L: Listener + Drop>(&mut self, to: &mut Streams<L>) -> Result<(), ListenerFault>
+    fn end_gaps<L: Listener + Drop>(&mut self, to: &mut Streams<L>) -> Result<(), ListenerError>
         requires state { HasState (L.observed to.old.listener) to.old.live.items self.old }
         ensures does { Makes result
             (λ w. gaps_from L.reader (length w.held + length (lives w.events)) 0 w)
@@ -73,7 +73,7 @@ impl Connections {
         &mut self,
         id: u32,
         to: &mut Streams<L>,
-    ) -> Result<(), ListenerFault>
+    ) -> Result<(), ListenerError>
         ensures does { (over : ℕ) → MakesOver over over result (λ w. gapped L.reader w id)
             (L.observed to.old.listener) to.old.live.items self.old
             (L.observed to.new.listener) to.new.live.items self.new }
@@ -89,7 +89,7 @@ impl Connections {
     }
 
     /// Closes the live streams in their order.
-    fn close_all<L: Listener + Drop>(&mut self, to: &mut Streams<L>) -> Result<(), ListenerFault>
+    fn close_all<L: Listener + Drop>(&mut self, to: &mut Streams<L>) -> Result<(), ListenerError>
         ensures does { Ends result (λ w. all_closed (lives w.events) w)
             (L.observed to.old.listener) to.old.live.items self.old
             (L.observed to.new.listener) to.new.live.items self.new }
@@ -114,7 +114,7 @@ impl Connections {
         id: u32,
         cause: CloseCause,
         to: &mut Streams<L>,
-    ) -> Result<(), ListenerFault>
+    ) -> Result<(), ListenerError>
         ensures does { Ends result (λ w. closed_at w id cause)
             (L.observed to.old.listener) to.old.live.items self.old
             (L.observed to.new.listener) to.new.live.items self.new }

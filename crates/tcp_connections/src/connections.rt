@@ -18,19 +18,19 @@ use crate::guesses::Guesses;
 use crate::syns::{KeptSyn, KeptSyns};
 use arrayvec::ArrayVec;
 use std::alloc::{AllocError, Global};
-use tcp_flow::{CloseCause, FlowState, Listener, ListenerFault};
-use tcp_rooms::{FreeRooms, RoomTable};
+use tcp_flow::{CloseCause, FlowState, Listener, ListenerError};
 use tcp_segment::Segment;
+use tcp_slots::{FreeSlots, SlotTable};
 use tcp_streams::{EndpointPair, Side, Streams, flow_from, flow_id, other, pair_of};
 use tcp_waiting::{Arrival, Pool, onward};
 
-/// The connections of a capture. The ids of a connection's flows depend on the room that it has
+/// The connections of a capture. The ids of a connection's flows depend on the slot that it has
 /// while it is known.
 #[derive(Drop)]
 pub struct Connections {
     pub(crate) ports: ArrayVec<u16, 64>,
-    pub(crate) table: RoomTable<EndpointPair>,
-    pub(crate) free: FreeRooms,
+    pub(crate) table: SlotTable<EndpointPair>,
+    pub(crate) free: FreeSlots,
     pub(crate) syns: KeptSyns,
     pub(crate) flows: Flows,
     pub(crate) pool: Pool,
@@ -38,18 +38,18 @@ pub struct Connections {
     segments: u64,
     /// The packet that is read.
     pub(crate) arrival: Arrival,
-    /// Which room the connection of a segment may have.
+    /// Which slot the connection of a segment may have.
     guesses: Guesses,
 }
 
-/// How many slots there are for each connection that may be known. The more slots, the fewer are
+/// How many buckets there are for each connection that may be known. The more buckets, the fewer are
 /// shared.
-const SLOTS: usize = 8;
+const BUCKETS: usize = 8;
 
 impl Connections {
     ghost use Rattle.tcp_flow.specs.Flow.{Event};
-    ghost use Rattle.tcp_connections.specs.Connections.{none_known, live_of, made_known, place_of};
-    ghost use Rattle.tcp_connections.specs.Connections.{place_among, next_room, unknown_taken};
+    ghost use Rattle.tcp_connections.specs.Connections.{none_known, live_of, made_known, index_of};
+    ghost use Rattle.tcp_connections.specs.Connections.{index_among, next_slot, unknown_taken};
     ghost use Rattle.tcp_connections.specs.Connections.{known_taken, step, syn_kept, with_packet, with_segment};
     ghost use Rattle.tcp_connections.specs.Known.{IsKnown};
     ghost use Rattle.tcp_connections.specs.State.{AreRanked, IsSound, HasState, Makes, state_of};
@@ -74,13 +74,13 @@ impl Connections {
         ensures ranked { (live : List ℕ) → IfOk result
             (λ c. AreRanked c.givers (2 * most) [] live) }
     {
-        let table = RoomTable::new(alloc, most as usize)?;
-        let free = FreeRooms::new(alloc, most)?;
+        let table = SlotTable::new(alloc, most as usize)?;
+        let free = FreeSlots::new(alloc, most)?;
         let syns = KeptSyns::new(alloc, most as usize)?;
         let flows = Flows::new(alloc, most)?;
         let pool = Pool::new(alloc, blocks, 2 * most as usize)?;
         let givers = Givers::new(alloc, 2 * most as usize)?;
-        let guesses = Guesses::new(alloc, SLOTS * most as usize)?;
+        let guesses = Guesses::new(alloc, BUCKETS * most as usize)?;
         Ok(Connections {
             ports,
             table,
@@ -118,7 +118,7 @@ impl Connections {
         &mut self,
         segment: Segment<'_>,
         to: &mut Streams<L>,
-    ) -> Result<(), ListenerFault>
+    ) -> Result<(), ListenerError>
         requires state { HasState (L.observed to.old.listener) to.old.live.items self.old }
         requires whole { length segment.payload.now ≤ 262_144 }
         requires count { self.old.segments < 2 ^ 63 }
@@ -130,50 +130,50 @@ impl Connections {
     {
         self.segments += 1;
         let (pair, side) = pair_of(segment.flow);
-        let slot = self.guesses.slot(&pair);
-        let Some(room) = self.room_of(&pair, slot) else {
+        let bucket = self.guesses.bucket(&pair);
+        let Some(slot) = self.slot_of(&pair, bucket) else {
             return self.take_unknown(pair, side, segment, to);
         };
-        self.guesses.note(slot, room);
-        let id = flow_id(room, side);
+        self.guesses.note(bucket, slot);
+        let id = flow_id(slot, side);
         if self.is_kept(id, segment) {
-            self.keep_syn(room, id, segment);
+            self.keep_syn(slot, id, segment);
             return Ok(());
         }
-        if self.is_anew(room, id, segment) {
-            self.end_by(self.place_of(&pair), side, CloseCause::Syn, to)?;
+        if self.is_anew(slot, id, segment) {
+            self.end_by(self.index_of(&pair), side, CloseCause::Syn, to)?;
             return self.take_unknown(pair, side, segment, to);
         }
-        self.take_known(pair, room, side, segment, to)
+        self.take_known(pair, slot, side, segment, to)
     }
 
-    /// Takes a segment of the connection of a pair, which has this room.
+    /// Takes a segment of the connection of a pair, which has this slot.
     fn take_known<L: Listener + Drop>(
         &mut self,
         pair: EndpointPair,
-        room: u32,
+        slot: u32,
         side: Side,
         segment: Segment<'_>,
         to: &mut Streams<L>,
-    ) -> Result<(), ListenerFault>
+    ) -> Result<(), ListenerError>
         requires state { HasState (L.observed to.old.listener) to.old.live.items self.old }
         requires whole { length segment.payload.now ≤ 262_144 }
         requires flow { (spec_pair_of segment.flow).1 ≡ side }
-        requires known { (place : ℕ)
-            × IsKnown self.old.table.keys self.old.table.rooms pair room place }
-        ensures does { (place : ℕ)
-            → IsKnown self.old.table.keys self.old.table.rooms pair room place → Makes result
-            (λ w. known_taken L.reader w place (segment_view segment.entry))
+        requires known { (index : ℕ)
+            × IsKnown self.old.table.keys self.old.table.slots pair slot index }
+        ensures does { (index : ℕ)
+            → IsKnown self.old.table.keys self.old.table.slots pair slot index → Makes result
+            (λ w. known_taken L.reader w index (segment_view segment.entry))
             (L.observed to.old.listener) to.old.live.items self.old
             (L.observed to.new.listener) to.new.live.items self.new }
         ensures cause { OnErr result (L.failed to.new.listener) }
     {
-        let id = flow_id(room, side);
-        self.note(room, id);
-        self.acknowledgement(flow_id(room, other(side)), segment, to)?;
+        let id = flow_id(slot, side);
+        self.note(slot, id);
+        self.acknowledgement(flow_id(slot, other(side)), segment, to)?;
         self.payload(id, segment, to)?;
         self.fin(id, segment, to)?;
-        self.reset(pair, room, side, segment, to)?;
+        self.reset(pair, slot, side, segment, to)?;
         self.hear(id, None, false, to)
     }
 
@@ -185,11 +185,11 @@ impl Connections {
         side: Side,
         segment: Segment<'_>,
         to: &mut Streams<L>,
-    ) -> Result<(), ListenerFault>
+    ) -> Result<(), ListenerError>
         requires state { HasState (L.observed to.old.listener) to.old.live.items self.old }
         requires whole { length segment.payload.now ≤ 262_144 }
         requires flow { spec_pair_of segment.flow ≡ (pair, side) }
-        requires new { place_of pair self.old.table.keys ≡ None }
+        requires new { index_of pair self.old.table.keys ≡ None }
         ensures does { Makes result (λ w. unknown_taken L.reader w (segment_view segment.entry))
             (L.observed to.old.listener) to.old.live.items self.old
             (L.observed to.new.listener) to.new.live.items self.new }
@@ -200,110 +200,110 @@ impl Connections {
             return Ok(());
         }
         self.make_room(to)?;
-        let room = self.make_known(pair, to)?;
-        let id = flow_id(room, side);
+        let slot = self.make_known(pair, to)?;
+        let id = flow_id(slot, side);
         self.begin(id, segment, to)?;
         self.fin(id, segment, to)
     }
 
-    /// Makes a connection known. Answers its room.
+    /// Makes a connection known. Answers its slot.
     fn make_known<L: Listener + Drop>(
         &mut self,
         pair: EndpointPair,
         to: &mut Streams<L>,
-    ) -> Result<u32, ListenerFault>
+    ) -> Result<u32, ListenerError>
         requires state { HasState (L.observed to.old.listener) to.old.live.items self.old }
-        requires new { place_of pair self.old.table.keys ≡ None }
+        requires new { index_of pair self.old.table.keys ≡ None }
         requires room { length self.old.table.keys < self.old.table.most }
         ensures does { Makes result (λ w. made_known w pair)
             (L.observed to.old.listener) to.old.live.items self.old
             (L.observed to.new.listener) to.new.live.items self.new }
-        ensures room { IfOk result (λ room. room ≡ next_room self.old.free.free.items) }
+        ensures slot { IfOk result (λ slot. slot ≡ next_slot self.old.free.free.items) }
         ensures cause { OnErr result (L.failed to.new.listener) }
     {
-        let place = self.place_for(&pair);
-        // There are as many free rooms as connections that may still become known.
-        let Some(room) = self.free.take() else {
-            return Err(ListenerFault);
+        let index = self.index_for(&pair);
+        // There are as many free slots as connections that may still become known.
+        let Some(slot) = self.free.take() else {
+            return Err(ListenerError);
         };
-        self.table.add(place, pair, room);
-        self.guesses.note(self.guesses.slot(&pair), room);
-        self.flows.open(room, self.segments);
-        self.syns.set(room, None);
-        let lesser = flow_id(room, Side::FromLesser);
-        let greater = flow_id(room, Side::FromGreater);
-        to.opens(lesser, flow_from(pair, Side::FromLesser))?;
-        to.opens(greater, flow_from(pair, Side::FromGreater))?;
-        Ok(room)
+        self.table.add(index, pair, slot);
+        self.guesses.note(self.guesses.bucket(&pair), slot);
+        self.flows.open(slot, self.segments);
+        self.syns.set(slot, None);
+        let lesser = flow_id(slot, Side::FromLesser);
+        let greater = flow_id(slot, Side::FromGreater);
+        to.on_open(lesser, flow_from(pair, Side::FromLesser))?;
+        to.on_open(greater, flow_from(pair, Side::FromGreater))?;
+        Ok(slot)
     }
 
-    /// The room of the connection of a pair, if it is known. The room that is guessed for its slot
+    /// The slot of the connection of a pair, if it is known. The slot that is guessed for its bucket
     /// is looked at first.
-    fn room_of(&self, pair: &EndpointPair, slot: usize) -> Option<u32>
+    fn slot_of(&self, pair: &EndpointPair, bucket: usize) -> Option<u32>
         requires sound { IsSound (state_of self.now []) }
-        ensures none { (result ≡ None) → place_of pair.now self.now.table.keys ≡ None }
-        ensures some { IfSome result (λ room. (place : ℕ)
-            × IsKnown self.now.table.keys self.now.table.rooms pair.now room place) }
+        ensures none { (result ≡ None) → index_of pair.now self.now.table.keys ≡ None }
+        ensures some { IfSome result (λ slot. (index : ℕ)
+            × IsKnown self.now.table.keys self.now.table.slots pair.now slot index) }
     {
-        let guess = self.guesses.at(slot);
-        if self.is_room_of(guess, pair) {
+        let guess = self.guesses.at(bucket);
+        if self.is_slot_of(guess, pair) {
             return Some(guess);
         }
-        match self.table.place(pair) {
-            Ok(place) => Some(self.table.room(place)),
+        match self.table.index(pair) {
+            Ok(index) => Some(self.table.slot(index)),
             Err(_) => None,
         }
     }
 
-    /// Whether a room is surely that of the connection of a pair: this pair had it last, and it
+    /// Whether a slot is surely that of the connection of a pair: this pair had it last, and it
     /// isn't free, since one of its flows has begun.
     #[inline]
-    fn is_room_of(&self, room: u32, pair: &EndpointPair) -> bool
+    fn is_slot_of(&self, slot: u32, pair: &EndpointPair) -> bool
         requires sound { IsSound (state_of self.now []) }
-        requires small { room < 2 ^ 16 }
-        ensures { IsTrue result → (place : ℕ)
-            × IsKnown self.now.table.keys self.now.table.rooms pair.now room place }
+        requires small { slot < 2 ^ 16 }
+        ensures { IsTrue result → (index : ℕ)
+            × IsKnown self.now.table.keys self.now.table.slots pair.now slot index }
     {
-        match self.table.last_key(room) {
-            Some(key) => *key == *pair && self.has_begun(room),
+        match self.table.last_key(slot) {
+            Some(key) => *key == *pair && self.has_begun(slot),
             None => false,
         }
     }
 
-    /// Whether one of the flows of a room has begun.
+    /// Whether one of the flows of a slot has begun.
     #[inline]
-    fn has_begun(&self, room: u32) -> bool
-        requires small { room < 2 ^ 31 }
-        ensures { result ≡ (is_some (get_or self.now.flows.states.items (2 * room) None)
-            || is_some (get_or self.now.flows.states.items (2 * room + 1) None)) }
+    fn has_begun(&self, slot: u32) -> bool
+        requires small { slot < 2 ^ 31 }
+        ensures { result ≡ (is_some (get_or self.now.flows.states.items (2 * slot) None)
+            || is_some (get_or self.now.flows.states.items (2 * slot + 1) None)) }
     {
-        self.flow(flow_id(room, Side::FromLesser)).is_some()
-            || self.flow(flow_id(room, Side::FromGreater)).is_some()
+        self.flow(flow_id(slot, Side::FromLesser)).is_some()
+            || self.flow(flow_id(slot, Side::FromGreater)).is_some()
     }
 
-    /// The place of a pair that is known.
-    pub(crate) fn place_of(&self, pair: &EndpointPair) -> usize
+    /// The index of a pair that is known.
+    pub(crate) fn index_of(&self, pair: &EndpointPair) -> usize
         requires sound { IsSound (state_of self.now []) }
-        requires known { (place : ℕ) × (place_of pair.now self.now.table.keys ≡ Some place) }
-        ensures place { place_of pair.now self.now.table.keys ≡ Some result }
+        requires known { (index : ℕ) × (index_of pair.now self.now.table.keys ≡ Some index) }
+        ensures index { index_of pair.now self.now.table.keys ≡ Some result }
         ensures within { result < length self.now.table.keys }
     {
-        match self.table.place(pair) {
-            Ok(place) => place,
-            Err(place) => place,
+        match self.table.index(pair) {
+            Ok(index) => index,
+            Err(index) => index,
         }
     }
 
-    /// The place at which a pair that isn't known would be inserted.
-    fn place_for(&self, pair: &EndpointPair) -> usize
+    /// The index at which a pair that isn't known would be inserted.
+    fn index_for(&self, pair: &EndpointPair) -> usize
         requires sound { IsSound (state_of self.now []) }
-        requires new { place_of pair.now self.now.table.keys ≡ None }
-        ensures place { result ≡ place_among pair.now self.now.table.keys }
+        requires new { index_of pair.now self.now.table.keys ≡ None }
+        ensures index { result ≡ index_among pair.now self.now.table.keys }
         ensures within { result ≤ length self.now.table.keys }
     {
-        match self.table.place(pair) {
-            Ok(place) => place,
-            Err(place) => place,
+        match self.table.index(pair) {
+            Ok(index) => index,
+            Err(index) => index,
         }
     }
 
@@ -314,12 +314,12 @@ impl Connections {
         self.flows.at(id)
     }
 
-    /// Notes a segment of a flow of the connection of a room.
-    fn note(&mut self, room: u32, id: u32)
-        requires room { room < vec_len self.old.flows.stamps.last }
-        requires own { id / 2 ≡ room }
+    /// Notes a segment of a flow of the connection of a slot.
+    fn note(&mut self, slot: u32, id: u32)
+        requires slot { slot < vec_len self.old.flows.stamps.last }
+        requires own { id / 2 ≡ slot }
         ensures noted { (events : List Event) → state_of self.new events
-            ≡ with_segment (state_of self.old events) room id }
+            ≡ with_segment (state_of self.old events) slot id }
         ensures free { self.new.free.most ≡ self.old.free.most }
         ensures room { self.new.table.most ≡ self.old.table.most }
         ensures givers { self.new.givers ≡ self.old.givers }
@@ -327,19 +327,19 @@ impl Connections {
         self.flows.note(id, self.segments);
     }
 
-    /// Keeps a SYN for the connection of a room, in place of an older one.
-    fn keep_syn(&mut self, room: u32, flow: u32, segment: Segment<'_>)
-        requires room { room < vec_len self.old.flows.stamps.last }
-        requires own { flow / 2 ≡ room }
+    /// Keeps a SYN for the connection of a slot, in place of an older one.
+    fn keep_syn(&mut self, slot: u32, flow: u32, segment: Segment<'_>)
+        requires slot { slot < vec_len self.old.flows.stamps.last }
+        requires own { flow / 2 ≡ slot }
         ensures kept { (events : List Event) → state_of self.new events
-            ≡ syn_kept (state_of self.old events) room flow (segment_view segment.entry) }
+            ≡ syn_kept (state_of self.old events) slot flow (segment_view segment.entry) }
         ensures free { self.new.free.most ≡ self.old.free.most }
         ensures room { self.new.table.most ≡ self.old.table.most }
         ensures givers { self.new.givers ≡ self.old.givers }
     {
-        self.note(room, flow);
+        self.note(slot, flow);
         let number = onward(segment.sequence, 1);
-        self.syns.set(room, Some(KeptSyn { flow, number }));
+        self.syns.set(slot, Some(KeptSyn { flow, number }));
     }
 
     /// The number that the stream of a flow begins with, if it is live or waited for.
@@ -382,14 +382,14 @@ impl Connections {
         }
     }
 
-    /// Whether a segment begins the connection of a room anew: it answers the SYN that is kept, or
+    /// Whether a segment begins the connection of a slot anew: it answers the SYN that is kept, or
     /// follows it.
     #[inline]
-    fn is_anew(&self, room: u32, id: u32, segment: Segment<'_>) -> bool
-        ensures { result ≡ spec_is_anew (get_or self.now.syns.kept.items room None) id
+    fn is_anew(&self, slot: u32, id: u32, segment: Segment<'_>) -> bool
+        ensures { result ≡ spec_is_anew (get_or self.now.syns.kept.items slot None) id
             (segment_view segment.entry) }
     {
-        match self.syns.at(room) {
+        match self.syns.at(slot) {
             Some(syn) => is_answer(syn, id, segment) || is_following(syn, id, segment),
             None => false,
         }

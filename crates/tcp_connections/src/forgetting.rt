@@ -6,7 +6,7 @@ ghost use Rattle.tcp_segment.specs.Segments.{segment_view};
 ghost use Rattle.tcp_waiting.specs.Payload.{count_of};
 
 use crate::connections::Connections;
-use tcp_flow::{CloseCause, Listener, ListenerFault};
+use tcp_flow::{CloseCause, Listener, ListenerError};
 use tcp_segment::Segment;
 use tcp_streams::{EndpointPair, Side, Streams, flow_id, other};
 
@@ -22,17 +22,17 @@ impl Connections {
     pub(crate) fn reset<L: Listener + Drop>(
         &mut self,
         pair: EndpointPair,
-        room: u32,
+        slot: u32,
         side: Side,
         segment: Segment<'_>,
         to: &mut Streams<L>,
-    ) -> Result<(), ListenerFault>
+    ) -> Result<(), ListenerError>
         requires state { HasState (L.observed to.old.listener) to.old.live.items self.old }
-        requires known { (place : ℕ)
-            × IsKnown self.old.table.keys self.old.table.rooms pair room place }
-        ensures does { (place : ℕ)
-            → IsKnown self.old.table.keys self.old.table.rooms pair room place → Makes result
-            (λ w. reset_taken L.reader w place side (segment_view segment.entry))
+        requires known { (index : ℕ)
+            × IsKnown self.old.table.keys self.old.table.slots pair slot index }
+        ensures does { (index : ℕ)
+            → IsKnown self.old.table.keys self.old.table.slots pair slot index → Makes result
+            (λ w. reset_taken L.reader w index side (segment_view segment.entry))
             (L.observed to.old.listener) to.old.live.items self.old
             (L.observed to.new.listener) to.new.live.items self.new }
         ensures cause { OnErr result (L.failed to.new.listener) }
@@ -40,49 +40,49 @@ impl Connections {
         if !segment.reset {
             return Ok(());
         }
-        if !self.is_near_due(flow_id(room, side), segment.sequence) {
+        if !self.is_near_due(flow_id(slot, side), segment.sequence) {
             return Ok(());
         }
-        self.end_by(self.place_of(&pair), side, CloseCause::Reset, to)
+        self.end_by(self.index_of(&pair), side, CloseCause::Reset, to)
     }
 
     /// Shows what a connection holds and forgets it, because of a segment of one side.
     pub(crate) fn end_by<L: Listener + Drop>(
         &mut self,
-        place: usize,
+        index: usize,
         side: Side,
         cause: CloseCause,
         to: &mut Streams<L>,
-    ) -> Result<(), ListenerFault>
+    ) -> Result<(), ListenerError>
         requires state { HasState (L.observed to.old.listener) to.old.live.items self.old }
-        requires place { place < length self.old.table.keys }
-        ensures does { Makes result (λ w. ended_by L.reader w place side cause)
+        requires index { index < length self.old.table.keys }
+        ensures does { Makes result (λ w. ended_by L.reader w index side cause)
             (L.observed to.old.listener) to.old.live.items self.old
             (L.observed to.new.listener) to.new.live.items self.new }
         ensures cause { OnErr result (L.failed to.new.listener) }
     {
-        let room = self.table.room(place);
-        self.show(room, side, to)?;
-        self.forget(place, side, cause, to)
+        let slot = self.table.slot(index);
+        self.show(slot, side, to)?;
+        self.forget(index, side, cause, to)
     }
 
-    /// Shows what the flows of a room hold, before its connection is forgotten. The flow of this
+    /// Shows what the flows of a slot hold, before its connection is forgotten. The flow of this
     /// side is the first.
     fn show<L: Listener + Drop>(
         &mut self,
-        room: u32,
+        slot: u32,
         side: Side,
         to: &mut Streams<L>,
-    ) -> Result<(), ListenerFault>
+    ) -> Result<(), ListenerError>
         requires state { HasState (L.observed to.old.listener) to.old.live.items self.old }
-        requires room { room < 2 ^ 31 }
-        ensures does { Makes result (λ w. shown L.reader w room side)
+        requires slot { slot < 2 ^ 31 }
+        ensures does { Makes result (λ w. shown L.reader w slot side)
             (L.observed to.old.listener) to.old.live.items self.old
             (L.observed to.new.listener) to.new.live.items self.new }
         ensures cause { OnErr result (L.failed to.new.listener) }
     {
-        self.empty(flow_id(room, side), to)?;
-        self.empty(flow_id(room, other(side)), to)
+        self.empty(flow_id(slot, side), to)?;
+        self.empty(flow_id(slot, other(side)), to)
     }
 
     /// Makes gaps in a flow until it holds nothing.
@@ -90,7 +90,7 @@ impl Connections {
         &mut self,
         id: u32,
         to: &mut Streams<L>,
-    ) -> Result<(), ListenerFault>
+    ) -> Result<(), ListenerError>
         requires state { HasState (L.observed to.old.listener) to.old.live.items self.old }
         ensures does { Makes result (λ w. emptied L.reader w id)
             (L.observed to.old.listener) to.old.live.items self.old
@@ -112,23 +112,23 @@ impl Connections {
     /// Forgets a connection: first the flow of this side, then the other.
     pub(crate) fn forget<L: Listener + Drop>(
         &mut self,
-        place: usize,
+        index: usize,
         side: Side,
         cause: CloseCause,
         to: &mut Streams<L>,
-    ) -> Result<(), ListenerFault>
+    ) -> Result<(), ListenerError>
         requires state { HasState (L.observed to.old.listener) to.old.live.items self.old }
-        requires place { place < length self.old.table.keys }
-        ensures does { Makes result (λ w. forgotten w place side cause)
+        requires index { index < length self.old.table.keys }
+        ensures does { Makes result (λ w. forgotten w index side cause)
             (L.observed to.old.listener) to.old.live.items self.old
             (L.observed to.new.listener) to.new.live.items self.new }
         ensures cause { OnErr result (L.failed to.new.listener) }
     {
-        let room = self.table.room(place);
-        self.forget_flow(flow_id(room, side), cause, to)?;
-        self.forget_flow(flow_id(room, other(side)), cause, to)?;
-        self.table.forget(place);
-        self.free.give_back(room);
+        let slot = self.table.slot(index);
+        self.forget_flow(flow_id(slot, side), cause, to)?;
+        self.forget_flow(flow_id(slot, other(side)), cause, to)?;
+        self.table.forget(index);
+        self.free.give_back(slot);
         Ok(())
     }
 
@@ -138,7 +138,7 @@ impl Connections {
         id: u32,
         cause: CloseCause,
         to: &mut Streams<L>,
-    ) -> Result<(), ListenerFault>
+    ) -> Result<(), ListenerError>
         requires state { HasState (L.observed to.old.listener) to.old.live.items self.old }
         ensures does { Makes result (λ w. flow_forgotten w id cause)
             (L.observed to.old.listener) to.old.live.items self.old
@@ -159,7 +159,7 @@ impl Connections {
     pub(crate) fn make_room<L: Listener + Drop>(
         &mut self,
         to: &mut Streams<L>,
-    ) -> Result<(), ListenerFault>
+    ) -> Result<(), ListenerError>
         requires state { HasState (L.observed to.old.listener) to.old.live.items self.old }
         ensures does { Makes result (λ w. with_room L.reader w)
             (L.observed to.old.listener) to.old.live.items self.old
@@ -169,35 +169,35 @@ impl Connections {
         if !self.table.is_full() {
             return Ok(());
         }
-        let place = self.eldest();
-        self.clear(place, to)
+        let index = self.find_eldest();
+        self.clear(index, to)
     }
 
-    /// Shows what the connection at a place holds and forgets it. Of its flows, the one whose
+    /// Shows what the connection at an index holds and forgets it. Of its flows, the one whose
     /// stream began first comes first.
     fn clear<L: Listener + Drop>(
         &mut self,
-        place: usize,
+        index: usize,
         to: &mut Streams<L>,
-    ) -> Result<(), ListenerFault>
+    ) -> Result<(), ListenerError>
         requires state { HasState (L.observed to.old.listener) to.old.live.items self.old }
-        requires place { place < length self.old.table.keys }
-        ensures does { Makes result (λ w. cleared L.reader w place)
+        requires index { index < length self.old.table.keys }
+        ensures does { Makes result (λ w. cleared L.reader w index)
             (L.observed to.old.listener) to.old.live.items self.old
             (L.observed to.new.listener) to.new.live.items self.new }
         ensures cause { OnErr result (L.failed to.new.listener) }
     {
-        let room = self.table.room(place);
-        self.show(room, to.elder_side(room), to)?;
-        self.forget(place, to.elder_side(room), CloseCause::Room, to)
+        let slot = self.table.slot(index);
+        self.show(slot, to.elder_side(slot), to)?;
+        self.forget(index, to.elder_side(slot), CloseCause::Room, to)
     }
 
-    /// The place of the connection that makes room: found by the ranks, or by looking at all if two
-    /// rooms have the least rank.
-    fn eldest(&mut self) -> usize
+    /// The index of the connection that makes room: found by the ranks, or by looking at all if two
+    /// slots have the least rank.
+    fn find_eldest(&mut self) -> usize
         requires sound { IsSound (state_of self.old []) }
         requires some { 0 < length self.old.table.keys }
-        ensures place { result ≡ eldest (state_of self.old []) (length self.old.table.keys) }
+        ensures index { result ≡ eldest (state_of self.old []) (length self.old.table.keys) }
         ensures within { result < length self.new.table.keys }
         ensures same { (events : List Event) → state_of self.new events
             ≡ state_of self.old events }
@@ -205,53 +205,53 @@ impl Connections {
         ensures room { self.new.table.most ≡ self.old.table.most }
         ensures givers { self.new.givers ≡ self.old.givers }
     {
-        if let Some(room) = self.flows.first_room()
-            && let Some(place) = self.table.place_of_room(room)
+        if let Some(slot) = self.flows.first_slot()
+            && let Some(index) = self.table.index_of_slot(slot)
         {
-            return place;
+            return index;
         }
         self.walk()
     }
 
-    /// The place of the connection that makes room, found by looking at all.
+    /// The index of the connection that makes room, found by looking at all.
     fn walk(&self) -> usize
         requires sound { IsSound (state_of self.now []) }
         requires some { 0 < length self.now.table.keys }
-        ensures place { result ≡ eldest (state_of self.now []) (length self.now.table.keys) }
+        ensures index { result ≡ eldest (state_of self.now []) (length self.now.table.keys) }
         ensures within { result < length self.now.table.keys }
     {
         let mut best = 0;
-        let mut place = 0;
-        while place < self.table.len() {
-            best = self.elder(place, best);
-            place += 1;
+        let mut index = 0;
+        while index < self.table.len() {
+            best = self.elder(index, best);
+            index += 1;
         }
         best
     }
 
-    /// The one of two places whose connection makes room before that of the other.
-    fn elder(&self, place: usize, best: usize) -> usize
+    /// The one of two indices whose connection makes room before that of the other.
+    fn elder(&self, index: usize, best: usize) -> usize
         requires sound { IsSound (state_of self.now []) }
-        requires place { place < length self.now.table.keys }
+        requires index { index < length self.now.table.keys }
         requires within { best < length self.now.table.keys }
-        ensures place { result ≡ cond (goes_before (state_of self.now []) place best) place best }
+        ensures index { result ≡ cond (goes_before (state_of self.now []) index best) index best }
         ensures within { result < length self.now.table.keys }
     {
-        if self.goes_before(place, best) {
-            place
+        if self.goes_before(index, best) {
+            index
         } else {
             best
         }
     }
 
-    /// Whether the connection at one place makes room before that at another.
-    fn goes_before(&self, place: usize, other: usize) -> bool
+    /// Whether the connection at one index makes room before that at another.
+    fn goes_before(&self, index: usize, other: usize) -> bool
         requires sound { IsSound (state_of self.now []) }
-        requires place { place < length self.now.table.keys }
+        requires index { index < length self.now.table.keys }
         requires other { other < length self.now.table.keys }
-        ensures { result ≡ goes_before (state_of self.now []) place other }
+        ensures { result ≡ goes_before (state_of self.now []) index other }
     {
         self.flows
-            .goes_before(self.table.room(place), self.table.room(other))
+            .goes_before(self.table.slot(index), self.table.slot(other))
     }
 }

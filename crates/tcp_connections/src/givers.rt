@@ -5,7 +5,7 @@ ghost use Rattle.std.specs.Prelude.{◌≡◌, ◌≤◌, ℕ, get_or};
 ghost use Rattle.std.specs.Vec.{vec_len};
 ghost use Rattle.std.proofs.Props.{props};
 
-use tcp_rooms::Ranks;
+use tcp_slots::Ranks;
 
 /// The rank of each flow. The flow that gives up has the least rank.
 #[derive(Drop)]
@@ -15,6 +15,6 @@ pub struct Givers {
     pub(crate) numbers: Vec<u64>,
     /// No number is greater.
     pub(crate) greatest: u64,
-    ghost as_many: { vec_len numbers ≡ ranks.rooms },
+    ghost as_many: { vec_len numbers ≡ ranks.slots },
     ghost most: { (id : ℕ) → get_or numbers.items id 0 ≤ greatest } by { Prim.hlevel props },
 }

@@ -3,14 +3,14 @@
 
 ghost use Rattle.std.specs.Prelude.{◌≡◌, ◌≤◌, ◌<◌, ◌^◌, ℕ, IfOk, IfSome, Some, None, cond, nat_eq};
 ghost use Rattle.std.specs.List.{last_or};
-ghost use Rattle.tcp_rooms.specs.Ranks.{IsFirst};
+ghost use Rattle.tcp_slots.specs.Ranks.{IsFirst};
 ghost use Rattle.tcp_waiting.specs.Payload.{load_of};
 ghost use Rattle.tcp_connections.specs.Givers.{IsNoted, noted_at, number_at, rank_of as spec_rank_of};
 
 use crate::givers::Givers;
 use std::alloc::{AllocError, Global};
 use tcp_flow::Listener;
-use tcp_rooms::Ranks;
+use tcp_slots::Ranks;
 use tcp_streams::Streams;
 use tcp_waiting::Pool;
 
@@ -19,7 +19,7 @@ impl Givers {
     /// allocates.
     pub fn new(alloc: Global, flows: usize) -> Result<Givers, AllocError>
         requires { (1 ≤ flows) × (flows ≤ 131072) }
-        ensures flows { IfOk result (λ g. g.ranks.rooms ≡ flows) }
+        ensures flows { IfOk result (λ g. g.ranks.slots ≡ flows) }
         ensures ranks { IfOk result (λ g. (id : ℕ) → id < flows
             → noted_at g id ≡ spec_rank_of 0 (number_at g id)) }
         ensures numbers { IfOk result (λ g. (id : ℕ) → number_at g id ≡ 0) }
@@ -50,7 +50,7 @@ impl Givers {
             → number_at self.new other ≡ number_at self.old other }
         ensures same { (last_or None to.old.live.items ≡ Some id → ⊥)
             → number_at self.new id ≡ number_at self.old id }
-        ensures greatest { last_or None to.old.live.items ≡ Some id → id < self.old.ranks.rooms
+        ensures greatest { last_or None to.old.live.items ≡ Some id → id < self.old.ranks.slots
             → (other : ℕ) → number_at self.new other ≤ number_at self.new id }
         ensures ranks { self.new.ranks ≡ self.old.ranks }
         ensures live { to.new.live ≡ to.old.live }
@@ -67,9 +67,9 @@ impl Givers {
 
     /// Sets the rank of a flow. There is no effect if there is no such flow.
     fn set(&mut self, id: u32, rank: u128)
-        ensures ranks { (other : ℕ) → other < self.old.ranks.rooms → noted_at self.new other
+        ensures ranks { (other : ℕ) → other < self.old.ranks.slots → noted_at self.new other
             ≡ cond (nat_eq other id) rank (noted_at self.old other) }
-        ensures flows { self.new.ranks.rooms ≡ self.old.ranks.rooms }
+        ensures flows { self.new.ranks.slots ≡ self.old.ranks.slots }
         ensures numbers { self.new.numbers ≡ self.old.numbers }
     {
         if (id as usize) < self.numbers.len() && self.ranks.rank(id) != rank {
@@ -87,7 +87,7 @@ impl Givers {
     /// The flow whose rank is less than that of each other, if there is one.
     pub fn first(&self) -> Option<u32>
         ensures first { IfSome result (λ id.
-            IsFirst self.now.ranks.rooms self.now.ranks.nodes.items id) }
+            IsFirst self.now.ranks.slots self.now.ranks.nodes.items id) }
         ensures small { (id : ℕ) → number_at self.now id < 2 ^ 64 }
     {
         // Reading it tells the prover that a number is less than 2^64.

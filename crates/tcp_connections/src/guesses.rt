@@ -1,4 +1,4 @@
-//! Guesses of the room of a connection from its endpoints, in memory that is allocated once.
+//! Guesses of the slot of a connection from its endpoints, in memory that is allocated once.
 
 ghost use Rattle.std.specs.Prelude.{◌≡◌, ◌≤◌, ◌<◌, ◌^◌, IfOk, get_or, set, replicate};
 ghost use Rattle.std.specs.Vec.{vec_len};
@@ -7,46 +7,46 @@ use std::alloc::{AllocError, Global};
 use tcp_segment::{Address, Endpoint};
 use tcp_streams::EndpointPair;
 
-/// The room of the last connection of each slot. It is only a guess, since connections may share a
-/// slot and rooms are given back. The caller checks it.
+/// The slot of the last connection of each bucket. It is only a guess, since connections may share a
+/// bucket and slots are given back. The caller checks it.
 #[derive(Drop)]
 pub struct Guesses {
-    rooms: Vec<u16>,
-    ghost some: { 1 ≤ vec_len rooms },
+    slots: Vec<u16>,
+    ghost some: { 1 ≤ vec_len slots },
 }
 
 impl Guesses {
-    /// Slots with room 0 each. No other call allocates.
-    pub fn new(alloc: Global, slots: usize) -> Result<Guesses, AllocError>
-        requires { 1 ≤ slots }
-        ensures { IfOk result (λ g. g.rooms.items ≡ replicate slots 0) }
+    /// Buckets with slot 0 each. No other call allocates.
+    pub fn new(alloc: Global, buckets: usize) -> Result<Guesses, AllocError>
+        requires { 1 ≤ buckets }
+        ensures { IfOk result (λ g. g.slots.items ≡ replicate buckets 0) }
     {
-        let rooms = vec![in alloc; 0; slots]?;
-        Ok(Guesses { rooms })
+        let slots = vec![in alloc; 0; buckets]?;
+        Ok(Guesses { slots })
     }
 
-    /// The slot of a connection, from the last octets of its addresses and its ports.
-    pub fn slot(&self, pair: &EndpointPair) -> usize {
+    /// The bucket of a connection, from the last octets of its addresses and its ports.
+    pub fn bucket(&self, pair: &EndpointPair) -> usize {
         let lesser = number_of(pair.lesser).wrapping_mul(0x9e37_79b1);
         let greater = number_of(pair.greater).wrapping_mul(0x85eb_ca6b);
-        ((lesser ^ greater) >> 13) as usize % self.rooms.len()
+        ((lesser ^ greater) >> 13) as usize % self.slots.len()
     }
 
-    /// The room that is guessed for a slot.
-    pub fn at(&self, slot: usize) -> u32
-        ensures is { result ≡ get_or self.now.rooms.items slot 0 }
+    /// The slot that is guessed for a bucket.
+    pub fn at(&self, bucket: usize) -> u32
+        ensures is { result ≡ get_or self.now.slots.items bucket 0 }
         ensures small { result < 2 ^ 16 }
     {
-        u32::from(self.rooms.get(slot).copied().unwrap_or(0))
+        u32::from(self.slots.get(bucket).copied().unwrap_or(0))
     }
 
-    /// Sets the room that is guessed for a slot.
-    pub fn note(&mut self, slot: usize, room: u32)
-        requires { room < 2 ^ 16 }
-        ensures { self.new.rooms.items ≡ set self.old.rooms.items slot room }
+    /// Sets the slot that is guessed for a bucket.
+    pub fn note(&mut self, bucket: usize, slot: u32)
+        requires { slot < 2 ^ 16 }
+        ensures { self.new.slots.items ≡ set self.old.slots.items bucket slot }
     {
-        if let Some(noted) = self.rooms.get_mut(slot) {
-            *noted = room as u16;
+        if let Some(noted) = self.slots.get_mut(bucket) {
+            *noted = slot as u16;
         }
     }
 }

@@ -5,9 +5,9 @@ ghost use Rattle.tcp_segment.specs.Segments.{Segment};
 ghost use Rattle.tcp_flow.specs.Flow.{CaptureEvent, OfCapture, Reader};
 ghost use Rattle.tcp_streams.specs.Lives.{lives};
 ghost use Rattle.tcp_streams.specs.declared.pair.EndpointPair.{EndpointPair};
-ghost use Rattle.tcp_connections.specs.Connections.{State, none_known, place_of, after, with_capture_event, ended, heaviest};
+ghost use Rattle.tcp_connections.specs.Connections.{State, none_known, index_of, after, with_capture_event, ended, heaviest};
 ghost use Rattle.tcp_connections.specs.Forgetting.{IsForgottenBy, MakesRoom};
-ghost use Rattle.tcp_connections.specs.Gapless.{AreGapless, AreWhole, HaveRooms};
+ghost use Rattle.tcp_connections.specs.Gapless.{AreGapless, AreWhole, HaveSlots};
 ghost use Rattle.tcp_connections.specs.Heaviest.{IsHeaviest};
 ghost use Rattle.tcp_connections.specs.Owned.{AreOwned};
 ghost use Rattle.tcp_connections.specs.State.{IsState, HasState};
@@ -38,9 +38,9 @@ pub fn capture_event_is_told<L: Listener + Drop>()
 pub fn nothing_else_forgets()
     ensures { (reader : Reader) (ports : List ℕ) (blocks most : ℕ) (segments : List Segment)
         (s : Segment) (p : EndpointPair) → 1 ≤ most → most ≤ 65536
-        → is_some (place_of p (after reader (none_known ports blocks most []) segments).known)
+        → is_some (index_of p (after reader (none_known ports blocks most []) segments).known)
         ≡ true
-        → place_of p (after reader (none_known ports blocks most []) (segments ++ s ∷ [])).known
+        → index_of p (after reader (none_known ports blocks most []) (segments ++ s ∷ [])).known
         ≡ None
         → IsForgottenBy reader (after reader (none_known ports blocks most []) segments) s p }
 {}
@@ -80,9 +80,9 @@ pub fn no_stream_has_a_gap()
         (segments : List Segment) → 1 ≤ most → most ≤ 65536
         → AreOwned segments
         (ended reader (after reader (none_known ports blocks most []) segments)).events }
-    // Each event in a flow is in one of a connection that has a room.
-    ensures rooms { (reader : Reader) (ports : List ℕ) (blocks most : ℕ) (segments : List Segment)
+    // Each event in a flow is in one of a connection that has a slot.
+    ensures slots { (reader : Reader) (ports : List ℕ) (blocks most : ℕ) (segments : List Segment)
         → 1 ≤ most → most ≤ 65536
-        → HaveRooms most
+        → HaveSlots most
         (ended reader (after reader (none_known ports blocks most []) segments)).events }
 {}

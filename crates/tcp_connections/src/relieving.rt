@@ -4,7 +4,7 @@
 ghost use Rattle.std.specs.Prelude.{◌≡◌, get_or, OnErr, None};
 
 use crate::connections::Connections;
-use tcp_flow::{Listener, ListenerFault};
+use tcp_flow::{Listener, ListenerError};
 use tcp_streams::Streams;
 
 impl Connections {
@@ -18,7 +18,7 @@ impl Connections {
     pub(crate) fn relieve<L: Listener + Drop>(
         &mut self,
         to: &mut Streams<L>,
-    ) -> Result<(), ListenerFault>
+    ) -> Result<(), ListenerError>
         requires state { HasStateOver 256 (L.observed to.old.listener) to.old.live.items self.old }
         ensures does { MakesOver 256 0 result (λ w. within_pool L.reader w)
             (L.observed to.old.listener) to.old.live.items self.old

@@ -14,36 +14,36 @@ pub struct KeptSyn {
     pub(crate) number: u32,
 }
 
-/// The SYN that the connection of each room keeps.
+/// The SYN that the connection of each slot keeps.
 #[derive(Drop)]
 pub struct KeptSyns {
     kept: Vec<Option<KeptSyn>>,
 }
 
 impl KeptSyns {
-    /// Rooms without SYNs. No other call allocates.
-    pub fn new(alloc: Global, rooms: usize) -> Result<KeptSyns, AllocError>
-        ensures { IfOk result (λ s. s.kept.items ≡ replicate rooms None) }
+    /// Slots without SYNs. No other call allocates.
+    pub fn new(alloc: Global, slots: usize) -> Result<KeptSyns, AllocError>
+        ensures { IfOk result (λ s. s.kept.items ≡ replicate slots None) }
     {
-        let kept = vec![in alloc; None; rooms]?;
+        let kept = vec![in alloc; None; slots]?;
         Ok(KeptSyns { kept })
     }
 
-    /// Sets the SYN that a room keeps, or none, in place of an older one.
-    pub fn set(&mut self, room: u32, syn: Option<KeptSyn>)
-        ensures { self.new.kept.items ≡ set self.old.kept.items room syn }
+    /// Sets the SYN that a slot keeps, or none, in place of an older one.
+    pub fn set(&mut self, slot: u32, syn: Option<KeptSyn>)
+        ensures { self.new.kept.items ≡ set self.old.kept.items slot syn }
     {
-        if (room as usize) < self.kept.len() {
-            self.kept[room as usize] = syn;
+        if (slot as usize) < self.kept.len() {
+            self.kept[slot as usize] = syn;
         }
     }
 
-    /// The SYN that a room keeps.
-    pub fn at(&self, room: u32) -> Option<KeptSyn>
-        ensures { result ≡ get_or self.now.kept.items room None }
+    /// The SYN that a slot keeps.
+    pub fn at(&self, slot: u32) -> Option<KeptSyn>
+        ensures { result ≡ get_or self.now.kept.items slot None }
     {
-        if (room as usize) < self.kept.len() {
-            return self.kept[room as usize];
+        if (slot as usize) < self.kept.len() {
+            return self.kept[slot as usize];
         }
         None
     }

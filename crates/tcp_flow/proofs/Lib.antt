@@ -3,6 +3,7 @@ pub mod Closings
 pub mod Content
 pub mod ContentRuns
 pub mod Direct
+mod Early
 pub mod Firsts
 pub mod Order
 pub mod Others

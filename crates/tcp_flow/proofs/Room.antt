@@ -22,7 +22,7 @@ same : {X : Type 0} (get : Flow → X) (b : Bool) (f g : Flow) (x : X) → get f
 same get true f g x e d = e
 same get false f g x e d = d
 
--- taking a payload keeps the id and what is held
+-- the id and what is held are the same in both
 pub record Stays (f g : Flow) : Type 0 where
   pub held : g.held ≡ f.held
   pub id : g.id ≡ f.id
@@ -62,6 +62,7 @@ stays_from : (f : Flow) (p : Payload) (g : Flow) → Stays (told_from f p) g →
 unfolding told_from with_event
 stays_from f p g s = record { held = s.held; id = s.id }
 
+-- taking a payload changes neither the flow's id nor what is held
 pub taken_stays : (F : Reader) (f : Flow) (p : Payload) → Stays f (taken F f p)
 unfolding taken told_from with_event
 taken_stays F f p =

@@ -77,7 +77,7 @@ is_header xs =
     && nat_eq (get_or xs 2 0) 79 && nat_eq (get_or xs 3 0) 80
     && nat_eq (get_or xs 4 0) 1 && nat_le (get_or xs 5 0) 2
 
--- the place of the first header
+-- the index of the first header
 unfoldable pub header_at : List ℕ → Option ℕ
 header_at [] = None
 header_at (x ∷ xs) = cond (is_header (x ∷ xs)) (Some 0) (option_map suc (header_at xs))

@@ -2,7 +2,7 @@
 
 ghost use Rattle.std.specs.Prelude.{◌≡◌, ◌≤◌, ◌∷◌, ◌++◌, ◌+◌, [], List, IfOk, OnOk, OnErr, length};
 
-use crate::flow::{FlowState, Listener, ListenerFault};
+use crate::flow::{FlowState, Listener, ListenerError};
 use tcp_waiting::{Arrival, Pool, age, is_to_come};
 
 impl FlowState {
@@ -23,7 +23,7 @@ impl FlowState {
         arrival: Arrival,
         pool: &mut Pool,
         to: &mut T,
-    ) -> Result<FlowState, ListenerFault>
+    ) -> Result<FlowState, ListenerError>
         requires whole { length octets.now ≤ 262_144 }
         requires room { blocks_of pool.old.held ≤ pool.old.blocks }
         requires none { is_some (first id number pool.old.held) ≡ false }
@@ -59,7 +59,7 @@ impl FlowState {
         arrival: Arrival,
         pool: &mut Pool,
         to: &mut T,
-    ) -> Result<(), ListenerFault>
+    ) -> Result<(), ListenerError>
         requires whole { length octets.now ≤ 262_144 }
         requires room { blocks_of pool.old.held ≤ pool.old.blocks }
         requires settled { IsSettled (state self.old pool.old.held []) }
@@ -94,7 +94,7 @@ impl FlowState {
         number: u32,
         pool: &mut Pool,
         to: &mut T,
-    ) -> Result<(), ListenerFault>
+    ) -> Result<(), ListenerError>
         ensures does { (f : Flow) → IsState (T.observed to.old) self.old pool.old.held f
             → OnOk result (IsState (T.observed to.new) self.new pool.new.held
             (step T.reader f (End number))) }
@@ -128,7 +128,7 @@ impl FlowState {
         arrival: Arrival,
         pool: &mut Pool,
         to: &mut T,
-    ) -> Result<(), ListenerFault>
+    ) -> Result<(), ListenerError>
         requires whole { length octets.now ≤ 262_144 }
         requires room { blocks_of pool.old.held ≤ pool.old.blocks }
         requires settled { IsSettled (state self.old pool.old.held []) }
@@ -185,7 +185,7 @@ impl FlowState {
         number: u32,
         pool: &mut Pool,
         to: &mut T,
-    ) -> Result<(), ListenerFault>
+    ) -> Result<(), ListenerError>
         ensures does { (f : Flow) → IsState (T.observed to.old) self.old pool.old.held f
             → OnOk result (IsState (T.observed to.new) self.new pool.new.held
             (fin_came T.reader f number)) }

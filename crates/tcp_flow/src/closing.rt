@@ -2,7 +2,7 @@
 
 ghost use Rattle.std.specs.Prelude.{◌≡◌, List, OnOk, OnErr, is_some};
 
-use crate::flow::{CloseCause, FlowState, Listener, ListenerFault};
+use crate::flow::{CloseCause, FlowState, Listener, ListenerError};
 use tcp_waiting::{Pool, is_to_come};
 
 impl FlowState {
@@ -14,7 +14,7 @@ impl FlowState {
     ghost use Rattle.tcp_flow.specs.State.{state, IsState};
 
     /// Closes the live stream, if there is one. The flow is no longer in step.
-    pub fn close<T: Listener>(&mut self, cause: CloseCause, to: &mut T) -> Result<(), ListenerFault>
+    pub fn close<T: Listener>(&mut self, cause: CloseCause, to: &mut T) -> Result<(), ListenerError>
         ensures does { (held : List Payload) (f : Flow)
             → IsState (T.observed to.old) self.old held f → OnOk result
             (IsState (T.observed to.new) self.new held (closed f cause)) }
@@ -29,7 +29,7 @@ impl FlowState {
         self.waits = false;
         if is_live {
             self.since = self.next;
-            to.closes(self.id, cause)?;
+            to.on_close(self.id, cause)?;
         }
         Ok(())
     }
@@ -39,7 +39,7 @@ impl FlowState {
         &mut self,
         pool: &mut Pool,
         to: &mut T,
-    ) -> Result<(), ListenerFault>
+    ) -> Result<(), ListenerError>
         ensures does { (f : Flow) → IsState (T.observed to.old) self.old pool.old.held f
             → OnOk result (IsState (T.observed to.new) self.new pool.new.held
             (gone_on T.reader f)) }
@@ -56,7 +56,7 @@ impl FlowState {
         &mut self,
         pool: &mut Pool,
         to: &mut T,
-    ) -> Result<(), ListenerFault>
+    ) -> Result<(), ListenerError>
         ensures does { (f : Flow) → IsState (T.observed to.old) self.old pool.old.held f
             → OnOk result (IsState (T.observed to.new) self.new pool.new.held
             (spec_without_stale_fin (ended T.reader f))) }
@@ -65,13 +65,13 @@ impl FlowState {
         ensures cause { OnErr result (T.failed to.new) }
     {
         self.end(pool, to)?;
-        self.without_stale_fin();
+        self.drop_stale_fin();
         Ok(())
     }
 
     /// If the FIN is reached, closes the stream or no longer waits for it, and takes the held
     /// payloads that are due.
-    fn end<T: Listener>(&mut self, pool: &mut Pool, to: &mut T) -> Result<(), ListenerFault>
+    fn end<T: Listener>(&mut self, pool: &mut Pool, to: &mut T) -> Result<(), ListenerError>
         ensures does { (f : Flow) → IsState (T.observed to.old) self.old pool.old.held f
             → OnOk result (IsState (T.observed to.new) self.new pool.new.held (ended T.reader f)) }
         ensures id { self.new.id ≡ self.old.id }
@@ -97,7 +97,7 @@ impl FlowState {
     }
 
     /// Forgets the FIN if the flow isn't in step.
-    fn without_stale_fin(&mut self)
+    fn drop_stale_fin(&mut self)
         ensures does { (held : List Payload) (events : List Event) → state self.new held events
             ≡ spec_without_stale_fin (state self.old held events) }
         ensures id { self.new.id ≡ self.old.id }

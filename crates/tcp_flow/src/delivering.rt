@@ -2,7 +2,7 @@
 
 ghost use Rattle.std.specs.Prelude.{◌≡◌, ◌≤◌, [], List, OnOk, OnErr, is_some, length, true};
 
-use crate::flow::{CloseCause, FlowState, Listener, ListenerFault, Start};
+use crate::flow::{CloseCause, FlowState, Listener, ListenerError, Start};
 use crate::looking::{is_beginning, stream_at};
 use crate::tail::{FIRST_FIVE, Tail};
 use tcp_waiting::{Arrival, Pool, WINDOW, age, ahead, is_to_come, onward};
@@ -38,7 +38,7 @@ impl FlowState {
         number: u32,
         octets: &[u8],
         to: &mut T,
-    ) -> Result<(), ListenerFault>
+    ) -> Result<(), ListenerError>
         ensures id { self.new.id ≡ self.old.id }
         ensures does { (held : List Payload) (f : Flow) (arrival : Arrival)
             → IsState (T.observed to.old) self.old held f → OnOk result
@@ -47,11 +47,11 @@ impl FlowState {
         ensures cause { OnErr result (T.failed to.new) }
     {
         self.next = onward(number, octets.len());
-        if let Some(at) = to.delivers(self.id, octets)? {
+        if let Some(at) = to.on_octets(self.id, octets)? {
             self.since = self.number_after(at);
             self.live = None;
             self.waits = false;
-            to.closes(self.id, CloseCause::Fault)?;
+            to.on_close(self.id, CloseCause::Fault)?;
         }
         Ok(())
     }
@@ -76,7 +76,7 @@ impl FlowState {
     }
 
     /// Begins a stream at a number. This number is then due.
-    fn start<T: Listener>(&mut self, number: u32, to: &mut T) -> Result<(), ListenerFault>
+    fn start<T: Listener>(&mut self, number: u32, to: &mut T) -> Result<(), ListenerError>
         ensures id { self.new.id ≡ self.old.id }
         ensures does { (held : List Payload) (f : Flow)
             → IsState (T.observed to.old) self.old held f → OnOk result
@@ -84,7 +84,7 @@ impl FlowState {
         ensures cause { OnErr result (T.failed to.new) }
     {
         let start = self.start_at(number);
-        to.begins(self.id, start)?;
+        to.on_begin(self.id, start)?;
         self.next = number;
         self.live = Some(number);
         self.waits = false;
@@ -95,7 +95,7 @@ impl FlowState {
     }
 
     /// Begins the stream that the flow waits for, if it waits for one, at the number that is due.
-    fn resume<T: Listener>(&mut self, to: &mut T) -> Result<(), ListenerFault>
+    fn resume<T: Listener>(&mut self, to: &mut T) -> Result<(), ListenerError>
         ensures id { self.new.id ≡ self.old.id }
         ensures does { (held : List Payload) (f : Flow)
             → IsState (T.observed to.old) self.old held f → OnOk result
@@ -114,7 +114,7 @@ impl FlowState {
         octets: &[u8],
         parts: &[u8],
         to: &mut T,
-    ) -> Result<(), ListenerFault>
+    ) -> Result<(), ListenerError>
         ensures id { self.new.id ≡ self.old.id }
         ensures does { (held : List Payload) (f : Flow) (arrival : Arrival)
             → IsState (T.observed to.old) self.old held f → OnOk result
@@ -149,7 +149,7 @@ impl FlowState {
         octets: &[u8],
         tail: Tail,
         to: &mut T,
-    ) -> Result<(), ListenerFault>
+    ) -> Result<(), ListenerError>
         requires { goes_on tail number octets.now ≡ true }
         ensures id { self.new.id ≡ self.old.id }
         ensures does { (held : List Payload) (f : Flow) (arrival : Arrival)
@@ -160,7 +160,7 @@ impl FlowState {
     {
         let count = tail.octets as usize + octets.len();
         if count < 6 {
-            to.passes(&FIRST_FIVE[..count]);
+            to.on_pass(&FIRST_FIVE[..count]);
             self.tail = Some(tail.lengthened(octets.len() as u8));
             return Ok(());
         }
@@ -179,7 +179,7 @@ impl FlowState {
         number: u32,
         octets: &[u8],
         to: &mut T,
-    ) -> Result<(), ListenerFault>
+    ) -> Result<(), ListenerError>
         ensures id { self.new.id ≡ self.old.id }
         ensures does { (held : List Payload) (f : Flow) (arrival : Arrival)
             → IsState (T.observed to.old) self.old held f → OnOk result
@@ -196,7 +196,7 @@ impl FlowState {
             self.start(number, to)?;
             return self.deliver(number, &octets[at..], to);
         }
-        to.passes(octets);
+        to.on_pass(octets);
         if is_beginning(octets) {
             self.tail = Some(Tail::new(number, octets.len() as u8));
         }
@@ -212,7 +212,7 @@ impl FlowState {
         octets: &[u8],
         arrival: Arrival,
         to: &mut T,
-    ) -> Result<(), ListenerFault>
+    ) -> Result<(), ListenerError>
         ensures id { self.new.id ≡ self.old.id }
         ensures does { (held : List Payload) (f : Flow)
             → IsState (T.observed to.old) self.old held f → OnOk result
@@ -224,7 +224,7 @@ impl FlowState {
         if octets.is_empty() {
             return Ok(());
         }
-        to.comes_from(arrival);
+        to.on_arrival(arrival);
         if self.is_in_step() {
             self.resume(to)?;
             return self.deliver(number, octets, to);
@@ -237,7 +237,7 @@ impl FlowState {
         &mut self,
         pool: &mut Pool,
         to: &mut T,
-    ) -> Result<(), ListenerFault>
+    ) -> Result<(), ListenerError>
         ensures does { (f : Flow) → IsState (T.observed to.old) self.old pool.old.held f
             → OnOk result (IsState (T.observed to.new) self.new pool.new.held
             (drained T.reader f)) }

@@ -44,7 +44,7 @@ pub struct Start {
 
 /// A listener couldn't go on, as what it writes to failed. Nothing is promised of what comes after.
 #[derive(Clone, Copy, Debug, Drop, PartialEq, Eq)]
-pub struct ListenerFault;
+pub struct ListenerError;
 
 /// Is told what happens in flows. A flow is named by its id.
 pub trait Listener {
@@ -66,30 +66,30 @@ pub trait Listener {
 
     /// The id stands for the flow between these endpoints from now on. Nothing has come for that
     /// flow.
-    fn opens(&mut self, flow: u32, endpoints: Endpoints) -> Result<(), ListenerFault>
+    fn on_open(&mut self, flow: u32, endpoints: Endpoints) -> Result<(), ListenerError>
         ensures does { (events : List Event) → observed self.old events
             → OnOk result (observed self.new (events ++ Opens flow endpoints ∷ [])) }
         ensures cause { OnErr result (failed self.new) };
 
     /// What is told next of any flow came in this packet.
-    fn comes_from(&mut self, arrival: Arrival)
+    fn on_arrival(&mut self, arrival: Arrival)
         ensures { (events : List Event) → observed self.old events
             → observed self.new (events ++ OfCapture (ComesFrom arrival) ∷ []) };
 
     /// These octets were looked through, and no stream begins in them.
-    fn passes(&mut self, octets: &[u8])
+    fn on_pass(&mut self, octets: &[u8])
         ensures { (events : List Event) → observed self.old events
             → observed self.new (events ++ OfCapture (Passes octets.now) ∷ []) };
 
     /// A stream of a flow begins.
-    fn begins(&mut self, flow: u32, start: Start) -> Result<(), ListenerFault>
+    fn on_begin(&mut self, flow: u32, start: Start) -> Result<(), ListenerError>
         ensures does { (events : List Event) → observed self.old events
             → OnOk result (observed self.new (events ++ Begins flow start ∷ [])) }
         ensures cause { OnErr result (failed self.new) };
 
     /// The next octets of a flow's live stream. If the stream's reader is at a fault, the answer is
     /// at which octet of the stream, counted from 1.
-    fn delivers(&mut self, flow: u32, octets: &[u8]) -> Result<Option<u64>, ListenerFault>
+    fn on_octets(&mut self, flow: u32, octets: &[u8]) -> Result<Option<u64>, ListenerError>
         ensures does { (events : List Event) → observed self.old events → IfOk result (λ fault.
             observed self.new (events ++ Delivers flow octets.now ∷ [])
             × (fault ≡ reader.faulted (events ++ Delivers flow octets.now ∷ []))) }
@@ -97,13 +97,13 @@ pub trait Listener {
 
     /// How many octets the message lacks that a flow's last stream is in, if its header is
     /// complete; 0 if the stream is in no message.
-    fn lacks(&mut self, flow: u32) -> Result<Option<u32>, ListenerFault>
+    fn lacks(&mut self, flow: u32) -> Result<Option<u32>, ListenerError>
         ensures does { (events : List Event) → observed self.old events → IfOk result (λ count.
             observed self.new events × (count ≡ reader.lacking events flow)) }
         ensures cause { OnErr result (failed self.new) };
 
     /// A flow's live stream closes.
-    fn closes(&mut self, flow: u32, cause: CloseCause) -> Result<(), ListenerFault>
+    fn on_close(&mut self, flow: u32, cause: CloseCause) -> Result<(), ListenerError>
         ensures does { (events : List Event) → observed self.old events
             → OnOk result (observed self.new (events ++ Closes flow cause ∷ [])) }
         ensures cause { OnErr result (failed self.new) };
@@ -211,7 +211,7 @@ fn is_header(octets: &[u8]) -> bool
         && octets[5] <= 2
 }
 
-/// The place of the first GIOP header: `GIOP` 01 and 00, 01 or 02.
+/// The index of the first GIOP header: `GIOP` 01 and 00, 01 or 02.
 pub(crate) fn header_at(octets: &[u8]) -> Option<usize>
     ensures at { result ≡ spec_header_at octets.now }
     ensures within { IfSome result (λ i. i < length octets.now) }

@@ -4,7 +4,7 @@
 ghost use Rattle.std.specs.Prelude.{◌≡◌, ◌<◌, ◌≤◌, [], List, IfOk, OnOk, OnErr, is_some, length, true};
 ghost use Rattle.tcp_flow.specs.Flow.{passing as spec_passing};
 
-use crate::flow::{CloseCause, FlowState, Listener, ListenerFault};
+use crate::flow::{CloseCause, FlowState, Listener, ListenerError};
 use tcp_waiting::{Pool, is_to_come, onward};
 
 /// How many octets a gap passes over: all that the message lacks, if they are fewer than 2^31 and
@@ -32,7 +32,7 @@ impl FlowState {
     /// Closes the live stream for a gap and goes on. If it is known how the message ends that the
     /// stream is in, the flow goes on after it. If the flow held payloads, it holds fewer
     /// afterwards.
-    pub fn gap<T: Listener>(&mut self, pool: &mut Pool, to: &mut T) -> Result<(), ListenerFault>
+    pub fn gap<T: Listener>(&mut self, pool: &mut Pool, to: &mut T) -> Result<(), ListenerError>
         ensures does { (f : Flow) → IsState (T.observed to.old) self.old pool.old.held f
             → OnOk result (IsState (T.observed to.new) self.new pool.new.held
             (spec_gap T.reader f)) }
@@ -66,7 +66,7 @@ impl FlowState {
         &self,
         pool: &Pool,
         to: &mut T,
-    ) -> Result<Option<u32>, ListenerFault>
+    ) -> Result<Option<u32>, ListenerError>
         ensures does { (f : Flow) → IsState (T.observed to.old) self.now pool.now.held f
             → IfOk result (λ passed. IsState (T.observed to.new) self.now pool.now.held f
             × (passed ≡ spec_passed_over T.reader f)) }
@@ -84,7 +84,7 @@ impl FlowState {
 
     /// Closes the live stream. The flow then waits for the next one `passed` octets on, or it is no
     /// longer in step.
-    fn part<T: Listener>(&mut self, passed: Option<u32>, to: &mut T) -> Result<(), ListenerFault>
+    fn part<T: Listener>(&mut self, passed: Option<u32>, to: &mut T) -> Result<(), ListenerError>
         ensures does { (held : List Payload) (f : Flow)
             → IsState (T.observed to.old) self.old held f → OnOk result
             (IsState (T.observed to.new) self.new held (parted f passed)) }
@@ -106,7 +106,7 @@ impl FlowState {
         count: usize,
         pool: &mut Pool,
         to: &mut T,
-    ) -> Result<(), ListenerFault>
+    ) -> Result<(), ListenerError>
         ensures does { (f : Flow) → IsState (T.observed to.old) self.old pool.old.held f
             → OnOk result (IsState (T.observed to.new) self.new pool.new.held
             (within_window T.reader count f)) }

@@ -1,10 +1,11 @@
 //! What a packet of a flow's connection says of octets that are missing in the flow: that they were
 //! received, or that they are too late.
 
-ghost use Rattle.std.specs.Prelude.{◌≡◌, ◌≤◌, [], List, OnOk, OnErr, length};
+ghost use Rattle.std.specs.Prelude.{◌≡◌, ◌≤◌, [], List, OnOk, OnErr, length, true, false};
 ghost use Rattle.tcp_flow.specs.Flow.{acknowledges, gives_up, waited};
+ghost use Rattle.std.specs.List.{AllByRecursion};
 
-use crate::flow::{FlowState, Listener, ListenerFault};
+use crate::flow::{FlowState, Listener, ListenerError};
 use tcp_waiting::{Arrival, Pool, is_to_come};
 
 /// A second, in nanoseconds.
@@ -42,6 +43,21 @@ impl Heard {
         }
     }
 
+    /// Whether it is known that the packet gives up nothing: it acknowledges no octets after the
+    /// number that is due, and all that waits came less than 30 seconds before it.
+    fn comes_early(&self, next: u32, pool: &Pool) -> bool
+        ensures { result ≡ true → AllByRecursion
+            (λ p. gives_up self.now next p.arrival ≡ false) pool.now.held }
+    {
+        if self.acknowledges(next) {
+            return false;
+        }
+        match self.arrival.time {
+            Some(time) => pool.are_younger(30 * SECOND, time),
+            None => true,
+        }
+    }
+
     /// Whether the octets are given up that are missing before a payload that came in packet
     /// `since`. If they are acknowledged, they were received: they are given up when the other side
     /// sends octets, or after a second. All others are given up after 30 seconds. If a time isn't
@@ -71,7 +87,7 @@ impl FlowState {
         packet: Heard,
         pool: &mut Pool,
         to: &mut T,
-    ) -> Result<(), ListenerFault>
+    ) -> Result<(), ListenerError>
         ensures does { (f : Flow) → IsState (T.observed to.old) self.old pool.old.held f
             → OnOk result (IsState (T.observed to.new) self.new pool.new.held
             (step T.reader f (Hears packet))) }
@@ -105,7 +121,7 @@ impl FlowState {
         packet: Heard,
         pool: &mut Pool,
         to: &mut T,
-    ) -> Result<(), ListenerFault>
+    ) -> Result<(), ListenerError>
         ensures does { (f : Flow) → IsState (T.observed to.old) self.old pool.old.held f
             → OnOk result (IsState (T.observed to.new) self.new pool.new.held
             (heard T.reader (length pool.old.held) packet f)) }
@@ -125,10 +141,13 @@ impl FlowState {
     }
 
     /// Whether what is missing before the first payload that the flow holds is given up.
-    fn is_lost(&self, packet: Heard, pool: &Pool) -> bool
+    pub fn is_lost(&self, packet: Heard, pool: &Pool) -> bool
         ensures { (events : List Event) → result
             ≡ spec_is_lost packet (state self.now pool.now.held events) }
     {
+        if packet.comes_early(self.next, pool) {
+            return false;
+        }
         match pool.first(self.id, self.next) {
             Some(first) => packet.gives_up(self.next, pool.arrival(first)),
             None => false,

@@ -12,7 +12,7 @@ mod laws;
 mod looking;
 mod tail;
 
-pub use flow::{CloseCause, FlowState, Listener, ListenerFault, Start};
+pub use flow::{CloseCause, FlowState, Listener, ListenerError, Start};
 pub use hearing::Heard;
 pub use laws::order_makes_no_difference;
 pub use looking::{is_beginning, stream_at};

@@ -81,7 +81,7 @@ pub(crate) fn is_front_of_both(before: &[u8], octets: &[u8]) -> bool
         && octet_of_both(before, octets, 5, 0) <= 2
 }
 
-/// The octet at a place in `octets` after `before`, or `other` if both end before it.
+/// The octet at an index in `octets` after `before`, or `other` if both end before it.
 fn octet_of_both(before: &[u8], octets: &[u8], place: usize, other: u8) -> u8
     ensures { result ≡ get_or (before.now ++ octets.now) place other }
 {
@@ -92,7 +92,7 @@ fn octet_of_both(before: &[u8], octets: &[u8], place: usize, other: u8) -> u8
     }
 }
 
-/// The octet at a place, or `other` if the octets end before it.
+/// The octet at an index, or `other` if the octets end before it.
 fn octet_or(octets: &[u8], place: usize, other: u8) -> u8
     ensures { result ≡ get_or octets.now place other }
 {

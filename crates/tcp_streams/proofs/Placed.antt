@@ -53,9 +53,9 @@ at_ids P (x ∷ xs) zero l some h =
 at_ids P (x ∷ xs) (suc i) l some h =
     at_ids P xs i (omega (arith, l)) some (rest_case P x (ids_of xs) (is_id x) h)
 
--- ---- The place of an id.
+-- ---- The index of an id.
 
--- if the ids differ, an id that is found at a place stands at that place
+-- if the ids differ, an id that is found at an index stands at that index
 pub place_at : (n : ℕ) (xs : List ℕ) (i : ℕ) → i < length xs → n < most_ids →
     IsDistinct eqb (ids_of xs) → get_or xs i 0 ≡ n → place_of n xs ≡ Some i
 unfolding place_of
@@ -98,7 +98,7 @@ place_none n (x ∷ xs) l =
     ne_eqb x n (λ e. omega (arith, e, less, l))) in
     rw (other, place_none n xs l) refl
 
--- the place of an id is the first index of its number
+-- the index of an id is the first index of its number
 pub place_index : (n : ℕ) (xs : List ℕ) → n < most_ids → place_of n xs ≡ index_of n xs
 unfolding place_of index_of
 place_index n [] l = refl
@@ -240,7 +240,7 @@ count_all xs front l whole =
     ap (λ (ys : List ℕ). length (ids_of ys)) (sym (take-length xs))
     ∙ count_to xs front (length xs) l (omega arith) whole
 
--- the place of an id that went counts no id
+-- the index of an id that went counts no id
 pub count_gone : (xs : List ℕ) (i : ℕ) → i < length xs →
     length (ids_of (take (i + 1) (set xs i most_ids))) ≡ length (ids_of (take i xs))
 count_gone xs i l =
@@ -390,13 +390,13 @@ ids_push xs n l = filter-append is_id xs (n ∷ [])
 pub pushed : (n s : ℕ) (xs stamps : List ℕ) (front count : ℕ) → IsQueue xs stamps front count →
     n < most_ids → AllByRecursion (λ x. eqb n x ≡ false) (ids_of xs) → length xs < 262144 → 0 < s →
     IsQueue (xs ++ n ∷ []) (set stamps n s) front count
-pushed n s xs stamps front count h l apart room some =
+pushed n s xs stamps front count h l apart slot some =
     let many = length-append xs (n ∷ []) in
     let is = ids_push xs n l in
     let same = ap (λ (ys : List ℕ). length (ids_of ys))
     (take-append-le front xs (n ∷ []) h.within) in
     record {
-      few = omega (arith, many, room);
+      few = omega (arith, many, slot);
       distinct = subst (IsDistinct eqb) (sym is) (distinct_push (ids_of xs) n h.distinct apart);
       stamped = subst (AreStamped (set stamps n s)) (sym is)
           (stamped_push stamps n s (ids_of xs) some apart h.stamped);
@@ -439,36 +439,36 @@ packed xs stamps few d h =
       whole = λ k l m. only_at (ids_of xs) k (all_ids xs) m;
     }
 
--- ---- Which stream of a room is the first.
+-- ---- Which stream of a slot is the first.
 
-elder_by : (room x : ℕ) (xs : List ℕ) (b : Bool) → is_id x ≡ b →
-    elder_side room (ids_of xs) ≡ first_side (place_of (flow_id room FromLesser) xs)
-    (place_of (flow_id room FromGreater) xs) →
-    elder_side room (cond b (x ∷ ids_of xs) (ids_of xs)) ≡ first_side
-    (cond (b && nat_eq x (flow_id room FromLesser)) (Some 0)
-    (option_map suc (place_of (flow_id room FromLesser) xs)))
-    (cond (b && nat_eq x (flow_id room FromGreater)) (Some 0)
-    (option_map suc (place_of (flow_id room FromGreater) xs)))
+elder_by : (slot x : ℕ) (xs : List ℕ) (b : Bool) → is_id x ≡ b →
+    elder_side slot (ids_of xs) ≡ first_side (place_of (flow_id slot FromLesser) xs)
+    (place_of (flow_id slot FromGreater) xs) →
+    elder_side slot (cond b (x ∷ ids_of xs) (ids_of xs)) ≡ first_side
+    (cond (b && nat_eq x (flow_id slot FromLesser)) (Some 0)
+    (option_map suc (place_of (flow_id slot FromLesser) xs)))
+    (cond (b && nat_eq x (flow_id slot FromGreater)) (Some 0)
+    (option_map suc (place_of (flow_id slot FromGreater) xs)))
 unfolding elder_side
-elder_by room x xs true e h =
-    ap (λ (s : Side). cond (nat_eq x (flow_id room FromLesser)) FromLesser
-    (cond (nat_eq x (flow_id room FromGreater)) FromGreater s)) h
-    ∙ sym (elder_case (place_of (flow_id room FromLesser) xs)
-    (place_of (flow_id room FromGreater) xs) (nat_eq x (flow_id room FromLesser))
-    (nat_eq x (flow_id room FromGreater))
-    (λ e. ne_eqb x (flow_id room FromGreater) (λ o. absurd (
-    let own = eqb-true x (flow_id room FromLesser) e in omega (arith, own, o)
+elder_by slot x xs true e h =
+    ap (λ (s : Side). cond (nat_eq x (flow_id slot FromLesser)) FromLesser
+    (cond (nat_eq x (flow_id slot FromGreater)) FromGreater s)) h
+    ∙ sym (elder_case (place_of (flow_id slot FromLesser) xs)
+    (place_of (flow_id slot FromGreater) xs) (nat_eq x (flow_id slot FromLesser))
+    (nat_eq x (flow_id slot FromGreater))
+    (λ e. ne_eqb x (flow_id slot FromGreater) (λ o. absurd (
+    let own = eqb-true x (flow_id slot FromLesser) e in omega (arith, own, o)
     ))))
-elder_by room x xs false e h =
-    h ∙ sym (elder_case (place_of (flow_id room FromLesser) xs)
-    (place_of (flow_id room FromGreater) xs) false false (λ e. refl))
+elder_by slot x xs false e h =
+    h ∙ sym (elder_case (place_of (flow_id slot FromLesser) xs)
+    (place_of (flow_id slot FromGreater) xs) false false (λ e. refl))
 
-elder_among : (room : ℕ) (xs : List ℕ) → elder_side room (ids_of xs)
-    ≡ first_side (place_of (flow_id room FromLesser) xs) (place_of (flow_id room FromGreater) xs)
+elder_among : (slot : ℕ) (xs : List ℕ) → elder_side slot (ids_of xs)
+    ≡ first_side (place_of (flow_id slot FromLesser) xs) (place_of (flow_id slot FromGreater) xs)
 unfolding elder_side place_of first_side
-elder_among room [] = refl
-elder_among room (x ∷ xs) = elder_by room x xs (is_id x) refl (elder_among room xs)
+elder_among slot [] = refl
+elder_among slot (x ∷ xs) = elder_by slot x xs (is_id x) refl (elder_among slot xs)
 
-pub elder_is : (room : ℕ) (xs : List ℕ) (l g : Option ℕ) → place_of (flow_id room FromLesser) xs ≡ l
-    → place_of (flow_id room FromGreater) xs ≡ g → elder_side room (ids_of xs) ≡ first_side l g
-elder_is room xs l g d e = elder_among room xs ∙ rw (d, e) refl
+pub elder_is : (slot : ℕ) (xs : List ℕ) (l g : Option ℕ) → place_of (flow_id slot FromLesser) xs ≡ l
+    → place_of (flow_id slot FromGreater) xs ≡ g → elder_side slot (ids_of xs) ≡ first_side l g
+elder_is slot xs l g d e = elder_among slot xs ∙ rw (d, e) refl

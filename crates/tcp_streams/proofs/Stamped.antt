@@ -10,7 +10,7 @@ use Rattle.tcp_streams.specs.Lives.{without}
 use Rattle.tcp_streams.specs.Stamped.{AreStamped, first_side}
 use Rattle.tcp_streams.proofs.Ids.{all_without, none_left, push_all}
 
--- ---- The place of a flow.
+-- ---- The index of a flow.
 
 pub not_own : (stamps : List ℕ) (n x : ℕ) → get_or stamps n 1 ≡ 0 → 0 < get_or stamps x 1 →
     nat_eq x n ≡ false
@@ -56,7 +56,7 @@ pub stamped_push : (stamps : List ℕ) (n s : ℕ) (xs : List ℕ) → 0 < s →
 stamped_push stamps n s xs l d h = push_all (λ x. 0 < get_or (set stamps n s) x 1) xs n
     (stamped_others stamps n s xs d h) (own_stamp stamps n s l)
 
--- ---- Which stream of a room is the first, from the places of the two.
+-- ---- Which stream of a slot is the first, from the places of the two.
 
 lesser_first : (g : Option ℕ) → first_side (Some 0) (option_map suc g) ≡ FromLesser
 unfolding first_side

@@ -63,10 +63,10 @@ lives_from live (e ∷ es) = lives_from (behind live e) es
 abbrev pub lives : List Event → List ℕ
 lives events = lives_from [] events
 
--- the side of the first of these flows that belongs to this room; the side of the lesser endpoint
+-- the side of the first of these flows that belongs to this slot; the side of the lesser endpoint
 -- if none does
 unfoldable pub elder_side : ℕ → List ℕ → Side
-elder_side room [] = FromLesser
-elder_side room (id ∷ ids) =
-    cond (nat_eq id (flow_id room FromLesser)) FromLesser
-    (cond (nat_eq id (flow_id room FromGreater)) FromGreater (elder_side room ids))
+elder_side slot [] = FromLesser
+elder_side slot (id ∷ ids) =
+    cond (nat_eq id (flow_id slot FromLesser)) FromLesser
+    (cond (nat_eq id (flow_id slot FromGreater)) FromGreater (elder_side slot ids))

@@ -37,10 +37,10 @@ abbrev pub opposite : Side → Side
 opposite FromLesser = FromGreater
 opposite FromGreater = FromLesser
 
--- the id of a flow, from the room of its connection and the side that sends
+-- the id of a flow, from the slot of its connection and the side that sends
 abbrev pub flow_id : ℕ → Side → ℕ
-flow_id room FromLesser = 2 * room
-flow_id room FromGreater = 2 * room + 1
+flow_id slot FromLesser = 2 * slot
+flow_id slot FromGreater = 2 * slot + 1
 
 -- the flow between two endpoints, if this side sends
 abbrev pub flow_from : EndpointPair → Side → Flow

@@ -8,7 +8,7 @@ use Rattle.tcp_streams.specs.declared.pair.Side.TheVariants.{FromLesser, FromGre
 abbrev pub AreStamped : List ℕ → List ℕ → Type 0
 AreStamped stamps live = AllByRecursion (λ id. 0 < get_or stamps id 1) live
 
--- which of the two flows of a room stands first, from the places of both; the side of the lesser
+-- which of the two flows of a slot stands first, from the places of both; the side of the lesser
 -- endpoint if neither has a place
 unfoldable pub first_side : Option ℕ → Option ℕ → Side
 first_side None None = FromLesser

@@ -25,7 +25,7 @@ pub(crate) struct Front {
     pub(crate) count: usize,
 }
 
-/// Which of the two flows of a room stands first, from the places of both. It is the side of the
+/// Which of the two flows of a slot stands first, from the places of both. It is the side of the
 /// lesser endpoint if neither has a place.
 #[tactic(auto, unfolding(crate::specs::Stamped::first_side))]
 pub(crate) fn first_side(lesser: Option<usize>, greater: Option<usize>) -> Side
@@ -174,7 +174,7 @@ pub(crate) fn pack(ids: &mut Vec<u32>, stamps: &mut Stamps, front: &mut Front)
     front.count = 0;
 }
 
-/// Notes the place of each id as its stamp.
+/// Notes one more than the index of each id as its stamp.
 fn stamp(ids: &Vec<u32>, stamps: &mut Stamps)
     requires few { length ids.now.items ≤ 262144 }
     requires stamped { AreStamped stamps.old.flows.items ids.now.items }

@@ -84,13 +84,13 @@ impl Queue {
         last_id(&mut self.ids, &mut self.front)
     }
 
-    /// Which of the two flows of a room stands first.
-    pub(crate) fn elder_side(&self, room: u32) -> Side
-        requires { room < 2 ^ 31 }
-        ensures { result ≡ elder_side room self.now.items }
+    /// Which of the two flows of a slot stands first.
+    pub(crate) fn elder_side(&self, slot: u32) -> Side
+        requires { slot < 2 ^ 31 }
+        ensures { result ≡ elder_side slot self.now.items }
     {
-        let lesser = flow_id(room, Side::FromLesser);
-        let greater = flow_id(room, Side::FromGreater);
+        let lesser = flow_id(slot, Side::FromLesser);
+        let greater = flow_id(slot, Side::FromGreater);
         first_side(
             place_of(&self.ids, &self.stamps, &self.front, lesser),
             place_of(&self.ids, &self.stamps, &self.front, greater),

@@ -29,15 +29,15 @@ pub fn pair_of(flow: Flow) -> (EndpointPair, Side)
     }
 }
 
-/// The id of a flow: twice the room of its connection, and 1 more if the greater endpoint sends.
-pub fn flow_id(room: u32, side: Side) -> u32
-    requires { room < 2 ^ 31 }
-    ensures id { result ≡ spec_flow_id room side }
-    ensures bound { result ≤ 2 * room + 1 }
+/// The id of a flow: twice the slot of its connection, and 1 more if the greater endpoint sends.
+pub fn flow_id(slot: u32, side: Side) -> u32
+    requires { slot < 2 ^ 31 }
+    ensures id { result ≡ spec_flow_id slot side }
+    ensures bound { result ≤ 2 * slot + 1 }
 {
     match side {
-        Side::FromLesser => 2 * room,
-        Side::FromGreater => 2 * room + 1,
+        Side::FromLesser => 2 * slot,
+        Side::FromGreater => 2 * slot + 1,
     }
 }
 

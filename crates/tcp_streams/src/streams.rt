@@ -8,7 +8,7 @@ ghost use Rattle.tcp_streams.specs.Lives.{lives, ended, elder_side};
 use crate::pair::Side;
 use crate::queue::Queue;
 use std::alloc::{AllocError, Global};
-use tcp_flow::{CloseCause, Listener, ListenerFault, Start};
+use tcp_flow::{CloseCause, Listener, ListenerError, Start};
 use tcp_segment::Flow;
 use tcp_waiting::Arrival;
 
@@ -23,7 +23,7 @@ pub struct Streams<L: Listener + Drop> {
 
 impl<L: Listener + Drop> Streams<L> {
     /// No stream lives at first. There is memory for one stream of each flow; no other call
-    /// allocates. A flow of the first `connections` rooms is found at once, and any other by a
+    /// allocates. A flow of the first `connections` slots is found at once, and any other by a
     /// walk.
     pub fn new(alloc: Global, connections: u32, listener: L) -> Result<Streams<L>, AllocError>
         ensures is { IfOk result (λ s. s.listener ≡ listener) }
@@ -54,12 +54,12 @@ impl<L: Listener + Drop> Streams<L> {
         self.live.last()
     }
 
-    /// The side of the stream of a room that began first.
-    pub fn elder_side(&self, room: u32) -> Side
-        requires { room < 2 ^ 31 }
-        ensures { result ≡ elder_side room self.now.live.items }
+    /// The side of the stream of a slot that began first.
+    pub fn elder_side(&self, slot: u32) -> Side
+        requires { slot < 2 ^ 31 }
+        ensures { result ≡ elder_side slot self.now.live.items }
     {
-        self.live.elder_side(room)
+        self.live.elder_side(slot)
     }
 
     /// How many streams live, or were closed by a gap or by the end of the capture.
@@ -103,33 +103,33 @@ impl<L: Listener + Drop> Listener for Streams<L> {
 
     ghost reader = { L.reader };
 
-    fn opens(&mut self, flow: u32, endpoints: Flow) -> Result<(), ListenerFault> {
-        self.listener.opens(flow, endpoints)
+    fn on_open(&mut self, flow: u32, endpoints: Flow) -> Result<(), ListenerError> {
+        self.listener.on_open(flow, endpoints)
     }
 
-    fn comes_from(&mut self, arrival: Arrival) {
-        self.listener.comes_from(arrival);
+    fn on_arrival(&mut self, arrival: Arrival) {
+        self.listener.on_arrival(arrival);
     }
 
-    fn passes(&mut self, octets: &[u8]) {
-        self.listener.passes(octets);
+    fn on_pass(&mut self, octets: &[u8]) {
+        self.listener.on_pass(octets);
     }
 
-    fn begins(&mut self, flow: u32, start: Start) -> Result<(), ListenerFault> {
+    fn on_begin(&mut self, flow: u32, start: Start) -> Result<(), ListenerError> {
         self.live.begin(flow);
-        self.listener.begins(flow, start)
+        self.listener.on_begin(flow, start)
     }
 
-    fn delivers(&mut self, flow: u32, octets: &[u8]) -> Result<Option<u64>, ListenerFault> {
-        self.listener.delivers(flow, octets)
+    fn on_octets(&mut self, flow: u32, octets: &[u8]) -> Result<Option<u64>, ListenerError> {
+        self.listener.on_octets(flow, octets)
     }
 
-    fn lacks(&mut self, flow: u32) -> Result<Option<u32>, ListenerFault> {
+    fn lacks(&mut self, flow: u32) -> Result<Option<u32>, ListenerError> {
         self.listener.lacks(flow)
     }
 
-    fn closes(&mut self, flow: u32, cause: CloseCause) -> Result<(), ListenerFault> {
+    fn on_close(&mut self, flow: u32, cause: CloseCause) -> Result<(), ListenerError> {
         end(&mut self.live, flow, cause);
-        self.listener.closes(flow, cause)
+        self.listener.on_close(flow, cause)
     }
 }

@@ -2,7 +2,7 @@
 
 ghost use Rattle.std.specs.Prelude.{None};
 
-use tcp_flow::{CloseCause, Listener, ListenerFault, Start};
+use tcp_flow::{CloseCause, Listener, ListenerError, Start};
 use tcp_segment::Flow;
 use tcp_waiting::Arrival;
 
@@ -18,27 +18,27 @@ impl Listener for Silent {
 
     ghost reader = { record { faulted = λ events. None; lacking = λ events id. None } };
 
-    fn opens(&mut self, _flow: u32, _endpoints: Flow) -> Result<(), ListenerFault> {
+    fn on_open(&mut self, _flow: u32, _endpoints: Flow) -> Result<(), ListenerError> {
         Ok(())
     }
 
-    fn comes_from(&mut self, _arrival: Arrival) {}
+    fn on_arrival(&mut self, _arrival: Arrival) {}
 
-    fn passes(&mut self, _octets: &[u8]) {}
+    fn on_pass(&mut self, _octets: &[u8]) {}
 
-    fn begins(&mut self, _flow: u32, _start: Start) -> Result<(), ListenerFault> {
+    fn on_begin(&mut self, _flow: u32, _start: Start) -> Result<(), ListenerError> {
         Ok(())
     }
 
-    fn delivers(&mut self, _flow: u32, _octets: &[u8]) -> Result<Option<u64>, ListenerFault> {
+    fn on_octets(&mut self, _flow: u32, _octets: &[u8]) -> Result<Option<u64>, ListenerError> {
         Ok(None)
     }
 
-    fn lacks(&mut self, _flow: u32) -> Result<Option<u32>, ListenerFault> {
+    fn lacks(&mut self, _flow: u32) -> Result<Option<u32>, ListenerError> {
         Ok(None)
     }
 
-    fn closes(&mut self, _flow: u32, _cause: CloseCause) -> Result<(), ListenerFault> {
+    fn on_close(&mut self, _flow: u32, _cause: CloseCause) -> Result<(), ListenerError> {
         Ok(())
     }
 }

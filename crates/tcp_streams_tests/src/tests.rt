@@ -44,10 +44,10 @@ fn a_pair_is_the_same_whoever_sends(rt: HostRuntime) {
 }
 
 #[test]
-fn the_flows_of_a_room_have_ids_side_by_side(rt: HostRuntime) {
-    for (room, lesser, greater) in [(0, 0, 1), (7, 14, 15), (65_535, 131_070, 131_071)] {
-        assert_eq!(rt; flow_id(room, Side::FromLesser), lesser, "room {room}");
-        assert_eq!(rt; flow_id(room, Side::FromGreater), greater, "room {room}");
+fn the_flows_of_a_slot_have_ids_side_by_side(rt: HostRuntime) {
+    for (slot, lesser, greater) in [(0, 0, 1), (7, 14, 15), (65_535, 131_070, 131_071)] {
+        assert_eq!(rt; flow_id(slot, Side::FromLesser), lesser, "room {slot}");
+        assert_eq!(rt; flow_id(slot, Side::FromGreater), greater, "room {slot}");
     }
 }
 
@@ -64,15 +64,15 @@ fn streams_stand_in_the_order_of_their_beginnings(rt: HostRuntime) {
             is_found: false,
         };
         for flow in [5, 0, 2] {
-            assert!(rt; streams.begins(flow, start).is_ok(), "flow {flow}");
+            assert!(rt; streams.on_begin(flow, start).is_ok(), "flow {flow}");
         }
-        assert!(rt; streams.closes(0, CloseCause::Fin).is_ok());
-        assert!(rt; streams.begins(0, start).is_ok());
-        assert!(rt; streams.delivers(0, b"GIOP").is_ok());
+        assert!(rt; streams.on_close(0, CloseCause::Fin).is_ok());
+        assert!(rt; streams.on_begin(0, start).is_ok());
+        assert!(rt; streams.on_octets(0, b"GIOP").is_ok());
         // The flow of a stream that a gap closes keeps its place.
-        assert!(rt; streams.closes(5, CloseCause::Gap).is_ok());
+        assert!(rt; streams.on_close(5, CloseCause::Gap).is_ok());
         assert_eq!(rt; streams.lacks(5), Ok(None));
-        streams.passes(b"MUCH");
+        streams.on_pass(b"MUCH");
         for packed in [false, true] {
             if packed {
                 streams.pack();
@@ -87,7 +87,7 @@ fn streams_stand_in_the_order_of_their_beginnings(rt: HostRuntime) {
         assert_eq!(rt; streams.elder_side(1), Side::FromLesser);
         // Those that stand last go, one by one.
         for (flow, last) in [(2, Some(0)), (0, Some(5)), (5, None)] {
-            assert!(rt; streams.closes(flow, CloseCause::Fin).is_ok());
+            assert!(rt; streams.on_close(flow, CloseCause::Fin).is_ok());
             assert_eq!(rt; streams.last(), last, "flow {flow}");
         }
         assert_eq!(rt; streams.len(), 0);
@@ -105,7 +105,7 @@ fn streams_begin_as_often_as_they_may(rt: HostRuntime) {
         is_found: false,
     };
     for turn in 0..300_000u32 {
-        assert!(rt; streams.begins(turn % 3, start).is_ok(), "turn {turn}");
+        assert!(rt; streams.on_begin(turn % 3, start).is_ok(), "turn {turn}");
     }
     assert_eq!(rt; streams.len(), 3);
     for (rank, flow) in [(0, Some(0)), (1, Some(1)), (2, Some(2)), (3, None)] {

@@ -1,11 +1,11 @@
 -- Searches through all payloads, from the first to the last.
-use Rattle.std.proofs.Common.{◌≡◌, ℕ, zero, suc, ◌+◌, ◌/◌, ◌<◌, ◌≤◌, false, cond, nat_eq, ◌&&◌, ◌||◌, List, [], ◌∷◌, length, drop, get_or, refl, ap, sym, subst, ◌∙◌, arith, add-one}
+use Rattle.std.proofs.Common.{◌≡◌, ℕ, zero, suc, ◌+◌, ◌-◌, ◌/◌, ◌<◌, ◌≤◌, false, cond, nat_eq, ◌&&◌, ◌||◌, List, [], ◌∷◌, length, drop, get_or, refl, ap, sym, subst, ◌∙◌, arith, add-one}
 use Rattle.std.specs.List.{insert, remove}
 use Rattle.std.proofs.Math.Seq.{drop-cons}
 use Rattle.std.proofs.Math.ListN.{drop_of_length-le}
 use Rattle.tcp_waiting.specs.declared.pool.Waiting.{Waiting}
-use Rattle.tcp_waiting.specs.Payload.{Payload, blocks_of, load_of, is_far, ends_far, key, key_of}
-use Rattle.tcp_waiting.specs.Layout.{octets_at, payload_in, held_in, AreWithin}
+use Rattle.tcp_waiting.specs.Payload.{Payload, blocks_of, load_of, is_far, ends_far, key, key_of, AreYounger}
+use Rattle.tcp_waiting.specs.Layout.{octets_at, payload_in, held_in, AreWithin, AreSince}
 use Rattle.tcp_waiting.proofs.Held.{length_held, get_held, remove_held, all_at, length_octets}
 
 -- the payload at an index, and those after it
@@ -54,6 +54,19 @@ pub far_end : (all : List ℕ) (ws : List Waiting) (k id next : ℕ) → length 
 unfolding is_far
 far_end all ws k id next h =
     rw (nothing_left all ws k h) refl
+
+-- what came at a time or later also came at any time before that or later
+pub since_before : (since before : ℕ) (ps : List Payload) → before ≤ since → AreSince since ps →
+    AreSince before ps
+since_before since before [] l h = tt
+since_before since before (p ∷ ps) l h =
+    (λ came e. omega (arith, l, h.0 came e), since_before since before ps l h.1)
+
+pub young : (since age time : ℕ) (ps : List Payload) → time - since < age → AreSince since ps →
+    AreYounger age time ps
+young since age time [] l h = tt
+young since age time (p ∷ ps) l h =
+    (λ came e. omega (arith, l, h.0 came e), young since age time ps l h.1)
 
 -- the blocks after one more payload waits
 pub blocks_insert : (ps : List Payload) (i : ℕ) (p : Payload) →

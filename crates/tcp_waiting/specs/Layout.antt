@@ -76,6 +76,10 @@ abbrev pub AreNears : List (Option Near) → List Payload → Type 0
 AreNears nears held = (flow : ℕ) (n : Near) → get_or nears flow None ≡ Some n →
     is_far_but flow n.base n.number n.count held ≡ false
 
+-- no payload came before this time, as far as it is known when
+abbrev pub AreSince : ℕ → List Payload → Type 0
+AreSince since ps = AllByRecursion (λ p. (came : ℕ) → p.arrival.time ≡ Some came → since ≤ came) ps
+
 pub record IsSound (a : Inside) : Type 0 where
   pub within : AreWithin (length a.octets.items) a.waiting.items
   pub roomy : IsRoomy a
@@ -84,6 +88,7 @@ pub record IsSound (a : Inside) : Type 0 where
   pub used : a.used ≡ blocks_of (held_in a.octets.items a.waiting.items)
   pub loads : AreLoads a.loads.items (held_in a.octets.items a.waiting.items)
   pub nears : AreNears a.nears.items (held_in a.octets.items a.waiting.items)
+  pub since : AreSince a.since (held_in a.octets.items a.waiting.items)
 
 -- the octets of the payloads one after another, without holes
 unfoldable pub packed : List ℕ → List Waiting → List ℕ

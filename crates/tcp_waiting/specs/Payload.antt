@@ -1,7 +1,7 @@
 -- Payloads that wait: which of a flow is first, how many blocks they take, and how far they reach
 -- (meaning).
-use Rattle.std.specs.Prelude.{ℕ, suc, ◌+◌, ◌*◌, ◌^◌, ◌/◌, Bool, false, cond, nat_lt, nat_le, nat_eq, ◌&&◌, ◌||◌, List, [], ◌∷◌, length, drop, Option, Some, None, get_or}
-use Rattle.std.specs.List.{insert}
+use Rattle.std.specs.Prelude.{◌≡◌, ℕ, suc, ◌+◌, ◌-◌, ◌*◌, ◌^◌, ◌/◌, ◌<◌, Bool, false, cond, nat_lt, nat_le, nat_eq, ◌&&◌, ◌||◌, List, [], ◌∷◌, length, drop, Option, Some, None, get_or}
+use Rattle.std.specs.List.{AllByRecursion, insert}
 use Rattle.std.specs.Option.{option_map}
 use Rattle.tcp_waiting.specs.declared.arrival.Arrival.{Arrival}
 use Rattle.tcp_waiting.specs.Numbers.{ahead, onward, rank}
@@ -92,3 +92,8 @@ has_as_much id number count [] = false
 has_as_much id number count (p ∷ ps) =
     (nat_eq p.flow id && nat_eq p.number number && nat_le count (length p.octets))
     || has_as_much id number count ps
+
+-- each payload came less than `age` nanoseconds before a time, as far as it is known when
+abbrev pub AreYounger : ℕ → ℕ → List Payload → Type 0
+AreYounger age time ps =
+    AllByRecursion (λ p. (came : ℕ) → p.arrival.time ≡ Some came → time - came < age) ps

@@ -1,4 +1,4 @@
-//! The payloads that wait, in order. When one comes or goes, only the rooms of few others are moved,
+//! The payloads that wait, in order. When one comes or goes, only the slots of few others are moved,
 //! which have four octets each.
 
 ghost use Rattle.std.specs.Prelude.{◌≡◌, ◌≤◌, ◌<◌, ◌^◌, [], length, get_or, set, IfOk};
@@ -8,14 +8,14 @@ use crate::pool::Waiting;
 use slab::Slab;
 use std::alloc::{AllocError, Global};
 use std::marker::Model;
-use tcp_rooms::Order;
+use tcp_slots::Order;
 
 /// The payloads that wait, in order. All memory is allocated when it is made.
 #[derive(Drop)]
 pub(crate) struct Places {
     /// How many payloads may wait.
     room: usize,
-    /// The room in `slots` of the payload at each place.
+    /// The slot in `slots` of the payload at each place.
     order: Order,
     slots: Slab<Waiting>,
 }
@@ -39,7 +39,7 @@ impl Places {
     {
         let order = Order::new(alloc, room)?;
         let slots = Slab::with_capacity(alloc, room)?;
-        // A slab promises no bound, and a room has to have 32 bits.
+        // A slab promises no bound, and a slot has to have 32 bits.
         if slots.capacity() > u32::MAX as usize {
             return Err(AllocError);
         }

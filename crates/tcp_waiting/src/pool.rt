@@ -3,7 +3,7 @@
 ghost use Rattle.std.specs.Prelude.{◌≡◌, ℕ, true, false, cond, ◌≤◌, ◌<◌, ◌+◌, ◌*◌, ◌/◌, ◌^◌, [], length, IfOk, IfSome, None, get_or, set, nat_eq, nat_lt};
 ghost use Rattle.std.specs.List.{remove};
 ghost use Rattle.std.specs.Vec.{vec_capacity};
-ghost use Rattle.tcp_waiting.specs.Payload.{payload, no_payload, count_of, load_of, first, blocks_of, has_as_much, is_far, put, place_of, key as spec_key, ends_far as spec_ends_far};
+ghost use Rattle.tcp_waiting.specs.Payload.{payload, no_payload, count_of, load_of, first, blocks_of, has_as_much, is_far, put, place_of, AreYounger, key as spec_key, ends_far as spec_ends_far};
 ghost use Rattle.tcp_waiting.specs.Layout.{AreWithin, counts, held_in, stands_at, is_far_but};
 
 use crate::arrival::Arrival;
@@ -50,6 +50,8 @@ pub struct Pool {
     nears: Vec<Option<Near>>,
     blocks: usize,
     used: usize,
+    /// No payload came before this time, as far as it is known when.
+    since: u128,
     /// Where the searches ended that were made last: for a payload, for the oldest number of a
     /// flow, and for its least number.
     last: Cell<usize>,
@@ -92,6 +94,7 @@ impl Pool {
             nears,
             blocks,
             used: 0,
+            since: u128::MAX,
             last: Cell::new(0),
             oldest: Cell::new(0),
             least: Cell::new(0),
@@ -336,6 +339,14 @@ impl Pool {
         false
     }
 
+    /// Whether it is known that each payload came less than `age` nanoseconds before a time, or at a
+    /// time that isn't known.
+    pub fn are_younger(&self, age: u128, time: u128) -> bool
+        ensures { result ≡ true → AreYounger age time self.now.held }
+    {
+        time.saturating_sub(self.since) < age
+    }
+
     /// How many blocks the payloads take.
     pub fn blocks_in_use(&self) -> usize
         ensures { result ≡ blocks_of self.now.held }
@@ -383,6 +394,7 @@ impl Pool {
         let from = self.octets.len();
         self.used += blocks_for(count);
         load_more(&mut self.loads, flow, blocks_for(count));
+        self.since = earlier(self.since, arrival.time);
         // Neither call fails: the pool has had room for the most octets and payloads since it was
         // made.
         let _copied = self.octets.extend_from_slice(octets);
@@ -409,6 +421,7 @@ impl Pool {
         self.used -= blocks_for(removed.count);
         load_less(&mut self.loads, removed.flow, blocks_for(removed.count));
         self.waiting.remove(index);
+        self.since = since_when(self.waiting.len(), self.since);
     }
 }
 
@@ -432,6 +445,24 @@ fn blocks_for(count: usize) -> usize
     ensures { result ≡ (count + 1023) / 1024 }
 {
     (count + 1023) / 1024
+}
+
+/// The lesser of two times, if the second is known.
+fn earlier(since: u128, time: Option<u128>) -> u128
+    ensures since { result ≤ since }
+    ensures time { IfSome time (λ came. result ≤ came) }
+{
+    match time {
+        Some(time) => since.min(time),
+        None => since,
+    }
+}
+
+/// The time before which no payload came, if this many wait.
+fn since_when(count: usize, since: u128) -> u128
+    ensures { 0 < count → result ≡ since }
+{
+    if count == 0 { u128::MAX } else { since }
 }
 
 /// Counts blocks that a flow takes, if its blocks are counted.

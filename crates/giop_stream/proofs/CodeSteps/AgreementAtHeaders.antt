@@ -22,9 +22,9 @@ use Rattle.giop_message.specs.ReaderOfTable.{message_reader}
 use Rattle.giop_message.specs.HeaderEnds.{HeaderEnd, CallEvent, Header_end, Exception_end, noted_in, marks, header_noted, header_ends, call_event, after_event, after_ends, AgreesAtEnds}
 use Rattle.giop_message.proofs.MessageLaws.{is_causal, is_ending, header_noted_before, header_ended, answers_first, answers_then}
 use Rattle.giop_stream.specs.Rules.{Rules, rules_by}
-use Rattle.giop_stream.specs.Framing.{Message, Cut, limit, cut, messages, fault_of}
+use Rattle.giop_stream.specs.Framing.{CutMessage, Cut, limit, cut, messages, fault_of}
 use Rattle.giop_stream.specs.Events.{EventKind, MessageKey, Event, Open, message_key, place, opener_of, goes_past, events_of_octet, events_from, events, open_after, joined, Now}
-use Rattle.giop_stream.specs.Lines.{Line, is_last_of, stop_line, lines}
+use Rattle.giop_stream.specs.Lines.{StreamLine, is_last_of, stop_line, lines}
 use Rattle.giop_stream.specs.Stream.{text, tally, final, closing}
 use Rattle.giop_stream.specs.OpenSlots.{OctetsByNumber, slots_of, octets_of, Tracked, tracked_after}
 use Rattle.giop_stream.specs.Effects.{Effect, lines_for, kept_with, kept_after, lines_at, tracked_at, effects, with_octet}
@@ -100,7 +100,8 @@ record Was (o : Option (List ℕ)) (xs' more : List ℕ) : Type 0 where
   known : o ≡ Some xs
   is : xs' ≡ xs ++ more
 
-kept_was : (known : OctetsByNumber) (es : List Event) (ls : List Line) (i : ℕ) (xs' : List ℕ) →
+kept_was : (known : OctetsByNumber) (es : List Event) (ls : List StreamLine) (i : ℕ) (xs' : List
+    ℕ) →
     kept_after (kept_with known es) ls i ≡ Some xs' → Was (known i) xs' (joined i es)
 unfolding kept_after kept_with
 kept_was known es ls i xs' e = go (list_any (is_last_of i) ls) (known i) e
@@ -135,7 +136,7 @@ given : ℕ → ℕ → Option MessageKey → List ℕ
 given i x None = []
 given i x (Some w) = if w.number == i then x ∷ [] else []
 
-owner_gives : (i : ℕ) (still_open : List Open) (m : Message) (x : ℕ) →
+owner_gives : (i : ℕ) (still_open : List Open) (m : CutMessage) (x : ℕ) →
     more_of i still_open m x ≡ given i x (owner_of_octet still_open m)
 unfolding more_of owner_of_octet continued given
 owner_gives i still_open m x = go (goes_past m) (opener_of still_open m)
@@ -262,7 +263,7 @@ module _ (C : Table) (a b : Answers) (most : ℕ) where
   known_same p c i e = ap (λ (t : Tracked). t.known i) e
 
   -- the next octet is one of no message
-  idle : (p : List ℕ) (x : ℕ) (c : Cut) (ls : List Line) → Alike p →
+  idle : (p : List ℕ) (x : ℕ) (c : Cut) (ls : List StreamLine) → Alike p →
       Adds A p (p ++ x ∷ []) c ls (tracked_after A p) →
       Adds B p (p ++ x ∷ []) c ls (tracked_after B p) → messages c ≡ messages (cut p) →
       Alike (p ++ x ∷ [])
@@ -271,7 +272,7 @@ module _ (C : Table) (a b : Answers) (most : ℕ) where
       let still : events most (p ++ x ∷ []) ≡ events most p =
       ap (events_from most []) (ap messages f.cut_is ∙ same) in
       record {
-        lines_same = f.lines ∙ (ap (λ (z : List Line). z ++ ls) h.lines_same ∙ sym g.lines);
+        lines_same = f.lines ∙ (ap (λ (z : List StreamLine). z ++ ls) h.lines_same ∙ sym g.lines);
         tracked_same = f.tracked_after ∙ (h.tracked_same ∙ sym g.tracked_after);
         kept_alike = subst (Each (λ e. KeptAlike (p ++ x ∷ []) e.subject)) (sym still)
             (each_weaker (λ e. KeptAlike p e.subject)
@@ -331,9 +332,9 @@ module _ (C : Table) (a b : Answers) (most : ℕ) where
   unfolding place
   one_message p x now h k = go h.from k.from
     where
-      Origin : Message → Type 0
+      Origin : CutMessage → Type 0
       Origin m = (((cut p).current ≡ None) × (m.payload ≡ []))
-          ⊎ ((was : Message) × ((cut p).current ≡ Some was) × (m ≡ with_octet was x))
+          ⊎ ((was : CutMessage) × ((cut p).current ≡ Some was) × (m ≡ with_octet was x))
 
       number : h.m.number ≡ k.m.number
       number = h.number_is ∙ sym k.number_is
@@ -358,11 +359,11 @@ module _ (C : Table) (a b : Answers) (most : ℕ) where
       go (inr f) (inr g) =
           let both : Some f.0 ≡ Some g.0 = sym f.1 ∙ g.1 in
           let was : f.0 ≡ g.0 = cc in
-          f.2 ∙ (ap (λ (w : Message). with_octet w x) was ∙ sym g.2)
+          f.2 ∙ (ap (λ (w : CutMessage). with_octet w x) was ∙ sym g.2)
 
   -- ---- an octet of a payload
 
-  module _ (p : List ℕ) (x : ℕ) (was : Message) (free : (cut p).stop ≡ None)
+  module _ (p : List ℕ) (x : ℕ) (was : CutMessage) (free : (cut p).stop ≡ None)
       (current : (cut p).current ≡ Some was) (room : length p < limit)
       (ends : Each (AnswersAlike a b) (header_ends_at A p x)) where
     abbrev Es : List Event
@@ -424,7 +425,7 @@ module _ (C : Table) (a b : Answers) (most : ℕ) where
 
   -- an octet of a message: if the events before the octet have this, so have the events of the
   -- octet
-  of_events : (p : List ℕ) (m : Message) →
+  of_events : (p : List ℕ) (m : CutMessage) →
       (let es = events_of_octet most (open_after most p) m in
       Each (λ e. NowAlike p es e.subject) (events most p) → NowAlike p es (message_key m) →
       Each (λ e. NowAlike p es e.subject) es)
@@ -439,7 +440,7 @@ module _ (C : Table) (a b : Answers) (most : ℕ) where
       (opened_each (NowAlike p es) [] (events most p) tt old))
 
   -- the last octet of a message's header
-  begun_alike : (p : List ℕ) (m : Message) → Alike p → m.payload ≡ [] →
+  begun_alike : (p : List ℕ) (m : CutMessage) → Alike p → m.payload ≡ [] →
       octets_of A p m.number ≡ Some [] →
       (let es = events_of_octet most (open_after most p) m in
       Each (λ e. NowAlike p es e.subject) (events most p)
@@ -459,7 +460,7 @@ module _ (C : Table) (a b : Answers) (most : ℕ) where
       )
 
   -- an octet of the message's payload
-  paid_old : (p : List ℕ) (x : ℕ) (was : Message) → Alike p → (cut p).stop ≡ None →
+  paid_old : (p : List ℕ) (x : ℕ) (was : CutMessage) → Alike p → (cut p).stop ≡ None →
       (cut p).current ≡ Some was → length p < limit →
       Each (AnswersAlike a b) (header_ends_at A p x) →
       (let es = events_of_octet most (open_after most p) (with_octet was x) in
@@ -473,7 +474,7 @@ module _ (C : Table) (a b : Answers) (most : ℕ) where
       (option_to_list (cut p).current)
       (each_own (NowAlike p es) most [] (messages (cut p)) old) in (
         old,
-        (subst (λ (o : Option Message). Each (λ m. NowAlike p es (message_key m))
+        (subst (λ (o : Option CutMessage). Each (λ m. NowAlike p es (message_key m))
             (option_to_list o)) current own.1).0,
       )
     where
@@ -502,7 +503,7 @@ module _ (C : Table) (a b : Answers) (most : ℕ) where
       by old own =
           let same : g.m ≡ f.m = sym (one_message p x now f g) in
           dealt p x _ _ es h f.grows f.adds
-          (subst (λ (m : Message). Adds B p (p ++ x ∷ []) (end_message (cut p).whole m)
+          (subst (λ (m : CutMessage). Adds B p (p ++ x ∷ []) (end_message (cut p).whole m)
           (effects (message_reader C b) (tracked_after B p)
           (events_of_octet most (open_after most p) m)).lines
           (effects (message_reader C b) (tracked_after B p)
@@ -510,7 +511,7 @@ module _ (C : Table) (a b : Answers) (most : ℕ) where
           old (of_events p f.m old own)
 
       go : (((cut p).current ≡ None) × (f.m.payload ≡ []))
-          ⊎ ((was : Message) × ((cut p).current ≡ Some was) × (f.m ≡ with_octet was x)) →
+          ⊎ ((was : CutMessage) × ((cut p).current ≡ Some was) × (f.m ≡ with_octet was x)) →
           Alike (p ++ x ∷ [])
       go (inl k) =
           let count : length (messages (cut p)) ≡ length (cut p).whole =
@@ -524,9 +525,9 @@ module _ (C : Table) (a b : Answers) (most : ℕ) where
       go (inr k) =
           let both = paid_old p x k.0 h free k.1 room ends in
           by
-          (subst (λ (m : Message). Each (λ e. NowAlike p
+          (subst (λ (m : CutMessage). Each (λ e. NowAlike p
           (events_of_octet most (open_after most p) m) e.subject) (events most p)) (sym k.2) both.0)
-          (subst (λ (m : Message). NowAlike p (events_of_octet most (open_after most p) m)
+          (subst (λ (m : CutMessage). NowAlike p (events_of_octet most (open_after most p) m)
           (message_key m)) (sym k.2) both.1)
 
   pub step : (p : List ℕ) (x : ℕ) → Alike p → Each (AnswersAlike a b) (header_ends_at A p x) →
@@ -624,7 +625,7 @@ module _ (C : Table) (a b : Answers) (most : ℕ) where
       p))
 
   -- the same headers end in the next octets by both answers
-  current_alike : (p octets : List ℕ) (current : Option Message) → Alike p →
+  current_alike : (p octets : List ℕ) (current : Option CutMessage) → Alike p →
       current_header_ends A p current octets ≡ current_header_ends B p current octets
   current_alike p octets None h = refl
   current_alike p octets (Some m) h =

@@ -13,7 +13,7 @@ use Rattle.giop_message.proofs.MessageLaws.{header_noted_before, one_octet, is_c
 use Rattle.giop_stream.specs.Rules.{Rules, rules_by}
 use Rattle.giop_stream.specs.EngineView.{EngineView}
 use Rattle.giop_stream.specs.EngineHolds.{HoldsBy}
-use Rattle.giop_stream.specs.Framing.{Message, limit, cut, messages}
+use Rattle.giop_stream.specs.Framing.{CutMessage, limit, cut, messages}
 use Rattle.giop_stream.specs.Events.{MessageKey, Event, Open, events_of_octet, events, open_after, joined}
 use Rattle.giop_stream.specs.OpenSlots.{octets_of, tracked_after}
 use Rattle.giop_stream.specs.Effects.{with_octet}
@@ -38,7 +38,7 @@ use Rattle.giop_stream.proofs.CodeSteps.AgreementAtHeaders.{alike, ends_at_alike
 use Rattle.giop_stream.proofs.CodeSteps.HeaderEndSteps.{at_free, at_none, at_stop, at_limit, from_append, from_one}
 
 -- if an octet has an owner, it is added to the octets of the owner
-pub owner_takes : (most : ℕ) (still_open : List Open) (m : Message) (x : ℕ) (w : MessageKey) →
+pub owner_takes : (most : ℕ) (still_open : List Open) (m : CutMessage) (x : ℕ) (w : MessageKey) →
     owner_of_octet still_open (with_octet m x) ≡ Some w
     → joined w.number (events_of_octet most still_open (with_octet m x)) ≡ x ∷ []
 unfolding owner_of_octet more_of continued
@@ -113,7 +113,7 @@ module _ (C : Table) (most : ℕ) where
   -- ---- the header that ends in the next octet
 
   record EndsHere (a : Answers) (p : List ℕ) (x : ℕ) : Type 0 where
-    m : Message
+    m : CutMessage
     w : MessageKey
     s : List ℕ
     n : Noted

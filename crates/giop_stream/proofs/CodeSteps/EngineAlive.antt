@@ -6,7 +6,7 @@ use Rattle.std.proofs.lemmas.List.{length_push, get_or_push}
 use Rattle.giop_message.specs.Headers.{size, has_name}
 use Rattle.giop_message.specs.MessageReader.{MessageReader, End, IsCausal, IsStreamable}
 use Rattle.giop_stream.specs.Rules.{Rules}
-use Rattle.giop_stream.specs.Framing.{Message, Cut, cut, messages}
+use Rattle.giop_stream.specs.Framing.{CutMessage, Cut, cut, messages}
 use Rattle.giop_stream.specs.Events.{Takes, Event, Rising, message_key, place, events_of_octet, events, open_after}
 use Rattle.giop_stream.specs.OpenSlots.{octets_of, Tracked, tracked_after}
 use Rattle.giop_stream.specs.Effects.{Effect, octets_then, effects, one_effect, starts, with_octet}
@@ -30,11 +30,11 @@ known_is R p i = refl
 module _ (R : Rules) (laws : IsStreamable R.reading) (p : List ℕ) (x : ℕ) (sound : IsSound R p)
     (alive : IsAlive R p) where
   -- what is kept of m after the octet
-  kept_now : (m : Message) → (cut p).stop ≡ None → length m.payload ≤ size m.header →
+  kept_now : (m : CutMessage) → (cut p).stop ≡ None → length m.payload ≤ size m.header →
       length m.payload < size m.header → m.number ≡ suc (length (cut p).whole) →
       has_name m.header ≡ true → length m.payload < 4
       → (((cut p).current ≡ None) × (m.payload ≡ []))
-      ⊎ ((was : Message) × ((cut p).current ≡ Some was) × (m ≡ with_octet was x)) →
+      ⊎ ((was : CutMessage) × ((cut p).current ≡ Some was) × (m ≡ with_octet was x)) →
       (effects R.reading (tracked_after R p)
       (events_of_octet R.most (open_after R.most p) m)).tracked.known m.number ≡ Some m.payload
   unfolding messages
@@ -57,7 +57,7 @@ module _ (R : Rules) (laws : IsStreamable R.reading) (p : List ℕ) (x : ℕ) (s
   kept_now m st fits lacks number name few (inr (was, cur, is)) =
       rw is (next was cur (rw is at name) (rw is at few) (rw is at lacks))
     where
-      next : (was : Message) → (cut p).current ≡ Some was → has_name was.header ≡ true →
+      next : (was : CutMessage) → (cut p).current ≡ Some was → has_name was.header ≡ true →
           length (was.payload ++ x ∷ []) < 4 → length (was.payload ++ x ∷ []) < size was.header →
           (effects R.reading (tracked_after R p)
           (events_of_octet R.most (open_after R.most p) (with_octet was x))).tracked.known
@@ -103,15 +103,15 @@ module _ (R : Rules) (laws : IsStreamable R.reading) (p : List ℕ) (x : ℕ) (s
       in
       let same = s.same in
       let name' : has_name one.m.header ≡ true =
-      ap (λ (n : Message). has_name n.header) (sym same) ∙ name in
+      ap (λ (n : CutMessage). has_name n.header) (sym same) ∙ name in
       let few' : length one.m.payload < 4 =
-      omega (arith, few, ap (λ (n : Message). length n.payload) same) in
+      omega (arith, few, ap (λ (n : CutMessage). length n.payload) same) in
       sym (known_is R (p ++ x ∷ []) m.number)
       ∙ (ap (λ (c : Tracked). c.known m.number) adds.tracked_after
-      ∙ (ap (λ (n : Message). (effects R.reading (tracked_after R p)
+      ∙ (ap (λ (n : CutMessage). (effects R.reading (tracked_after R p)
       (events_of_octet R.most (open_after R.most p) one.m)).tracked.known n.number) same
       ∙ (kept_now one.m h.0 one.fits s.lacks one.number_is name' few' one.from
-      ∙ ap (λ (n : Message). Some n.payload) (sym same))))
+      ∙ ap (λ (n : CutMessage). Some n.payload) (sym same))))
 
 -- ---- The invariants, for every stream.
 

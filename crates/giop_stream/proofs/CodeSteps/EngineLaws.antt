@@ -8,7 +8,7 @@ use Rattle.std.proofs.lemmas.List.Concat.{flat_map-append}
 use Rattle.giop_message.specs.MessageReader.{IsCausal, IsEnding, IsStreamable}
 use Rattle.giop_checkpoint.specs.declared.fault.StreamFault.{StreamFault}
 use Rattle.giop_stream.specs.Rules.{Rules}
-use Rattle.giop_stream.specs.Framing.{Message, Cut, cut, read_of, fault_of}
+use Rattle.giop_stream.specs.Framing.{CutMessage, Cut, cut, read_of, fault_of}
 use Rattle.giop_stream.specs.Lines.{lines}
 use Rattle.giop_stream.specs.Text.{lines_text}
 use Rattle.giop_stream.specs.Stream.{start_count, fault_count, is_inside, is_truncated, text, tally, final, closing}
@@ -78,7 +78,7 @@ stop_is R p = refl
 
 -- ---- The finish.
 
-cut_short : (stop : Option (ℕ × StreamFault)) (current : Option Message) (held : List ℕ)
+cut_short : (stop : Option (ℕ × StreamFault)) (current : Option CutMessage) (held : List ℕ)
     → (stop ≡ None → IfSome current (λ m. length m.header ≡ 12))
     → is_inside current held stop ≡ (is_none (fault_of stop)
     && nat_lt 0 (length (unless stop [] (header_of current held))))
@@ -87,7 +87,7 @@ cut_short (Some found) current held h = refl
 cut_short None (Some m) held h = search (arith, lt-ltb)
 cut_short None None held h = refl
 
-twelve_of : (n : ℕ) (c : Cut) (o : Option Message) → IfSome o (CurrentFits n c) →
+twelve_of : (n : ℕ) (c : Cut) (o : Option CutMessage) → IfSome o (CurrentFits n c) →
     IfSome o (λ m. length m.header ≡ 12)
 twelve_of n c None h = tt
 twelve_of n c (Some m) h = h.twelve

@@ -8,9 +8,9 @@ use Rattle.giop_stream.specs.Kinds.{has_place, named_at}
 use Rattle.giop_message.specs.MessageReader.{IsCausal, IsStreamable}
 use Rattle.giop_stream.specs.declared.status.Totals.{Totals}
 use Rattle.giop_stream.specs.Rules.{Rules}
-use Rattle.giop_stream.specs.Framing.{Message, cut, messages, read_of}
+use Rattle.giop_stream.specs.Framing.{CutMessage, cut, messages, read_of}
 use Rattle.giop_stream.specs.Events.{key, place, opener_of, has_named, events_of_octet, open_after, Now, now_of}
-use Rattle.giop_stream.specs.Lines.{Line, lines}
+use Rattle.giop_stream.specs.Lines.{StreamLine, lines}
 use Rattle.giop_stream.specs.Stream.{fault_count, tally}
 use Rattle.giop_stream.specs.OpenSlots.{tracked_after}
 use Rattle.giop_stream.specs.Effects.{Effect, effects}
@@ -31,7 +31,7 @@ use Rattle.giop_stream.proofs.CodeSteps.NextOctet.{shape, state_is, tally_by, oc
 
 -- ---- The state after an octet of a message.
 
-module _ (R : Rules) (p : List ℕ) (m : Message) (shows : Shows R p m) where
+module _ (R : Rules) (p : List ℕ) (m : CutMessage) (shows : Shows R p m) where
   s : State
   s = state_of R p
 
@@ -75,7 +75,7 @@ module _ (R : Rules) (p : List ℕ) (m : Message) (shows : Shows R p m) where
   unfolding owner_of_next has_named now
   owner_same less = search (arith, now, named_same)
 
-  stepped_is : (whole : List Message) (t : Totals)
+  stepped_is : (whole : List CutMessage) (t : Totals)
       → t ≡ record {
         messages = m.number;
         faults = s.totals.faults + fault_count effect.lines;
@@ -87,7 +87,7 @@ module _ (R : Rules) (p : List ℕ) (m : Message) (shows : Shows R p m) where
 
 -- ---- The step.
 
-read_settled : (p : List ℕ) (whole : List Message) (m : Message) →
+read_settled : (p : List ℕ) (whole : List CutMessage) (m : CutMessage) →
     read_of p (end_message whole m).stop ≡ length p
 unfolding read_of
 read_settled p whole m = rw (settle_stop whole m) refl
@@ -95,18 +95,18 @@ read_settled p whole m = rw (settle_stop whole m) refl
 totals : ℕ → ℕ → ℕ → Totals
 totals a b n = record { messages = a; faults = b; octets = n }
 
-counts_by : (R : Rules) (p : List ℕ) (m : Message) (ls : List Line)
+counts_by : (R : Rules) (p : List ℕ) (m : CutMessage) (ls : List StreamLine)
     → totals m.number (fault_count (lines R p) + fault_count ls) (place m) ≡ totals m.number
     ((state_of R p).totals.faults + fault_count ls) (place m)
 unfolding state_of tally
 counts_by R p m ls = refl
 
-counted : (whole : List Message) (m : Message) → m.number ≡ suc (length whole) →
+counted : (whole : List CutMessage) (m : CutMessage) → m.number ≡ suc (length whole) →
     length (messages (end_message whole m)) ≡ m.number
 counted whole m number = search (arith, settled_messages, length_push)
 
 -- the totals after the octet of m
-pub tally_settled : (R : Rules) (p : List ℕ) (x : ℕ) (m : Message) →
+pub tally_settled : (R : Rules) (p : List ℕ) (x : ℕ) (m : CutMessage) →
     m.number ≡ suc (length (cut p).whole)
     → (let effect = effects R.reading (tracked_after R p)
     (events_of_octet R.most (open_after R.most p) m) in Adds R p (p ++ x ∷ [])

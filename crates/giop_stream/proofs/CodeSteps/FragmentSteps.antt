@@ -20,10 +20,10 @@ use Rattle.giop_stream.specs.declared.current.Current.{Current}
 use Rattle.giop_stream.specs.declared.fragment.Continuation.{Continuation}
 use Rattle.giop_stream.specs.HeaderOctets.{wrong}
 use Rattle.giop_stream.specs.Rules.{Rules, rules_by}
-use Rattle.giop_stream.specs.Framing.{Message, with_payload, limit, cut, messages}
+use Rattle.giop_stream.specs.Framing.{CutMessage, with_payload, limit, cut, messages}
 use Rattle.giop_stream.specs.Kinds.{named_at, refused}
 use Rattle.giop_stream.specs.Events.{Takes, MessageKey, Open, changed, message_key, id, events_at_header, events_of_octet, open_after}
-use Rattle.giop_stream.specs.Lines.{Line, lines}
+use Rattle.giop_stream.specs.Lines.{StreamLine, lines}
 use Rattle.giop_stream.specs.Text.{lines_text}
 use Rattle.giop_stream.specs.Stream.{fault_count}
 use Rattle.giop_stream.specs.Effects.{Effect, effects, then_effect, starts, tracked_at, lines_of, with_octet, event, effect_to}
@@ -121,7 +121,7 @@ module _ (C : Table) (l : Answers) (w : MessageKey) (says : SaysId w.header) whe
       (omega (arith, few, length_push xs x)) apart in
       let ran = run_effect C l (suc at) one.tracked (Some w) q in
       record {
-        lines = ap (λ (ls : List Line). ls ++ ran.lines) silent ∙ more.lines;
+        lines = ap (λ (ls : List StreamLine). ls ++ ran.lines) silent ∙ more.lines;
         slots =
             more.slots ∙ slots;
       }
@@ -149,7 +149,7 @@ module _ (C : Table) (l : Answers) (most : ℕ) (p : List ℕ) (x : ℕ) (q : Li
   header = (cut p).held ++ x ∷ []
 
   -- the Fragment when it begins
-  abbrev pub first : Message
+  abbrev pub first : CutMessage
   first = beginner (cut p).whole (suc (length p)) header
 
   abbrev p₁ : List ℕ
@@ -214,7 +214,7 @@ module _ (C : Table) (l : Answers) (most : ℕ) (p : List ℕ) (x : ℕ) (q : Li
   abbrev pub c₄ : Tracked
   c₄ = tracked_after R p₄
 
-  abbrev pub m₄ : Message
+  abbrev pub m₄ : CutMessage
   m₄ = with_payload first q
 
   own : owner_of_next (open_after most p₁) first ≡ Some (message_key first)
@@ -329,7 +329,7 @@ module _ (C : Table) (l : Answers) (most : ℕ) (s : State) (reached : IsReached
 
   held : m.header ≡ (cut p).held
   held = header_at C l most s reached m h free
-      ∙ ap (λ (o : Option Message). header_of o (cut p).held) no_message
+      ∙ ap (λ (o : Option CutMessage). header_of o (cut p).held) no_message
 
   pub all_come : m.totals.octets ≡ length p
   all_come = search (arith, all_read)
@@ -369,7 +369,7 @@ module _ (C : Table) (l : Answers) (most : ℕ) (s : State) (reached : IsReached
   abbrev pub tracked : Tracked
   tracked = c₄ C l most p x q d runs_free no_message three full fragment sized within_limit
 
-  abbrev pub message : Message
+  abbrev pub message : CutMessage
   message = m₄ C l most p x q d runs_free no_message three full fragment sized within_limit
 
   abbrev pub effect : Effect
@@ -381,7 +381,7 @@ module _ (C : Table) (l : Answers) (most : ℕ) (s : State) (reached : IsReached
   is_before now number head place_is payload_count = record {
     keeps = owned_by_none C l m.slots (tracked_after R' p) tracked
         (same_slots C l most p x q d runs_free no_message three full fragment sized within_limit)
-        (subst (λ (o : Option Message). SlotsRepresent C l m.slots (tracked_after R' p)
+        (subst (λ (o : Option CutMessage). SlotsRepresent C l m.slots (tracked_after R' p)
         (owner_of_next_in (open_after most p) o)) no_message
         (knows_at C l most s reached m h free));
     before = before_last C l most p x q d runs_free no_message three full fragment sized

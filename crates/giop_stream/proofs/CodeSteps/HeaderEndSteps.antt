@@ -24,7 +24,7 @@ use Rattle.giop_stream.specs.EngineView.{FramingView}
 use Rattle.giop_stream.specs.Octet.{header_of}
 use Rattle.giop_stream.specs.EngineState.{State, state_of, owner_of_next}
 use Rattle.giop_stream.specs.ViewOfState.{IsReached, Shows}
-use Rattle.giop_stream.specs.Framing.{Message, Cut, limit, cut}
+use Rattle.giop_stream.specs.Framing.{CutMessage, Cut, limit, cut}
 use Rattle.giop_stream.specs.Events.{MessageKey, Takes, open_after}
 use Rattle.giop_stream.specs.Effects.{octets_then, with_octet, event, effect_to}
 use Rattle.giop_stream.specs.OpenSlots.{Tracked, tracked_after}
@@ -162,14 +162,14 @@ module _ (C : Table) (a : Answers) where
       (event at w (Takes x)))))
 
   -- which headers end in an octet of this message
-  ends_here : (R : Rules) (p : List ℕ) (m : Message) (x : ℕ) → (cut p).stop ≡ None →
+  ends_here : (R : Rules) (p : List ℕ) (m : CutMessage) (x : ℕ) → (cut p).stop ≡ None →
       (cut p).current ≡ Some m → length p < limit
       → header_ends_at R p x ≡ owner_header_ends (tracked_after R p)
       (owner_of_next (open_after R.most p) m) (x ∷ [])
   ends_here R p m x free current room = search (arith, at_free)
 
   -- which headers end in octets that only add to contents, and in one more octet
-  pub run_from : (most : ℕ) (q p : List ℕ) (m : Message) (x : ℕ) → Within p m (length q) →
+  pub run_from : (most : ℕ) (q p : List ℕ) (m : CutMessage) (x : ℕ) → Within p m (length q) →
       length p + length q < limit
       → owner_header_ends (tracked_after (rules_by C a most) p)
       (owner_of_next (open_after most p) m) (q ++ x ∷ [])
@@ -230,7 +230,8 @@ pub record Heads (p : List ℕ) (n : ℕ) : Type 0 where
 abbrev Right : ℕ → Cut → Type 0
 Right k c = (c.current ≡ None) × (length c.held + k < 12)
 
-head_case : (first n : ℕ) (whole : List Message) (front : List ℕ) (o : Option StreamFault) (k : ℕ) →
+head_case : (first n : ℕ) (whole : List CutMessage) (front : List ℕ) (o : Option StreamFault) (k :
+    ℕ) →
     length front + k < 12
     → Right k (header_case first n whole front o (length front == 12))
 unfolding header_case
@@ -343,7 +344,7 @@ pub told_ahead : (C : Table) (a : Answers) (most : ℕ) (s : State) (r : IsReach
 told_ahead C a most s r m h xs free few =
     let none = no_current C a most s r m h free (omega (arith, few)) in
     let held = header_at C a most s r m h free
-    ∙ ap (λ (o : Option Message). header_of o (cut r.stream).held) none in
+    ∙ ap (λ (o : Option CutMessage). header_of o (cut r.stream).held) none in
     heads_none (rules_by C a most) xs r.stream none (omega (arith, few, ap length held))
 
 -- the headers that end in octets of a payload are those of the current message's octets

@@ -5,7 +5,7 @@ use Rattle.giop_sig.specs.Table.{Table}
 use Rattle.giop_message.specs.Headers.{size}
 use Rattle.giop_message.specs.Signatures.{Answers}
 use Rattle.giop_checkpoint.specs.declared.fault.StreamFault.{StreamFault}
-use Rattle.giop_stream.specs.Framing.{Message, Cut, cut, fault_of, lacking, lacking_by}
+use Rattle.giop_stream.specs.Framing.{CutMessage, Cut, cut, fault_of, lacking, lacking_by}
 use Rattle.giop_stream.specs.EngineView.{FramingView}
 use Rattle.giop_stream.specs.EngineState.{State, state_of}
 use Rattle.giop_stream.specs.Octet.{header_of, payload_count_of}
@@ -13,24 +13,24 @@ use Rattle.giop_stream.specs.ViewOfState.{IsReached, Shows}
 use Rattle.giop_stream.proofs.Events.Soundness.{CurrentFits}
 use Rattle.giop_stream.proofs.CodeSteps.MessageOctets.{at_p, runs_on, header_at, fits_at, come_at}
 
-after_stop : (stop : Option (ℕ × StreamFault)) (c : Option Message) (held : List ℕ) →
+after_stop : (stop : Option (ℕ × StreamFault)) (c : Option CutMessage) (held : List ℕ) →
     is_some (fault_of stop) ≡ true → lacking_by stop c held ≡ None
 after_stop None c held e = absurd (true≢false (sym e))
 after_stop (Some found) c held e = refl
 
-between : (c : Option Message) (held : List ℕ) → IfSome c (λ m. length m.header ≡ 12) →
+between : (c : Option CutMessage) (held : List ℕ) → IfSome c (λ m. length m.header ≡ 12) →
     length (header_of c held) ≤ 0 → lacking_by None c held ≡ Some 0
 between None [] twelve e = refl
 between None (x ∷ xs) twelve e = absurd (omega (arith, e))
 between (Some m) held twelve e = absurd (omega (arith, twelve, e))
 
-within : (c : Option Message) (held : List ℕ) → IfSome c (λ m. length m.header ≡ 12) →
+within : (c : Option CutMessage) (held : List ℕ) → IfSome c (λ m. length m.header ≡ 12) →
     0 < length (header_of c held) → length (header_of c held) < 12 → lacking_by None c held ≡ None
 within None [] twelve some few = absurd (omega (arith, some))
 within None (x ∷ xs) twelve some few = refl
 within (Some m) held twelve some few = absurd (omega (arith, twelve, few))
 
-in_payload : (c : Option Message) (held : List ℕ) → length held < 12 →
+in_payload : (c : Option CutMessage) (held : List ℕ) → length held < 12 →
     length (header_of c held) ≡ 12
     → lacking_by None c held ≡ Some (size (header_of c held) - payload_count_of c)
 in_payload None held short full = absurd (omega (arith, short, full))
@@ -40,7 +40,7 @@ no_stop : (o : Option StreamFault) → is_some o ≡ false → o ≡ None
 no_stop None e = refl
 no_stop (Some fault) e = absurd (true≢false e)
 
-twelve_of : (c : Option Message) (n : ℕ) (k : Cut) → IfSome c (CurrentFits n k) →
+twelve_of : (c : Option CutMessage) (n : ℕ) (k : Cut) → IfSome c (CurrentFits n k) →
     IfSome c (λ m. length m.header ≡ 12)
 twelve_of None n k h = tt
 twelve_of (Some m) n k h = h.twelve

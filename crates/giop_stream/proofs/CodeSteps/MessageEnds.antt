@@ -9,8 +9,8 @@ use Rattle.giop_message.specs.Headers.{size}
 use Rattle.giop_message.specs.Signatures.{Answers}
 use Rattle.giop_checkpoint.specs.declared.fault.StreamFault.{StreamFault}
 use Rattle.giop_stream.specs.Rules.{rules_by}
-use Rattle.giop_stream.specs.Framing.{Message, fault_of}
-use Rattle.giop_stream.specs.Lines.{Line, lines}
+use Rattle.giop_stream.specs.Framing.{CutMessage, fault_of}
+use Rattle.giop_stream.specs.Lines.{StreamLine, lines}
 use Rattle.giop_stream.specs.Text.{lines_text}
 use Rattle.giop_stream.specs.SlotsRepresent.{AreReady}
 use Rattle.giop_stream.specs.EngineView.{FramingView}
@@ -24,7 +24,7 @@ use Rattle.giop_stream.proofs.Cuts.CutFrom.{end_message}
 -- ---- A call does a step, if it writes the lines of the longer stream and leaves its state.
 
 pub does_by : {A E : Type 0} (C : Table) (l : Answers) (most : ℕ) (p q : List ℕ) (one : Step)
-    (ls : List Line) (result : Result A E) (before after : OutLog) (f : FramingView)
+    (ls : List StreamLine) (result : Result A E) (before after : OutLog) (f : FramingView)
     → (let R = rules_by C l most in state_of R q ≡ one.state → lines R q ≡ lines R p ++ one.lines
     → lines R q ≡ lines R p ++ ls → Writes result before after (lines_text ls) →
     OnOk result (Shows C l f (state_of R q))
@@ -50,12 +50,12 @@ pub settled_off : (m : FramingView) (n : ℕ) → m.payload_count ≡ n →
 unfolding settled
 settled_off m n same = search (arith, eq-eqb)
 
-pub goes_on : (whole : List Message) (m : Message) → length m.payload < size m.header →
+pub goes_on : (whole : List CutMessage) (m : CutMessage) → length m.payload < size m.header →
     end_message whole m ≡ of_parts whole (Some m) [] None
 unfolding end_message of_parts
 goes_on whole m less = search (arith, lt-ltb)
 
-pub goes_off : (whole : List Message) (m : Message) → size m.header ≤ length m.payload →
+pub goes_off : (whole : List CutMessage) (m : CutMessage) → size m.header ≤ length m.payload →
     end_message whole m ≡ of_parts (whole ++ m ∷ []) None [] None
 unfolding end_message of_parts
 goes_off whole m more = search (arith, le-ltb)

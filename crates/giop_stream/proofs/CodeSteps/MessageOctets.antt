@@ -14,9 +14,9 @@ use Rattle.giop_message.proofs.MessageLaws.{is_causal}
 use Rattle.giop_stream.specs.declared.current.Current.{Current}
 use Rattle.giop_stream.specs.HeaderOctets.{wrong, first_wrong_octet}
 use Rattle.giop_stream.specs.Rules.{Rules, rules_by}
-use Rattle.giop_stream.specs.Framing.{Message, Cut, cut, messages}
+use Rattle.giop_stream.specs.Framing.{CutMessage, Cut, cut, messages}
 use Rattle.giop_stream.specs.Events.{events_of_octet, open_after}
-use Rattle.giop_stream.specs.Lines.{Line, lines}
+use Rattle.giop_stream.specs.Lines.{StreamLine, lines}
 use Rattle.giop_stream.specs.Text.{lines_text}
 use Rattle.giop_stream.specs.Stream.{fault_count, tally}
 use Rattle.giop_stream.specs.Effects.{Effect, effects}
@@ -72,7 +72,7 @@ reached_at C l n most s same r = record {
 
 -- ---- How many payload octets were read, if it is known how many are to come.
 
-come_by : (n : ℕ) (c : Cut) (current : Option Message) (held : List ℕ) →
+come_by : (n : ℕ) (c : Cut) (current : Option CutMessage) (held : List ℕ) →
     IfSome current (CurrentFits n c) → length held < 12
     → (if nat_lt (length (header_of current held)) 12 then 0 else size (header_of current held)
     - left_of current) ≡ payload_count_of current
@@ -85,11 +85,11 @@ module _ (C : Table) (l : Answers) (most : ℕ) (p : List ℕ) where
   abbrev rules : Rules
   rules = rules_by C l most
 
-  abbrev pub effect_of : Message → Effect
+  abbrev pub effect_of : CutMessage → Effect
   effect_of n = effects rules.reading (tracked_after rules p)
       (events_of_octet most (tracked_after rules p).still_open n)
 
-  module _ (x : ℕ) (n : Message) (fits : length n.payload ≤ size n.header)
+  module _ (x : ℕ) (n : CutMessage) (fits : length n.payload ≤ size n.header)
       (number : n.number ≡ suc (length (cut p).whole))
       (adds : Adds rules p (p ++ x ∷ []) (end_message (cut p).whole n) (effect_of n).lines
       (effect_of n).tracked) where
@@ -162,7 +162,7 @@ module _ (C : Table) (l : Answers) (most : ℕ) (s : State) (reached : IsReached
   at_p = search (arith)
 
   -- a call that writes the lines of the octet and leaves its state does the step of the octet
-  pub does_step : {A E : Type 0} (x : ℕ) (ls : List Line) (result : Result A E)
+  pub does_step : {A E : Type 0} (x : ℕ) (ls : List StreamLine) (result : Result A E)
       (before after : OutLog) (f : FramingView)
       → lines R (p ++ x ∷ []) ≡ lines R p ++ ls → Writes result before after (lines_text ls)
       → OnOk result (Shows C l f (state_of R (p ++ x ∷ []))) →
@@ -177,7 +177,7 @@ module _ (C : Table) (l : Answers) (most : ℕ) (s : State) (reached : IsReached
   )
 
   -- a call that writes the lines of a run and leaves its state does the steps of the run
-  pub does_run : {A E : Type 0} (q : List ℕ) (ls : List Line) (result : Result A E)
+  pub does_run : {A E : Type 0} (q : List ℕ) (ls : List StreamLine) (result : Result A E)
       (before after : OutLog) (f : FramingView)
       → lines R (p ++ q) ≡ lines R p ++ ls → Writes result before after (lines_text ls)
       → OnOk result (Shows C l f (state_of R (p ++ q))) →
@@ -220,7 +220,7 @@ module _ (C : Table) (l : Answers) (most : ℕ) (s : State) (reached : IsReached
     no_current few = search (arith, if_some, fits_at, header_at)
 
     -- a complete header is the header of the current message
-    pub has_current : length m.header ≡ 12 → (c : Message) × ((cut p).current ≡ Some c)
+    pub has_current : length m.header ≡ 12 → (c : CutMessage) × ((cut p).current ≡ Some c)
     has_current full = search (arith, header_at, fits_at)
 
   pub messages_at : m.totals.messages ≡ length (messages (cut p))
@@ -271,7 +271,7 @@ module _ (C : Table) (l : Answers) (most : ℕ) (s : State) (reached : IsReached
     header_now = search (arith, header_was, header_at, ran, cur)
 
     -- the message that begins
-    abbrev pub first : Message
+    abbrev pub first : CutMessage
     first = beginner (cut p).whole (suc (length p)) ((cut p).held ++ x ∷ [])
 
     -- the effect of the header's last octet
@@ -343,7 +343,7 @@ module _ (C : Table) (l : Answers) (most : ℕ) (s : State) (reached : IsReached
 
   -- ---- The current message.
 
-  module _ (free : m.stopped ≡ None) (c : Message) (cur : (cut p).current ≡ Some c) where
+  module _ (free : m.stopped ≡ None) (c : CutMessage) (cur : (cut p).current ≡ Some c) where
     pub current_fits : CurrentFits (length p) (cut p) c
     current_fits = search (arith, if_some, cur, fits_at)
 

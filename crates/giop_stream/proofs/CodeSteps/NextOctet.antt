@@ -9,7 +9,7 @@ use Rattle.giop_stream.specs.Kinds.{is_old, is_any_fragment, has_place, named_at
 use Rattle.giop_checkpoint.specs.declared.fault.StreamFault.{StreamFault}
 use Rattle.giop_stream.specs.declared.status.Totals.{Totals}
 use Rattle.giop_stream.specs.Rules.{Rules}
-use Rattle.giop_stream.specs.Framing.{Message, Cut, cut, messages, read_of, fault_of}
+use Rattle.giop_stream.specs.Framing.{CutMessage, Cut, cut, messages, read_of, fault_of}
 use Rattle.giop_stream.specs.Events.{id, key, opener_of, has_named, open_after, now_of}
 use Rattle.giop_stream.specs.Lines.{stop_line, lines}
 use Rattle.giop_stream.specs.Stream.{start_count, fault_count, tally}
@@ -73,7 +73,7 @@ octet_short : (held : List ℕ) (number read a b x : ℕ) → length held < 12 �
 unfolding octet_in
 octet_short held number read a b x short = search (arith, lt-ltb)
 
-seen : (stop : Option (ℕ × StreamFault)) (current : Option Message) (held : List ℕ)
+seen : (stop : Option (ℕ × StreamFault)) (current : Option CutMessage) (held : List ℕ)
     (number number' read n x : ℕ)
     → number ≡ number' → (stop ≡ None → read ≡ n) →
     (stop ≡ None → IfSome current (λ m. length m.payload < size m.header))
@@ -87,7 +87,7 @@ seen (Some found) current held number number' read n x e r lacks short = refl
 seen None (Some m) held number number' read n x e r lacks short = search (arith)
 seen None None held number number' read n x e r lacks short = search (arith, octet_short)
 
-weaker : (P Q : Message → Type 0) → ((m : Message) → P m → Q m) → (o : Option Message) →
+weaker : (P Q : CutMessage → Type 0) → ((m : CutMessage) → P m → Q m) → (o : Option CutMessage) →
     IfSome o P → IfSome o Q
 weaker P Q h None k = tt
 weaker P Q h (Some m) k = h m k
@@ -150,7 +150,7 @@ module _ (R : Rules) (p : List ℕ) (x : ℕ) where
 -- ---- An octet of a message: its events, from the state.
 
 -- what the state shows of the message m at its octet
-pub record Shows (R : Rules) (p : List ℕ) (m : Message) : Type 0 where
+pub record Shows (R : Rules) (p : List ℕ) (m : CutMessage) : Type 0 where
   pub name_is : length m.payload ≡ named_at m.header → has_place m.header ≡ true →
       key_of (state_of R p) (now_of m) ≡ key m
   pub past_is : named_at m.header < length m.payload → is_any_fragment m.header ≡ true →
@@ -158,19 +158,19 @@ pub record Shows (R : Rules) (p : List ℕ) (m : Message) : Type 0 where
 
 module _ (R : Rules) (p : List ℕ) (x : ℕ) (sound : IsSound R p) (alive : IsAlive R p) where
   -- a message of 1.1 has no key
-  old_name : (m : Message) → is_old m.header ≡ true →
+  old_name : (m : CutMessage) → is_old m.header ≡ true →
       key_of (state_of R p) (now_of m) ≡ key m
   unfolding key_of key
   old_name m old = rw old refl
 
-  shows_first : (m : Message) → m.payload ≡ [] → Shows R p m
+  shows_first : (m : CutMessage) → m.payload ≡ [] → Shows R p m
   shows_first m none = record {
     name_is = λ named place. old_name m
         (none_old m.header (omega (arith, named, ap (λ (xs : List ℕ). length xs) none)));
     past_is = λ past f. absurd (omega (arith, past, ap (λ (xs : List ℕ). length xs) none));
   }
 
-  id_held : (was : Message) → (cut p).stop ≡ None → (cut p).current ≡ Some was →
+  id_held : (was : CutMessage) → (cut p).stop ≡ None → (cut p).current ≡ Some was →
       length (was.payload ++ x ∷ []) ≡ 4
       → has_name was.header ≡ true → id_by (now_of (with_octet was x))
       ((state_of R p).tracked.known was.number) ≡ id (with_octet was x)
@@ -186,7 +186,7 @@ module _ (R : Rules) (p : List ℕ) (x : ℕ) (sound : IsSound R p) (alive : IsA
         take_all 4 (was.payload ++ x ∷ []) (omega (arith, four)),
       ) refl
 
-  name_held : (was : Message) → (cut p).stop ≡ None → (cut p).current ≡ Some was →
+  name_held : (was : CutMessage) → (cut p).stop ≡ None → (cut p).current ≡ Some was →
       length (was.payload ++ x ∷ []) ≡ named_at was.header
       → has_place was.header ≡ true → key_of (state_of R p) (now_of (with_octet was x))
       ≡ key (with_octet was x)
@@ -197,7 +197,7 @@ module _ (R : Rules) (p : List ℕ) (x : ℕ) (sound : IsSound R p) (alive : IsA
       omega (arith, named, named_four was.header new) in
       rw new (ap Some (id_held was st cur four (placed_named was.header place new)))
 
-  past_held : (was : Message) → (cut p).current ≡ Some was →
+  past_held : (was : CutMessage) → (cut p).current ≡ Some was →
       named_at was.header < length (was.payload ++ x ∷ [])
       → is_any_fragment was.header ≡ true → other_of (state_of R p) (now_of (with_octet was x))
       ≡ opener_of (open_after R.most p)
@@ -215,11 +215,11 @@ module _ (R : Rules) (p : List ℕ) (x : ℕ) (sound : IsSound R p) (alive : IsA
       )
       (found_under_again (open_after R.most p) (key was) sound.rising)
 
-  shows_next : (was : Message) → (cut p).stop ≡ None → (cut p).current ≡ Some was →
+  shows_next : (was : CutMessage) → (cut p).stop ≡ None → (cut p).current ≡ Some was →
       Shows R p (with_octet was x)
   shows_next was st cur = search (arith, name_held, past_held)
 
-  pub shows : (m : Message) → (cut p).stop ≡ None → (((cut p).current ≡ None) × (m.payload ≡ []))
-      ⊎ ((was : Message) × ((cut p).current ≡ Some was) × (m ≡ with_octet was x)) → Shows R p m
+  pub shows : (m : CutMessage) → (cut p).stop ≡ None → (((cut p).current ≡ None) × (m.payload ≡ []))
+      ⊎ ((was : CutMessage) × ((cut p).current ≡ Some was) × (m ≡ with_octet was x)) → Shows R p m
   shows m st (inl (cur, none)) = shows_first m none
   shows m st (inr (was, cur, is)) = search (arith, shows_next)

@@ -13,9 +13,9 @@ use Rattle.giop_checkpoint.specs.declared.fault.StreamFault.{StreamFault}
 use Rattle.giop_checkpoint.specs.declared.fault.StreamFault.TheVariants.{StreamLimit}
 use Rattle.giop_stream.specs.HeaderOctets.{wrong}
 use Rattle.giop_stream.specs.Rules.{Rules}
-use Rattle.giop_stream.specs.Framing.{Message, Cut, limit, cut, messages, fault_of}
+use Rattle.giop_stream.specs.Framing.{CutMessage, Cut, limit, cut, messages, fault_of}
 use Rattle.giop_stream.specs.Events.{EventKind, Event, Open, place, events_of_octet, events, open_after, joined, Now, now_of}
-use Rattle.giop_stream.specs.Lines.{Line, lines_of_messages, stop_line, lines}
+use Rattle.giop_stream.specs.Lines.{StreamLine, lines_of_messages, stop_line, lines}
 use Rattle.giop_stream.specs.Stream.{start_count}
 use Rattle.giop_stream.specs.OpenSlots.{OctetsByNumber, octets_of, Tracked, tracked_after}
 use Rattle.giop_stream.proofs.StreamLines.EventsTogether.{all_lines, sorted_lines}
@@ -37,7 +37,8 @@ use Rattle.giop_stream.proofs.Events.Soundness.{Fits, IsSound, dealt_sound, even
 use Rattle.giop_stream.proofs.Events.StepCases.{quiet_sound, stop_starts, none_known, not_twelve, place_more, place_first, events_of_cut}
 use Rattle.giop_stream.proofs.Events.StepCases.{octets_are}
 
-pub record Adds (R : Rules) (p p' : List ℕ) (c : Cut) (ls : List Line) (tracked : Tracked) : Type 0
+pub record Adds (R : Rules) (p p' : List ℕ) (c : Cut) (ls : List StreamLine) (tracked : Tracked) :
+    Type 0
   where
     pub cut_is : cut p' ≡ c
     pub lines : lines R p' ≡ lines R p ++ ls
@@ -48,13 +49,13 @@ pub record Adds (R : Rules) (p p' : List ℕ) (c : Cut) (ls : List Line) (tracke
 
 -- an octet of the message m: the last one of its header, or one of its payload
 pub record IsOf (R : Rules) (p : List ℕ) (x : ℕ) (now : Now) : Type 0 where
-  pub m : Message
+  pub m : CutMessage
   pub is_now : now_of m ≡ now
   pub fits : length m.payload ≤ size m.header
   pub number_is : m.number ≡ suc (length (cut p).whole)
   pub place_is : place m ≡ suc (length p)
   pub from : (((cut p).current ≡ None) × (m.payload ≡ []))
-      ⊎ ((was : Message) × ((cut p).current ≡ Some was) × (m ≡ with_octet was x))
+      ⊎ ((was : CutMessage) × ((cut p).current ≡ Some was) × (m ≡ with_octet was x))
   pub grows : events R.most (p ++ x ∷ []) ≡ events R.most p
       ++ events_of_octet R.most (open_after R.most p) m
   pub adds : Adds R p (p ++ x ∷ []) (end_message (cut p).whole m)
@@ -63,7 +64,7 @@ pub record IsOf (R : Rules) (p : List ℕ) (x : ℕ) (now : Now) : Type 0 where
       (events_of_octet R.most (open_after R.most p) m)).tracked
 
 -- the message that begins with this header, after these messages
-abbrev pub beginner : List Message → ℕ → List ℕ → Message
+abbrev pub beginner : List CutMessage → ℕ → List ℕ → CutMessage
 beginner whole at header = record {
   number = suc (length whole);
   before = at - 12;
@@ -147,7 +148,7 @@ module _ (R : Rules) (causal : IsCausal R.reading) (laws : IsStreamable R.readin
   len = search (arith, length_push)
 
   -- the octet is one of no message
-  idle : (c : Cut) (ls : List Line) → cut (p ++ x ∷ []) ≡ c → messages c ≡ messages (cut p)
+  idle : (c : Cut) (ls : List StreamLine) → cut (p ++ x ∷ []) ≡ c → messages c ≡ messages (cut p)
       → lines_of_messages R p ++ stop_line c.stop ≡ lines R p ++ ls → start_count ls ≡ 0 →
       Each (λ l. l.place ≡ suc (length p)) ls → Rises ls
       → (c.stop ≡ None → (c.current ≡ None) × Fits (suc (length p)) c) →
@@ -165,7 +166,7 @@ module _ (R : Rules) (causal : IsCausal R.reading) (laws : IsStreamable R.readin
   )
 
   -- the octet is one of the message m
-  deals : (m : Message) (whole : List Message) → cut (p ++ x ∷ []) ≡ end_message whole m
+  deals : (m : CutMessage) (whole : List CutMessage) → cut (p ++ x ∷ []) ≡ end_message whole m
       → events R.most (p ++ x ∷ []) ≡ events R.most p
       ++ events_of_octet R.most (open_after R.most p) m → place m ≡ suc (length p) →
       m.number ≡ suc (length whole)
@@ -213,12 +214,12 @@ module _ (R : Rules) (causal : IsCausal R.reading) (laws : IsStreamable R.readin
             sound;
       }
 
-  begun_by : (was : Message) → (length was.payload ≤ 4 →
+  begun_by : (was : CutMessage) → (length was.payload ≤ 4 →
       joined was.number (events R.most p) ≡ was.payload) →
       IsBegun (octets_of R p) (with_octet was x)
   begun_by was begun some short xs known = search (arith, octets_are, length_push)
 
-  pub paid_events : (whole : List Message) (was : Message) (held : List ℕ) →
+  pub paid_events : (whole : List CutMessage) (was : CutMessage) (held : List ℕ) →
       cut p ≡ of_parts whole (Some was) held None
       → nat_lt limit (suc (length p)) ≡ false → events R.most (p ++ x ∷ []) ≡ events R.most p
       ++ events_of_octet R.most (open_after R.most p) (with_octet was x)
@@ -234,7 +235,7 @@ module _ (R : Rules) (causal : IsCausal R.reading) (laws : IsStreamable R.readin
     events_on,
   )
 
-  paid_adds : (whole : List Message) (was : Message) (held : List ℕ) →
+  paid_adds : (whole : List CutMessage) (was : CutMessage) (held : List ℕ) →
       cut p ≡ of_parts whole (Some was) held None → nat_lt limit (suc (length p)) ≡ false
       → Adds R p (p ++ x ∷ []) (end_message whole (with_octet was x))
       (effects R.reading (tracked_after R p)
@@ -273,7 +274,7 @@ module _ (R : Rules) (causal : IsCausal R.reading) (laws : IsStreamable R.readin
         own_joined R.most (open_after R.most p) was was.payload x (not_past m short),
       ) refl)
 
-  paid : (whole : List Message) (was : Message) (held : List ℕ) →
+  paid : (whole : List CutMessage) (was : CutMessage) (held : List ℕ) →
       cut p ≡ of_parts whole (Some was) held None
       → nat_lt limit (suc (length p)) ≡ false → Then R p x
       (octet_in None was.header (length (messages (cut p))) (length p) (length was.payload) x)
@@ -306,7 +307,7 @@ module _ (R : Rules) (causal : IsCausal R.reading) (laws : IsStreamable R.readin
             octet = last j;
           };
           fits = omega (arith, lacks, long);
-          number_is = fits.number_is ∙ ap (λ (l : List Message). suc (length l)) (sym same);
+          number_is = fits.number_is ∙ ap (λ (l : List CutMessage). suc (length l)) (sym same);
           place_is = pl;
           from = inr (was, rw ec refl, refl);
           grows = paid_events whole was held ec room;
@@ -314,7 +315,7 @@ module _ (R : Rules) (causal : IsCausal R.reading) (laws : IsStreamable R.readin
         },
       )
 
-  begins_events : (whole : List Message) (held : List ℕ) → cut p ≡ of_parts whole None held None
+  begins_events : (whole : List CutMessage) (held : List ℕ) → cut p ≡ of_parts whole None held None
       → nat_lt limit (suc (length p)) ≡ false → wrong (held ++ x ∷ []) ≡ None →
       length (held ++ x ∷ []) ≡ 12
       → events R.most (p ++ x ∷ []) ≡ events R.most p
@@ -335,7 +336,7 @@ module _ (R : Rules) (causal : IsCausal R.reading) (laws : IsStreamable R.readin
     events_begin,
   )
 
-  begins_adds : (whole : List Message) (held : List ℕ) → cut p ≡ of_parts whole None held None
+  begins_adds : (whole : List CutMessage) (held : List ℕ) → cut p ≡ of_parts whole None held None
       → nat_lt limit (suc (length p)) ≡ false → wrong (held ++ x ∷ []) ≡ None →
       length (held ++ x ∷ []) ≡ 12
       → (let m = beginner whole (suc (length p)) (held ++ x ∷ []) in
@@ -377,7 +378,7 @@ module _ (R : Rules) (causal : IsCausal R.reading) (laws : IsStreamable R.readin
         header_joined R.most m.number (open_after R.most p) m refl,
       ) refl)
 
-  begins : (whole : List Message) (held : List ℕ) → cut p ≡ of_parts whole None held None
+  begins : (whole : List CutMessage) (held : List ℕ) → cut p ≡ of_parts whole None held None
       → nat_lt limit (suc (length p)) ≡ false → wrong (held ++ x ∷ []) ≡ None →
       length (held ++ x ∷ []) ≡ 12
       → Then R p x (front_is (held ++ x ∷ []) (length (messages (cut p))) (suc (length p)) None)
@@ -403,7 +404,7 @@ module _ (R : Rules) (causal : IsCausal R.reading) (laws : IsStreamable R.readin
             octet = 0;
           };
           fits = omega arith;
-          number_is = ap (λ (l : List Message). suc (length l)) (sym same);
+          number_is = ap (λ (l : List CutMessage). suc (length l)) (sym same);
           place_is = pl;
           from = inl (rw ec refl, refl);
           grows = begins_events whole held ec room right twelve;
@@ -411,7 +412,8 @@ module _ (R : Rules) (causal : IsCausal R.reading) (laws : IsStreamable R.readin
         },
       )
 
-  stops : (whole : List Message) (current : Option Message) (held : List ℕ) (fault : StreamFault)
+  stops : (whole : List CutMessage) (current : Option CutMessage) (held : List ℕ) (fault :
+      StreamFault)
       → cut p ≡ of_parts whole current held None →
       next (length p) x (cut p) ≡ stopped_at (suc (length p)) fault (cut p)
       → Then R p x (Ends fault)
@@ -425,7 +427,7 @@ module _ (R : Rules) (causal : IsCausal R.reading) (laws : IsStreamable R.readin
             (λ free. absurd cc),
       )
 
-  fronts : (whole : List Message) (held : List ℕ) → cut p ≡ of_parts whole None held None
+  fronts : (whole : List CutMessage) (held : List ℕ) → cut p ≡ of_parts whole None held None
       → nat_lt limit (suc (length p)) ≡ false → (w : Option StreamFault) →
       wrong (held ++ x ∷ []) ≡ w → (b : Bool)
       → (length (held ++ x ∷ []) == 12) ≡ b
@@ -446,7 +448,7 @@ module _ (R : Rules) (causal : IsCausal R.reading) (laws : IsStreamable R.readin
     lines_free,
   )
 
-  then_by : (whole : List Message) (current : Option Message) (held : List ℕ)
+  then_by : (whole : List CutMessage) (current : Option CutMessage) (held : List ℕ)
       (stop : Option (ℕ × StreamFault))
       → cut p ≡ of_parts whole current held stop → (b : Bool) → nat_lt limit (suc (length p)) ≡ b
       → Then R p x (octet_in (fault_of stop) (header_of current held) (length (messages (cut p)))
@@ -479,7 +481,7 @@ module _ (R : Rules) (causal : IsCausal R.reading) (laws : IsStreamable R.readin
       (nat_lt limit (suc (length p))) refl
 
   -- an octet of the current message's payload, and the last octet of a header
-  pub paid_is : (was : Message) → (cut p).stop ≡ None → (cut p).current ≡ Some was →
+  pub paid_is : (was : CutMessage) → (cut p).stop ≡ None → (cut p).current ≡ Some was →
       nat_lt limit (suc (length p)) ≡ false
       → Adds R p (p ++ x ∷ []) (end_message (cut p).whole (with_octet was x))
       (effects R.reading (tracked_after R p)

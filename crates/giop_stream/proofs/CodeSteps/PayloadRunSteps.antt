@@ -15,7 +15,7 @@ use Rattle.giop_message.specs.MessageReader.{IsCausal}
 use Rattle.giop_message.proofs.MessageLaws.{is_causal}
 use Rattle.giop_stream.specs.declared.current.Current.{Current}
 use Rattle.giop_stream.specs.Rules.{Rules, rules_by}
-use Rattle.giop_stream.specs.Framing.{Message, Cut, with_payload, limit, cut, messages}
+use Rattle.giop_stream.specs.Framing.{CutMessage, Cut, with_payload, limit, cut, messages}
 use Rattle.giop_stream.specs.Events.{Takes, MessageKey, Open, events_of_octet, events_at_octet, changed, open_after}
 use Rattle.giop_stream.specs.Lines.{lines}
 use Rattle.giop_stream.specs.Text.{lines_text}
@@ -49,14 +49,14 @@ use Rattle.giop_stream.proofs.CodeSteps.MessageEnds.{goes_on}
 
 -- The next n octets are payload of m, the current message: none of them is the last of its request
 -- id or of the message.
-pub record Within (p : List ℕ) (m : Message) (n : ℕ) : Type 0 where
+pub record Within (p : List ℕ) (m : CutMessage) (n : ℕ) : Type 0 where
   pub free : (cut p).stop ≡ None
   pub current : (cut p).current ≡ Some m
   pub apart : length m.payload < 4 → length m.payload + n < 4
   pub before_last : length m.payload + n < size m.header
   pub room : length p + n ≤ limit
 
-within_grows : (p : List ℕ) (m : Message) (x n : ℕ) → Within p m (suc n) →
+within_grows : (p : List ℕ) (m : CutMessage) (x n : ℕ) → Within p m (suc n) →
     cut (p ++ x ∷ []) ≡ of_parts (cut p).whole (Some (with_octet m x)) [] None
 within_grows p m x n h =
     cut_grows p x
@@ -67,7 +67,7 @@ within_grows p m x n h =
     (omega (arith, h.before_last, length_push m.payload x))))
 
 -- the message has no place at the next octet
-not_named : (p : List ℕ) (m : Message) (x n : ℕ) → Within p m (suc n) →
+not_named : (p : List ℕ) (m : CutMessage) (x n : ℕ) → Within p m (suc n) →
     length (m.payload ++ x ∷ []) ≢ named_at m.header
 not_named p m x n h e = elim (named_either m.header) [
   | inl none ↦ omega (arith, e, none, length_push m.payload x)
@@ -77,7 +77,7 @@ not_named p m x n h e = elim (named_either m.header) [
   ]
 ]
 
-pub within_on : (p : List ℕ) (m : Message) (x n : ℕ) → Within p m (suc n) →
+pub within_on : (p : List ℕ) (m : CutMessage) (x n : ℕ) → Within p m (suc n) →
     Within (p ++ x ∷ []) (with_octet m x) n
 unfolding of_parts
 within_on p m x n h =
@@ -95,14 +95,14 @@ within_on p m x n h =
     }
 
 -- the octet's only event is that a message takes it
-comes_alone : (most : ℕ) (still_open : List Open) (m : Message) → 0 < length m.payload →
+comes_alone : (most : ℕ) (still_open : List Open) (m : CutMessage) → 0 < length m.payload →
     length m.payload ≢ named_at m.header → length m.payload < size m.header →
     events_of_octet most still_open m ≡ events_at_octet still_open m
 unfolding events_of_octet
 comes_alone most still_open m some other less = search (arith, ne_eqb, append-nil)
 
 -- the next octet belongs to the same message
-owner_on : (still_open : List Open) (m : Message) (x : ℕ) →
+owner_on : (still_open : List Open) (m : CutMessage) (x : ℕ) →
     length (m.payload ++ x ∷ []) ≢ named_at m.header →
     owner_of_next still_open (with_octet m x) ≡ owner_of_next still_open m
 owner_on still_open m x other = search (arith, owner_elsewhere, ne_eqb, owner_next)
@@ -114,7 +114,7 @@ module _ (C : Table) (l : Answers) where
   takes_still_open at c None x = refl
   takes_still_open at c (Some w) x = refl
 
-  module _ (most : ℕ) (p : List ℕ) (m : Message) (x n : ℕ) (h : Within p m (suc n)) where
+  module _ (most : ℕ) (p : List ℕ) (m : CutMessage) (x n : ℕ) (h : Within p m (suc n)) where
     at_hand : CurrentFits (length p) (cut p) m
     at_hand =
         if_some (CurrentFits (length p) (cut p)) (cut p).current m h.current
@@ -166,7 +166,7 @@ module _ (C : Table) (l : Answers) where
         ∙ owner_on (open_after most p) m x (not_named p m x n h)
 
 -- fewer than n octets are payload of m too
-pub within_less : (p : List ℕ) (m : Message) (k n : ℕ) → k ≤ n → Within p m n → Within p m k
+pub within_less : (p : List ℕ) (m : CutMessage) (k n : ℕ) → k ≤ n → Within p m n → Within p m k
 within_less p m k n less h = record {
   free = h.free;
   current = h.current;
@@ -176,7 +176,7 @@ within_less p m k n less h = record {
 }
 
 -- no message begins in these octets
-pub none_begin : (xs p : List ℕ) (m : Message) → Within p m (length xs) →
+pub none_begin : (xs p : List ℕ) (m : CutMessage) → Within p m (length xs) →
     length (messages (cut (p ++ xs))) ≡ length (messages (cut p))
 unfolding of_parts messages
 none_begin [] p m h = ap (λ z. length (messages (cut z))) (append-nil p)
@@ -199,7 +199,8 @@ none_begin (x ∷ xs) p m h =
 -- ---- All of the octets.
 
 -- the stream p with these octets, if m is its current message
-pub record IsRun (C : Table) (l : Answers) (most : ℕ) (p : List ℕ) (m : Message) (q : List ℕ) : Type
+pub record IsRun (C : Table) (l : Answers) (most : ℕ) (p : List ℕ) (m : CutMessage) (q : List ℕ) :
+    Type
     0 where
   pub within : Within (p ++ q) (with_payload m (m.payload ++ q)) 0
   pub lines : lines (rules_by C l most) (p ++ q) ≡ lines
@@ -212,7 +213,7 @@ pub record IsRun (C : Table) (l : Answers) (most : ℕ) (p : List ℕ) (m : Mess
       ≡ owner_of_next (open_after most p) m
 
 module _ (C : Table) (l : Answers) where
-  pub run_is : (most : ℕ) (q p : List ℕ) (m : Message) → Within p m (length q) →
+  pub run_is : (most : ℕ) (q p : List ℕ) (m : CutMessage) → Within p m (length q) →
       IsRun C l most p m q
   unfolding run_effect
   run_is most [] p m h = search (arith, append-nil)
@@ -264,7 +265,7 @@ before_all (y ∷ q) n payload_count most one lacks few = search (arith)
 
 module _ (C : Table) (l : Answers) (most : ℕ) (s : State) (reached : IsReached C l most s)
     (m : FramingView) (h : Shows C l m s)
-    (free : m.stopped ≡ None) (c : Message) (current : (cut reached.stream).current ≡ Some c)
+    (free : m.stopped ≡ None) (c : CutMessage) (current : (cut reached.stream).current ≡ Some c)
     (octets q : List ℕ) (x : ℕ)
     (split : octets ≡ q ++ x ∷ []) (apart : m.payload_count < 4 →
     m.payload_count + length octets ≤ 4)
@@ -324,7 +325,7 @@ module _ (C : Table) (l : Answers) (most : ℕ) (s : State) (reached : IsReached
   abbrev p' : List ℕ
   p' = p ++ q
 
-  abbrev c' : Message
+  abbrev c' : CutMessage
   c' = with_payload c (c.payload ++ q)
 
   so : IsSound R p'
@@ -351,7 +352,7 @@ module _ (C : Table) (l : Answers) (most : ℕ) (s : State) (reached : IsReached
 
   pub run_keeps : SlotsRepresent C l m.slots (tracked_after R p)
       (owner_of_next (open_after most p) c)
-  run_keeps = subst (λ (o : Option Message).
+  run_keeps = subst (λ (o : Option CutMessage).
       SlotsRepresent C l m.slots (tracked_after R p) (owner_of_next_in (open_after most p) o))
       current (knows_at C l most s reached m h free)
 
@@ -464,7 +465,7 @@ module _ (C : Table) (l : Answers) (most : ℕ) (s : State) (reached : IsReached
 
 module _ (C : Table) (l : Answers) (most : ℕ) (s : State) (reached : IsReached C l most s)
     (m : FramingView) (h : Shows C l m s)
-    (free : m.stopped ≡ None) (c : Message) (current : (cut reached.stream).current ≡ Some c)
+    (free : m.stopped ≡ None) (c : CutMessage) (current : (cut reached.stream).current ≡ Some c)
     (octets : List ℕ) (apart : m.payload_count < 4 → m.payload_count + length octets ≤ 4)
     (few : 1 < length octets → m.payload_count + length octets ≤ size m.header)
     (room : m.totals.octets + length octets ≤ 2 ^ 48) (n : ℕ) (some : 0 < n)

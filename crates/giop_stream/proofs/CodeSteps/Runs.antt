@@ -19,7 +19,7 @@ use Rattle.giop_stream.specs.declared.slots.Slot.{Slot as Contents}
 use Rattle.giop_stream.specs.declared.slots.Slots.{Slots}
 use Rattle.giop_stream.specs.declared.slots.PayloadOwner.{PayloadOwner}
 use Rattle.giop_stream.specs.Events.{MessageKey, Takes, Rising}
-use Rattle.giop_stream.specs.Lines.{Line}
+use Rattle.giop_stream.specs.Lines.{StreamLine}
 use Rattle.giop_stream.specs.Text.{lines_text}
 use Rattle.giop_stream.specs.Stream.{fault_count}
 use Rattle.giop_stream.specs.Effects.{Part, part_of, tracked_at, lines_of, octets_then, no_effect, no_part, event}
@@ -95,7 +95,7 @@ module _ (C : Table) (l : Answers) where
       let S = signatures_of C (l w.number) unbroken in
       let ev = event (suc before) w (Takes x) in
       let first = lines_of (message_reader C l) ev (Some s) in
-      let after : List Line = (run_part C l (suc before) w
+      let after : List StreamLine = (run_part C l (suc before) w
       (octets_then (message_reader C l) ev (Some s)) xs).lines in
       let due = due_text S w.number before w.header s (x ∷ []) in
       let more = due_text S w.number (suc before) w.header (s ++ x ∷ []) xs in
@@ -153,7 +153,7 @@ module _ (C : Table) (l : Answers) where
   run_count w [] before s e = rw (append-nil s, e) (unfold fault_count in refl)
   run_count w (x ∷ xs) before s e =
       let ev = event (suc before) w (Takes x) in
-      let after : List Line = (run_part C l (suc before) w
+      let after : List StreamLine = (run_part C l (suc before) w
       (octets_then (message_reader C l) ev (Some s)) xs).lines in
       count_append (lines_of (message_reader C l) ev (Some s)) after
       ∙ (ap (λ (n : ℕ). n + fault_count after) (count_is (suc before) w s x e)
@@ -263,7 +263,7 @@ module _ (C : Table) (l : Answers) where
       let more = run_alters w xs (suc before) (tracked_at R c e) in
       let same = ap (λ (o : Option (List ℕ)). run_part C l (suc before) w o xs) one.own in
       record {
-        lines = ap (λ (ls : List Line). lines_of R e (c.known w.number) ++ ls)
+        lines = ap (λ (ls : List StreamLine). lines_of R e (c.known w.number) ++ ls)
             (more.lines ∙ ap (λ (part : Part). part.lines) same);
         still_open = more.still_open ∙ one.still_open;
         own = more.own ∙ ap (λ (part : Part). part.octets) same;

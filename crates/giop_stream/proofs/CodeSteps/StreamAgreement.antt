@@ -16,7 +16,7 @@ use Rattle.giop_stream.specs.SlotsRepresent.{OpenEntry, RepresentsMessage, AreSl
 use Rattle.giop_stream.specs.ViewOfState.{Shows}
 use Rattle.giop_stream.specs.Events.{Event, MessageKey, Open, EventKind, Begins, Takes, Opens, Continues, Cancelled, Faults, Closes, message_key, key, opener_of, has_named, own, header_events, events_of_octet, events_of, events_from, events, opened, open_after}
 use Rattle.giop_stream.specs.HeaderOctets.{fronts}
-use Rattle.giop_stream.specs.Framing.{Message, with_payload, cut, messages}
+use Rattle.giop_stream.specs.Framing.{CutMessage, with_payload, cut, messages}
 use Rattle.giop_stream.specs.Lines.{lines_of_event}
 use Rattle.giop_stream.specs.OpenSlots.{Slot, slots_at}
 use Rattle.giop_stream.specs.EngineState.{State, opener_key, owner_of_next, owner_of_next_in}
@@ -89,7 +89,7 @@ each_parts P (x ∷ xs) ys h = search (arith, each_parts P xs ys h.1)
 
 module _ (P : MessageKey → Type 0) (most : ℕ) where
   -- the first event of a message is an event of the message itself
-  first_own : (still_open : List Open) (m : Message) →
+  first_own : (still_open : List Open) (m : CutMessage) →
       Each (λ e. P e.subject) (events_of most still_open m) → P (message_key m)
   unfolding events_of events_of_octet header_events own with_payload fronts
   first_own still_open m h = go m.payload h
@@ -101,7 +101,7 @@ module _ (P : MessageKey → Type 0) (most : ℕ) where
       go [] k = k.0
       go (x ∷ xs) k = k.0
 
-  pub each_own : (still_open : List Open) (ms : List Message) →
+  pub each_own : (still_open : List Open) (ms : List CutMessage) →
       Each (λ e. P e.subject) (events_from most still_open ms)
       → Each (λ m. P (message_key m)) ms
   unfolding events_from
@@ -121,7 +121,7 @@ of_owner P most p w owner h =
     (each_own P most [] (messages (cut p)) h)).1 in
     go (cut p).current own owner
   where
-    other : (m : Message) (o : Option Open) → opener_of (open_after most p) m ≡ o →
+    other : (m : CutMessage) (o : Option Open) → opener_of (open_after most p) m ≡ o →
         opener_key o ≡ Some w → P w
     other m None e k = absurd cc
     other m (Some o) e k =
@@ -129,13 +129,13 @@ of_owner P most p w owner h =
         subst P same (found_under (λ o. P o.opener) (open_after most p) (key m) o
         (opened_each P [] (events most p) tt h) e)
 
-    by : (m : Message) → P (message_key m) → (b : Bool)
+    by : (m : CutMessage) → P (message_key m) → (b : Bool)
         → (if b then opener_key (opener_of (open_after most p) m) else Some (message_key m))
         ≡ Some w → P w
     by m own true k = other m (opener_of (open_after most p) m) refl k
     by m own false k = search (arith)
 
-    go : (current : Option Message) → Each (λ m. P (message_key m)) (option_to_list current) →
+    go : (current : Option CutMessage) → Each (λ m. P (message_key m)) (option_to_list current) →
         owner_of_next_in (open_after most p) current ≡ Some w → P w
     go None own k = absurd cc
     go (Some m) own k = by m own.0 (has_named m) k
@@ -143,7 +143,7 @@ of_owner P most p w owner h =
 -- ---- What holds of each message holds of the message of each event.
 
 module _ (P : MessageKey → Type 0) (most : ℕ) where
-  of_message : (still_open : List Open) (m : Message) → Each (λ o. P o.opener) still_open →
+  of_message : (still_open : List Open) (m : CutMessage) → Each (λ o. P o.opener) still_open →
       P (message_key m)
       → Each (λ e. P e.subject) (events_of most still_open m)
   unfolding events_of
@@ -154,7 +154,8 @@ module _ (P : MessageKey → Type 0) (most : ℕ) where
       go [] = tt
       go (f ∷ fs) = search (arith, each_append, events_of_octet_each, each_weaker, go fs)
 
-  of_messages : (still_open : List Open) (ms : List Message) → Each (λ o. P o.opener) still_open →
+  of_messages : (still_open : List Open) (ms : List CutMessage) →
+      Each (λ o. P o.opener) still_open →
       Each (λ m. P (message_key m)) ms
       → Each (λ e. P e.subject) (events_from most still_open ms)
   unfolding events_from

@@ -6,7 +6,7 @@ use Rattle.std.proofs.lemmas.List.{length_push}
 use Rattle.giop_checkpoint.specs.declared.fault.StreamFault.{StreamFault}
 use Rattle.giop_message.specs.MessageReader.{IsCausal, IsStreamable}
 use Rattle.giop_stream.specs.Rules.{Rules}
-use Rattle.giop_stream.specs.Framing.{Message, Cut, cut, limit, messages, read_of}
+use Rattle.giop_stream.specs.Framing.{CutMessage, Cut, cut, limit, messages, read_of}
 use Rattle.giop_stream.specs.Stream.{tally}
 use Rattle.giop_stream.proofs.Lists.{by_growth}
 use Rattle.giop_stream.proofs.Cuts.Start.{cut_nothing}
@@ -22,12 +22,13 @@ Within n count held None = (n ≤ limit) × (12 * count + held ≤ n)
 Counted : ℕ → Cut → Type 0
 Counted n c = Within n (length (messages c)) (length c.held) c.stop
 
-settled : (n : ℕ) (whole : List Message) (m : Message) → n ≤ limit → 12 * suc (length whole) ≤ n →
+settled : (n : ℕ) (whole : List CutMessage) (m : CutMessage) → n ≤ limit →
+    12 * suc (length whole) ≤ n →
     Counted n (end_message whole m)
 unfolding Counted end_message messages
 settled n whole m room h = search (arith, length_push, append-nil)
 
-fronted : (n : ℕ) (whole : List Message) (front : List ℕ) (w : Option StreamFault) (b : Bool) →
+fronted : (n : ℕ) (whole : List CutMessage) (front : List ℕ) (w : Option StreamFault) (b : Bool) →
     (length front == 12) ≡ b → n ≤ limit → 12 * length whole + length front ≤ n
     → Counted n (header_case 1 n whole front w b)
 unfolding Counted header_case messages
@@ -35,7 +36,7 @@ fronted n whole front (Some word) b e room h = search (arith, append-nil)
 fronted n whole front None false e room h = search (arith, append-nil)
 fronted n whole front None true e room h = search (arith, settled, eqb-true)
 
-counted_free : (n x : ℕ) (whole : List Message) (current : Option Message) (held : List ℕ) →
+counted_free : (n x : ℕ) (whole : List CutMessage) (current : Option CutMessage) (held : List ℕ) →
     Counted n (of_parts whole current held None)
     → nat_lt limit (suc n) ≡ false → suc n ≤ limit →
     Counted (suc n) (next n x (of_parts whole current held None))
@@ -49,7 +50,7 @@ counted_free n x whole None held h e room = search (
   length_push,
 )
 
-counted_next : (n x : ℕ) (whole : List Message) (current : Option Message) (held : List ℕ)
+counted_next : (n x : ℕ) (whole : List CutMessage) (current : Option CutMessage) (held : List ℕ)
     (stop : Option (ℕ × StreamFault))
     → Counted n (of_parts whole current held stop) →
     Counted (suc n) (next n x (of_parts whole current held stop))

@@ -6,17 +6,17 @@ use Rattle.std.proofs.lemmas.List.{take-append-le, drop-append-le, take_all, dro
 use Rattle.giop_checkpoint.specs.declared.fault.StreamFault.{StreamFault}
 use Rattle.giop_stream.specs.HeaderOctets.{wrong, first_wrong, fronts, first_wrong_octet}
 use Rattle.giop_message.specs.Headers.{size}
-use Rattle.giop_stream.specs.Framing.{Message, with_payload, Cut, with_first, cut_from}
+use Rattle.giop_stream.specs.Framing.{CutMessage, with_payload, Cut, with_first, cut_from}
 use Rattle.giop_stream.proofs.Lists.{wrong_last, offence_stays, offence_comes}
 
 -- the last message: among the complete ones if it has all its octets, else the current one
-unfoldable pub end_message : List Message → Message → Cut
+unfoldable pub end_message : List CutMessage → CutMessage → Cut
 end_message whole m =
     if nat_lt (length m.payload) (size m.header)
     then record { whole = whole; current = Some m; held = []; stop = None }
     else record { whole = whole ++ m ∷ []; current = None; held = []; stop = None }
 
-unfoldable pub header_case : ℕ → ℕ → List Message → List ℕ → Option StreamFault → Bool → Cut
+unfoldable pub header_case : ℕ → ℕ → List CutMessage → List ℕ → Option StreamFault → Bool → Cut
 header_case first n whole front (Some word) twelve =
     record { whole = whole; current = None; held = []; stop = Some (n, word) }
 header_case first n whole front None false =
@@ -29,11 +29,11 @@ header_case first n whole front None true =
       payload = [];
     })
 
-unfoldable pub header_grows : ℕ → ℕ → List Message → List ℕ → Cut
+unfoldable pub header_grows : ℕ → ℕ → List CutMessage → List ℕ → Cut
 header_grows first n whole front = header_case first n whole front (wrong front)
     (length front == 12)
 
-abbrev pub grow_by : ℕ → ℕ → ℕ → Cut → Option (ℕ × StreamFault) → Option Message → Cut
+abbrev pub grow_by : ℕ → ℕ → ℕ → Cut → Option (ℕ × StreamFault) → Option CutMessage → Cut
 grow_by first n x c (Some found) current = c
 grow_by first n x c None (Some m) = end_message c.whole (with_payload m (m.payload ++ x ∷ []))
 grow_by first n x c None None = header_grows first n c.whole (c.held ++ x ∷ [])
@@ -113,12 +113,12 @@ comes : (xs : List ℕ) (x : ℕ) → length xs < 12 → first_wrong_octet (take
     first_wrong_octet (take 12 (xs ++ x ∷ [])) ≡ wrong_last (xs ++ x ∷ [])
 comes xs x h e = search (arith, front_whole, offence_comes, take_all)
 
-settle_open : (whole : List Message) (m : Message) → length m.payload < size m.header
+settle_open : (whole : List CutMessage) (m : CutMessage) → length m.payload < size m.header
     → end_message whole m ≡ record { whole = whole; current = Some m; held = []; stop = None }
 unfolding end_message
 settle_open whole m h = search (arith, lt-ltb)
 
-settle_done : (whole : List Message) (m : Message) → size m.header ≤ length m.payload
+settle_done : (whole : List CutMessage) (m : CutMessage) → size m.header ≤ length m.payload
     → end_message whole m ≡ record {
       whole = whole ++ m ∷ [];
       current = None;
@@ -130,7 +130,7 @@ unfolding end_message
 settle_done whole m h = search (arith, le-ltb)
 
 -- a message that is complete, with no octets after it
-done_is : (fuel number before : ℕ) (m : Message) (c : Cut) → c ≡ end_message [] m →
+done_is : (fuel number before : ℕ) (m : CutMessage) (c : Cut) → c ≡ end_message [] m →
     size m.header ≤ length m.payload
     → c ≡ with_first m (cut_from fuel number before [])
 unfolding with_first nothing
@@ -219,12 +219,12 @@ grows_open fuel number before xs x e h k = search (
 )
 
 -- the same with one more message before the others
-first_settles : (m : Message) (whole : List Message) (last : Message) →
+first_settles : (m : CutMessage) (whole : List CutMessage) (last : CutMessage) →
     with_first m (end_message whole last) ≡ end_message (m ∷ whole) last
 unfolding with_first end_message
 first_settles m whole last = search (arith)
 
-first_case : (number n : ℕ) (m : Message) (whole : List Message) (front : List ℕ)
+first_case : (number n : ℕ) (m : CutMessage) (whole : List CutMessage) (front : List ℕ)
     (w : Option StreamFault) (twelve : Bool)
     → with_first m (header_case (suc number) n whole front w twelve)
     ≡ header_case number n (m ∷ whole) front w twelve
@@ -233,8 +233,8 @@ first_case number n m whole front (Some word) twelve = refl
 first_case number n m whole front None false = refl
 first_case number n m whole front None true = search (arith, first_settles)
 
-first_grows_at : (number n x : ℕ) (m : Message) (whole : List Message) (held : List ℕ)
-    (current : Option Message) (stop : Option (ℕ × StreamFault))
+first_grows_at : (number n x : ℕ) (m : CutMessage) (whole : List CutMessage) (held : List ℕ)
+    (current : Option CutMessage) (stop : Option (ℕ × StreamFault))
     → with_first m (grow (suc number) n x (record {
       whole = whole;
       current = current;
@@ -253,7 +253,7 @@ first_grows_at number n x m whole held current (Some found) = refl
 first_grows_at number n x m whole held (Some last) None = search (arith, first_settles)
 first_grows_at number n x m whole held None None = search (arith, first_case)
 
-first_grows : (number n x : ℕ) (m : Message) (c : Cut) →
+first_grows : (number n x : ℕ) (m : CutMessage) (c : Cut) →
     with_first m (grow (suc number) n x c) ≡ grow number n x (with_first m c)
 first_grows number n x m c = search (arith, first_grows_at)
 

@@ -6,7 +6,7 @@ use Rattle.std.proofs.lemmas.List.{take-append-le, take_all, length_push, append
 use Rattle.giop_checkpoint.specs.declared.fault.StreamFault.{StreamFault}
 use Rattle.giop_checkpoint.specs.declared.fault.StreamFault.TheVariants.{StreamLimit}
 use Rattle.giop_stream.specs.HeaderOctets.{wrong}
-use Rattle.giop_stream.specs.Framing.{Message, with_payload, Cut, cut_from, limit, limited, cut, messages}
+use Rattle.giop_stream.specs.Framing.{CutMessage, with_payload, Cut, cut_from, limit, limited, cut, messages}
 use Rattle.giop_stream.proofs.Cuts.CutFrom.{end_message, header_case, header_grows, grow, cut_from_grows, more_fuel}
 
 -- The cut of the whole stream, with its limit.
@@ -36,7 +36,8 @@ above_is : (p : List ℕ) → limit < length p → cut p ≡ limited true (inner
 unfolding cut inner
 above_is p h = search (arith, lt-ltb)
 
-unfoldable pub of_parts : List Message → Option Message → List ℕ → Option (ℕ × StreamFault) → Cut
+unfoldable pub of_parts : List CutMessage → Option CutMessage → List ℕ →
+    Option (ℕ × StreamFault) → Cut
 of_parts whole current held stop = record {
   whole = whole;
   current = current;
@@ -45,13 +46,13 @@ of_parts whole current held stop = record {
       stop;
 }
 
-pub parts_by : (c : Cut) (current : Option Message) (found : Option (ℕ × StreamFault)) →
+pub parts_by : (c : Cut) (current : Option CutMessage) (found : Option (ℕ × StreamFault)) →
     c.current ≡ current
     → c.stop ≡ found → c ≡ of_parts c.whole current c.held found
 unfolding of_parts
 parts_by c current found e f = search (arith)
 
-limited_stop_at : (whole : List Message) (current : Option Message) (held : List ℕ)
+limited_stop_at : (whole : List CutMessage) (current : Option CutMessage) (held : List ℕ)
     (stop : Option (ℕ × StreamFault))
     (n x : ℕ) → next n x (limited true (of_parts whole current held stop))
     ≡ limited true (of_parts whole current held stop)
@@ -63,7 +64,7 @@ limited_stop : (c : Cut) (n x : ℕ) → next n x (limited true c) ≡ limited t
 unfolding of_parts
 limited_stop c n x = search (arith, limited_stop_at)
 
-at_limit_at : (whole : List Message) (current : Option Message) (held : List ℕ)
+at_limit_at : (whole : List CutMessage) (current : Option CutMessage) (held : List ℕ)
     (stop : Option (ℕ × StreamFault)) (n x : ℕ)
     → n ≡ limit → limited true (of_parts whole current held stop)
     ≡ next n x (of_parts whole current held stop)
@@ -75,7 +76,7 @@ at_limit : (c : Cut) (n x : ℕ) → n ≡ limit → limited true c ≡ next n x
 unfolding of_parts
 at_limit c n x h = at_limit_at c.whole c.current c.held c.stop n x h
 
-grows_free_at : (n x : ℕ) (whole : List Message) (current : Option Message) (held : List ℕ)
+grows_free_at : (n x : ℕ) (whole : List CutMessage) (current : Option CutMessage) (held : List ℕ)
     (stop : Option (ℕ × StreamFault)) → n < limit
     → grow 1 (suc n) x (of_parts whole current held stop)
     ≡ next n x (of_parts whole current held stop)
@@ -113,38 +114,39 @@ cut_grows p x = search (
 
 -- ---- A message that may be complete with this octet.
 
-pub settle_stop : (whole : List Message) (m : Message) → (end_message whole m).stop ≡ None
+pub settle_stop : (whole : List CutMessage) (m : CutMessage) → (end_message whole m).stop ≡ None
 unfolding end_message
 settle_stop whole m = search (arith)
 
-pub settled_messages : (whole : List Message) (m : Message) → messages (end_message whole m) ≡ whole
+pub settled_messages : (whole : List CutMessage) (m : CutMessage) →
+    messages (end_message whole m) ≡ whole
     ++ m ∷ []
 unfolding end_message messages
 settled_messages whole m = search (arith, append-nil)
 
 -- ---- The next octet, from the parts of the cut.
 
-pub next_limit : (c : List Message) (current : Option Message) (held : List ℕ) (n x : ℕ) →
+pub next_limit : (c : List CutMessage) (current : Option CutMessage) (held : List ℕ) (n x : ℕ) →
     nat_lt limit (suc n) ≡ true
     → next n x (of_parts c current held None) ≡ of_parts c current [] (Some (suc n, StreamLimit))
 unfolding next of_parts stopped_at
 next_limit c current held n x k = rw k refl
 
-pub next_payload : (c : List Message) (m : Message) (held : List ℕ) (n x : ℕ) →
+pub next_payload : (c : List CutMessage) (m : CutMessage) (held : List ℕ) (n x : ℕ) →
     nat_lt limit (suc n) ≡ false
     → next n x (of_parts c (Some m) held None)
     ≡ end_message c (with_payload m (m.payload ++ x ∷ []))
 unfolding next of_parts grow
 next_payload c m held n x k = rw k refl
 
-pub next_front : (c : List Message) (held : List ℕ) (n x : ℕ) → nat_lt limit (suc n) ≡ false
+pub next_front : (c : List CutMessage) (held : List ℕ) (n x : ℕ) → nat_lt limit (suc n) ≡ false
     → next n x (of_parts c None held None)
     ≡ header_case 1 (suc n) c (held ++ x ∷ []) (wrong (held ++ x ∷ []))
     (length (held ++ x ∷ []) == 12)
 unfolding next of_parts grow header_grows
 next_front c held n x k = rw k refl
 
-pub next_stopped : (c : List Message) (current : Option Message) (held : List ℕ)
+pub next_stopped : (c : List CutMessage) (current : Option CutMessage) (held : List ℕ)
     (found : ℕ × StreamFault) (n x : ℕ)
     → next n x (of_parts c current held (Some found)) ≡ of_parts c current held (Some found)
 unfolding next of_parts

@@ -4,7 +4,7 @@ use Rattle.std.specs.Prelude.{◌==◌, nat_lt}
 use Rattle.std.proofs.lemmas.List.{length_push}
 use Rattle.giop_checkpoint.specs.declared.fault.StreamFault.{StreamFault}
 use Rattle.giop_stream.specs.HeaderOctets.{wrong}
-use Rattle.giop_stream.specs.Framing.{Message, Cut, limit, cut, messages, with_payload}
+use Rattle.giop_stream.specs.Framing.{CutMessage, Cut, limit, cut, messages, with_payload}
 use Rattle.giop_stream.proofs.Cuts.Cutting.{of_parts, next, cut_grows, next_limit, next_payload, next_front, next_stopped, settled_messages}
 use Rattle.giop_stream.proofs.Cuts.CutFrom.{header_case}
 
@@ -12,13 +12,13 @@ use Rattle.giop_stream.proofs.Cuts.CutFrom.{header_case}
 abbrev Count : Cut → ℕ
 Count c = length (messages c)
 
-front_grows : (first n : ℕ) (whole : List Message) (front : List ℕ) (o : Option StreamFault)
+front_grows : (first n : ℕ) (whole : List CutMessage) (front : List ℕ) (o : Option StreamFault)
     (full : Bool) → length whole ≤ Count (header_case first n whole front o full)
 unfolding header_case messages
 front_grows first n whole front (Some word) full = omega (arith, length-append whole [])
 front_grows first n whole front None false = omega (arith, length-append whole [])
 front_grows first n whole front None true =
-    let m : Message = record {
+    let m : CutMessage = record {
       number = first + length whole;
       before = n - 12;
       header = front;
@@ -26,8 +26,8 @@ front_grows first n whole front None true =
     } in
     omega (arith, ap length (settled_messages whole m), length_push whole m)
 
-module _ (whole : List Message) (held : List ℕ) (n x : ℕ) where
-  next_grows : (current : Option Message) (stop : Option (ℕ × StreamFault)) →
+module _ (whole : List CutMessage) (held : List ℕ) (n x : ℕ) where
+  next_grows : (current : Option CutMessage) (stop : Option (ℕ × StreamFault)) →
       Count (of_parts whole current held stop) ≤ Count (next n x (of_parts whole current held stop))
   unfolding of_parts messages
   next_grows current (Some found) = omega (
@@ -37,7 +37,7 @@ module _ (whole : List Message) (held : List ℕ) (n x : ℕ) where
   )
   next_grows current None = go (nat_lt limit (suc n)) refl current
     where
-      go : (b : Bool) → nat_lt limit (suc n) ≡ b → (current : Option Message) →
+      go : (b : Bool) → nat_lt limit (suc n) ≡ b → (current : Option CutMessage) →
           Count (of_parts whole current held None)
           ≤ Count (next n x (of_parts whole current held None))
       go true e current = omega (arith, ap Count (next_limit whole current held n x e))

@@ -6,11 +6,11 @@ use Rattle.std.proofs.lemmas.Bool.{cases_lt, eq-eqb, ne_eqb}
 use Rattle.giop_checkpoint.specs.declared.fault.StreamFault.{StreamFault}
 use Rattle.giop_message.specs.Headers.{size}
 use Rattle.giop_stream.specs.HeaderOctets.{first_wrong_octet}
-use Rattle.giop_stream.specs.Framing.{Message, with_first, cut_from, limit, limited, cut, messages}
+use Rattle.giop_stream.specs.Framing.{CutMessage, with_first, cut_from, limit, limited, cut, messages}
 use Rattle.giop_stream.proofs.Cuts.CutFrom.{cut_wrong, cut_short, cut_open, cut_more}
 
 -- the numbers of the messages are n, n + 1, and so on
-abbrev NumberedFrom : ℕ → List Message → Type 0
+abbrev NumberedFrom : ℕ → List CutMessage → Type 0
 NumberedFrom n [] = Unit {0}
 NumberedFrom n (m ∷ ms) = (m.number ≡ n) × NumberedFrom (suc n) ms
 
@@ -30,7 +30,7 @@ from_cut (suc fuel) number before xs =
     go rest (Some found) e = search (arith, cut_wrong)
     go rest None e = search (arith, cases_lt, cut_short, drop, take, cut_open, cut_more)
 
-limited_same : (b : Bool) (whole : List Message) (current : Option Message) (held : List ℕ)
+limited_same : (b : Bool) (whole : List CutMessage) (current : Option CutMessage) (held : List ℕ)
     (stop : Option (ℕ × StreamFault))
     → messages (limited b (record { whole = whole; current = current; held = held; stop = stop }))
     ≡ whole ++ option_to_list current
@@ -47,25 +47,26 @@ numbered p =
     c.stop)) (from_cut (suc (length p)) 1 0 (take limit p))
 
 -- the header of the message that has a number
-pub header_of_number : List Message → ℕ → Option (List ℕ)
+pub header_of_number : List CutMessage → ℕ → Option (List ℕ)
 header_of_number [] n = None
 header_of_number (m ∷ ms) n = if m.number == n then Some m.header else header_of_number ms n
 
-abbrev IsOfNumber : List Message → Message → Type 0
+abbrev IsOfNumber : List CutMessage → CutMessage → Type 0
 IsOfNumber ms m = header_of_number ms m.number ≡ Some m.header
 
-later : (k n : ℕ) (ms : List Message) → n < k → NumberedFrom k ms → Each (λ m. n < m.number) ms
+later : (k n : ℕ) (ms : List CutMessage) → n < k → NumberedFrom k ms → Each (λ m. n < m.number) ms
 later k n [] h from = tt
 later k n (m ∷ ms) h from = search (arith, later (suc k) n ms (omega (arith, h)) from.1)
 
-behind : (first : Message) (ms some : List Message) → Each (λ m. first.number < m.number) some →
+behind : (first : CutMessage) (ms some : List CutMessage) → Each (λ m. first.number < m.number)
+    some →
     Each (IsOfNumber ms) some
     → Each (IsOfNumber (first ∷ ms)) some
 unfolding header_of_number
 behind first ms [] above h = tt
 behind first ms (m ∷ some) above h = search (arith, ne_eqb, behind first ms some above.1 h.1)
 
-each_of_number : (k : ℕ) (ms : List Message) → NumberedFrom k ms → Each (IsOfNumber ms) ms
+each_of_number : (k : ℕ) (ms : List CutMessage) → NumberedFrom k ms → Each (IsOfNumber ms) ms
 unfolding header_of_number
 each_of_number k [] from = tt
 each_of_number k (m ∷ ms) from = (

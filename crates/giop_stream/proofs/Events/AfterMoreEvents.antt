@@ -10,7 +10,7 @@ use Rattle.giop_stream.specs.Rules.{Rules}
 use Rattle.giop_stream.specs.Framing.{cut}
 use Rattle.giop_message.specs.MessageReader.{MessageReader, IsCausal}
 use Rattle.giop_stream.specs.Events.{Event, opened, events, open_after}
-use Rattle.giop_stream.specs.Lines.{Line, lines_of_events, by_class, in_order, lines_of_messages, stop_line, lines}
+use Rattle.giop_stream.specs.Lines.{StreamLine, lines_of_events, by_class, in_order, lines_of_messages, stop_line, lines}
 use Rattle.giop_stream.specs.Stream.{fault_count, is_over}
 use Rattle.giop_stream.specs.OpenSlots.{octets_of}
 use Rattle.giop_stream.specs.Effects.{kept_with, kept_after}
@@ -45,7 +45,7 @@ message_lines_grow R causal p p' es len ev old new =
       standing_append none (in_order (length p) before)
           (by_class more),
     )
-    (ap (λ (ls : List Line). lines_of_messages R p ++ ls)
+    (ap (λ (ls : List StreamLine). lines_of_messages R p ++ ls)
     (standing_all_lines R.reading (is_over R p) (events R.most p) es))
 
 pub message_lines_same : (R : Rules) → IsCausal R.reading → (p p' : List ℕ) →
@@ -69,7 +69,7 @@ octets_by true false xs ys = refl
 octets_by false true xs ys = refl
 octets_by false false xs ys = refl
 
-pub octets_grow : (R : Rules) (p p' : List ℕ) (es : List Event) (ls : List Line) →
+pub octets_grow : (R : Rules) (p p' : List ℕ) (es : List Event) (ls : List StreamLine) →
     events R.most p' ≡ events R.most p ++ es
     → lines_of_messages R p' ≡ lines_of_messages R p ++ ls → (i : ℕ) →
     octets_of R p' i ≡ kept_after (kept_with (octets_of R p) es) ls i
@@ -91,7 +91,8 @@ pub open_idle : (most : ℕ) (p p' : List ℕ) → events most p' ≡ events mos
 unfolding open_after
 open_idle most p p' ev = rw ev refl
 
-pub count_append : (xs ys : List Line) → fault_count (xs ++ ys) ≡ fault_count xs + fault_count ys
+pub count_append : (xs ys : List StreamLine) → fault_count (xs ++ ys) ≡ fault_count xs +
+    fault_count ys
 unfolding fault_count
 count_append xs ys = search (arith, filter-append, length-append)
 

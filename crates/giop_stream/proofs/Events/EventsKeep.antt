@@ -6,7 +6,7 @@ use Rattle.std.proofs.lemmas.Bool.{leb-false, eqb-true, eq-eqb}
 use Rattle.std.proofs.lemmas.List.{length_push}
 use Rattle.giop_stream.specs.declared.fault.FramingFault.{FramingFault}
 use Rattle.giop_stream.specs.Kinds.{is_old, has_fragments, named_at}
-use Rattle.giop_stream.specs.Framing.{Message}
+use Rattle.giop_stream.specs.Framing.{CutMessage}
 use Rattle.giop_stream.specs.Events.{EventKind, Opens, Cancelled, Faults, Closes, MessageKey, Event, Open, message_key, own, event_of_open, id, key, is_id, opener_of, opens, cancels, events_at_name, events_at_end, events_of_octet, changed, opened, Rising, now_of, naming_events, message_end_events}
 use Rattle.giop_stream.proofs.Lists.{each_append, each_filter}
 use Rattle.giop_stream.proofs.Events.EventsOfOctet.{opened_append, quiet_if, quiet_header, quiet_octet, quiet_continues}
@@ -14,24 +14,25 @@ use Rattle.giop_stream.proofs.Events.EventsOfOctet.{opened_append, quiet_if, qui
 -- ---- A property is kept if it passes to fewer open messages, and to one more when an opener
 -- becomes open.
 
-unfoldable pub opened_by : Message → Open
+unfoldable pub opened_by : CutMessage → Open
 opened_by m = record { key = key m; opener = message_key m }
 
 -- the case in which m becomes open
-pub record CanOpen (most : ℕ) (still_open : List Open) (m : Message) : Type 0 where
+pub record CanOpen (most : ℕ) (still_open : List Open) (m : CutMessage) : Type 0 where
   pub named : length m.payload ≡ named_at m.header
   pub opener : has_fragments m.header ≡ true
   pub id_is : key m ≡ Some (id m)
   pub none : opener_of still_open m ≡ None
   pub room : length still_open < most
 
-pub record IsKept (most : ℕ) (Q : List Open → Type 0) (still_open : List Open) (m : Message) : Type
+pub record IsKept (most : ℕ) (Q : List Open → Type 0) (still_open : List Open) (m : CutMessage) :
+    Type
     0 where
   pub fewer : (test : Open → Bool) (still_open : List Open) → Q still_open →
       Q (filter test still_open)
   pub more : CanOpen most still_open m → Q still_open → Q (still_open ++ opened_by m ∷ [])
 
-module _ (most : ℕ) (Q : List Open → Type 0) (now : List Open) (m : Message)
+module _ (most : ℕ) (Q : List Open → Type 0) (now : List Open) (m : CutMessage)
     (k : IsKept most Q now m) where
   -- an event that opens no message keeps Q
   abbrev Plain : EventKind → Type 0
@@ -134,7 +135,7 @@ module _ (most : ℕ) (Q : List Open → Type 0) (now : List Open) (m : Message)
     kept_end,
   )
 
-pub kept_events : (most : ℕ) (Q : List Open → Type 0) (still_open : List Open) (m : Message) →
+pub kept_events : (most : ℕ) (Q : List Open → Type 0) (still_open : List Open) (m : CutMessage) →
     IsKept most Q still_open m → Q still_open →
     Q (opened still_open (events_of_octet most still_open m))
 kept_events most Q still_open m k q = kept_parts most Q still_open m k q
@@ -160,7 +161,7 @@ pub rising_push : (still_open : List Open) (o : Open) → Rising still_open →
 rising_push [] o h k = (tt, tt)
 rising_push (a ∷ still_open) o h k = search (arith, each_append, rising_push still_open o h.1 k.1)
 
-pub rising_events : (most : ℕ) (still_open : List Open) (m : Message) → Rising still_open →
+pub rising_events : (most : ℕ) (still_open : List Open) (m : CutMessage) → Rising still_open →
     (length m.payload ≡ named_at m.header → Below m.number still_open) →
     Rising (opened still_open (events_of_octet most still_open m))
 rising_events most still_open m r h =
@@ -190,7 +191,7 @@ few_push : (most : ℕ) (still_open : List Open) (o : Open) → length still_ope
 unfolding IsFew
 few_push most still_open o h = search (arith, length_push)
 
-pub few_events : (most : ℕ) (still_open : List Open) (m : Message) → IsFew most still_open →
+pub few_events : (most : ℕ) (still_open : List Open) (m : CutMessage) → IsFew most still_open →
     IsFew most (opened still_open (events_of_octet most still_open m))
 few_events most still_open m h = kept_events most (IsFew most) still_open m
     (record {
@@ -240,7 +241,7 @@ none_found i [] h = tt
 none_found i (a ∷ still_open) h = none_by i a still_open (is_id i a.key) refl
     (none_found i still_open) h
 
-pub differ_events : (most : ℕ) (still_open : List Open) (m : Message) → Differ still_open →
+pub differ_events : (most : ℕ) (still_open : List Open) (m : CutMessage) → Differ still_open →
     Differ (opened still_open (events_of_octet most still_open m))
 unfolding opener_of opened_by
 differ_events most still_open m h =
@@ -266,7 +267,7 @@ openers_push : (still_open : List Open) (o : Open) → AreOpeners still_open →
 unfolding AreOpeners
 openers_push still_open o h k = search (arith, each_append)
 
-pub openers_events : (most : ℕ) (still_open : List Open) (m : Message) → AreOpeners still_open →
+pub openers_events : (most : ℕ) (still_open : List Open) (m : CutMessage) → AreOpeners still_open →
     AreOpeners (opened still_open (events_of_octet most still_open m))
 openers_events most still_open m h =
     kept_events most AreOpeners still_open m (record {

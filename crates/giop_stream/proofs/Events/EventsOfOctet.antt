@@ -9,7 +9,7 @@ use Rattle.giop_stream.specs.declared.fault.FramingFault.{FramingFault}
 use Rattle.giop_stream.specs.HeaderOctets.{fronts}
 use Rattle.giop_message.specs.Headers.{size}
 use Rattle.giop_stream.specs.Kinds.{is_any_fragment, named_at}
-use Rattle.giop_stream.specs.Framing.{Message, with_payload}
+use Rattle.giop_stream.specs.Framing.{CutMessage, with_payload}
 use Rattle.giop_stream.specs.Events.{EventKind, Begins, Takes, Opens, Continues, Cancelled, Faults, Closes, MessageKey, Event, Open, message_key, place, own, event_of_open, key, open_under, opener_of, has_named, goes_past, continues, events_at_name, events_of_octet, events_of, changed, opened, events_from, now_of, header_events, payload_events, naming_events, message_end_events, events_with_key, Now}
 use Rattle.giop_stream.proofs.Events.MessageKinds.{long_enough}
 use Rattle.giop_stream.proofs.Events.EventInduction.{IsJoined, either, of_header, of_later}
@@ -21,7 +21,7 @@ unfolding opened
 opened_append still_open [] more = refl
 opened_append still_open (e ∷ es) more = opened_append (changed still_open e.subject e.what) es more
 
-pub events_from_push : (most : ℕ) (still_open : List Open) (ms : List Message) (m : Message)
+pub events_from_push : (most : ℕ) (still_open : List Open) (ms : List CutMessage) (m : CutMessage)
     → events_from most still_open (ms ++ m ∷ []) ≡ events_from most still_open ms
     ++ events_of most (opened still_open (events_from most still_open ms)) m
 unfolding events_from opened
@@ -36,14 +36,14 @@ events_from_push most still_open (first ∷ ms) m =
     (events_of most (opened (opened still_open es) (events_from most (opened still_open es) ms))
     m)))
 
-pub events_of_push : (most : ℕ) (still_open : List Open) (m : Message) (xs : List ℕ) (x : ℕ)
+pub events_of_push : (most : ℕ) (still_open : List Open) (m : CutMessage) (xs : List ℕ) (x : ℕ)
     → events_of most still_open (with_payload m (xs ++ x ∷ []))
     ≡ events_of most still_open (with_payload m xs) ++ events_of_octet most still_open
     (with_payload m (xs ++ x ∷ []))
 unfolding events_of
 events_of_push most still_open m xs x = search (arith, fronts_push, flat_map-append, append-nil)
 
-pub events_of_none : (most : ℕ) (still_open : List Open) (m : Message) →
+pub events_of_none : (most : ℕ) (still_open : List Open) (m : CutMessage) →
     events_of most still_open (with_payload m [])
     ≡ events_of_octet most still_open (with_payload m [])
 unfolding events_of fronts
@@ -128,17 +128,18 @@ quiet_continues still_open now key (Some o) = search (
 
 -- Before the last octet of a message, no message opens or closes, if the message has no place among
 -- the open ones yet, or is a Fragment.
-abbrev pub IsQuiet : Message → Type 0
+abbrev pub IsQuiet : CutMessage → Type 0
 IsQuiet m = (length m.payload < named_at m.header) ⊎ (is_any_fragment m.header ≡ true)
 
-pub quiet_name : (most : ℕ) (still_open : List Open) (m : Message) →
+pub quiet_name : (most : ℕ) (still_open : List Open) (m : CutMessage) →
     (length m.payload == named_at m.header) ≡ true → IsQuiet m →
     opened still_open (events_at_name most still_open m) ≡ still_open
 unfolding naming_events
 quiet_name most still_open m e (inl k) = search (arith, eqb-true)
 quiet_name most still_open m e (inr k) = search (arith, quiet_continues)
 
-pub quiet_one : (most : ℕ) (still_open : List Open) (m : Message) → length m.payload < size m.header
+pub quiet_one : (most : ℕ) (still_open : List Open) (m : CutMessage) →
+    length m.payload < size m.header
     → IsQuiet m → opened still_open (events_of_octet most still_open m) ≡ still_open
 unfolding events_of_octet
 quiet_one most still_open m h k = search (
@@ -152,7 +153,7 @@ quiet_one most still_open m h k = search (
   quiet_none,
 )
 
-payload_run : (most : ℕ) (still_open : List Open) (m : Message) (xs : List ℕ) →
+payload_run : (most : ℕ) (still_open : List Open) (m : CutMessage) (xs : List ℕ) →
     length xs < size m.header → IsQuiet (with_payload m xs) →
     opened still_open (events_of most still_open (with_payload m xs)) ≡ still_open
 payload_run most still_open m =
@@ -172,13 +173,14 @@ payload_run most still_open m =
 
 -- The events of an octet are the same, whether they are computed from the messages that were open
 -- before its message or from those that are open now.
-free : (most : ℕ) (still_open other : List Open) (m : Message) →
+free : (most : ℕ) (still_open other : List Open) (m : CutMessage) →
     named_at m.header < length m.payload → is_any_fragment m.header ≡ false →
     events_of_octet most still_open m ≡ events_of_octet most other m
 unfolding events_of_octet payload_events message_end_events goes_past
 free most still_open other m h k = search (arith, ne_eqb)
 
-pub events_of_octet_same : (most : ℕ) (still_open : List Open) (m : Message) (xs : List ℕ) (x : ℕ) →
+pub events_of_octet_same : (most : ℕ) (still_open : List Open) (m : CutMessage) (xs : List ℕ) (x :
+    ℕ) →
     length xs < size m.header
     → events_of_octet most still_open (with_payload m (xs ++ x ∷ []))
     ≡ events_of_octet most (opened still_open (events_of most still_open (with_payload m xs)))
@@ -263,7 +265,8 @@ module _ (most : ℕ) (P : Event → Type 0) (still_open : List Open) (now : Now
             λ what later. about_each P now other what k;
       }))
 
-pub events_of_octet_each : (most : ℕ) (P : Event → Type 0) (still_open : List Open) (m : Message) →
+pub events_of_octet_each : (most : ℕ) (P : Event → Type 0) (still_open : List Open) (m :
+    CutMessage) →
     ((what : EventKind) → P (record { place = place m; subject = message_key m; what = what }))
     → Each (λ o. (what : EventKind) → P (record {
       place = place m;
@@ -295,7 +298,8 @@ module _ (most : ℕ) (P : Event → Type 0) (still_open : List Open) (now : Now
   unfolding events_with_key
   past_each = search (arith, ne_eqb, each_append, past_octet, either, past_end)
 
-pub events_of_octet_agree : (most : ℕ) (P : Event → Type 0) (still_open : List Open) (m : Message) →
+pub events_of_octet_agree : (most : ℕ) (P : Event → Type 0) (still_open : List Open) (m :
+    CutMessage) →
     length m.payload ≤ size m.header
     → (goes_past m ≡ false → (what : EventKind) →
     P (record { place = place m; subject = message_key m; what = what }))
@@ -316,11 +320,12 @@ events_of_octet_agree most P still_open m long h k = go (goes_past m) refl
     go true e = search (arith, and_parts, past_each, ltb-true, one)
 
 -- a message before it has its place among the open ones
-pub not_past : (m : Message) → has_named m ≡ false → goes_past m ≡ false
+pub not_past : (m : CutMessage) → has_named m ≡ false → goes_past m ≡ false
 unfolding has_named goes_past
 not_past m h = search (arith, leb-false, le-ltb)
 
-pub not_named : (m : Message) (x : ℕ) → goes_past (with_payload m (m.payload ++ x ∷ [])) ≡ false →
+pub not_named : (m : CutMessage) (x : ℕ) → goes_past (with_payload m (m.payload ++ x ∷ [])) ≡
+    false →
     has_named m ≡ false
 unfolding has_named goes_past
 not_named m x h = search (arith, ltb-false, lt-leb, length_push)

@@ -8,9 +8,9 @@ use Rattle.giop_checkpoint.specs.declared.fault.StreamFault.{StreamFault}
 use Rattle.giop_message.specs.MessageReader.{LineClass, Value, Call, Rest, Fault, End, MessageReader, IsCausal, IsStreamable}
 use Rattle.giop_stream.specs.HeaderOctets.{fronts, first_wrong_octet}
 use Rattle.giop_stream.specs.Rules.{Rules}
-use Rattle.giop_stream.specs.Framing.{Message, with_payload, Cut, with_first, cut_from, limit, stop_or_limit, limited, cut, messages}
+use Rattle.giop_stream.specs.Framing.{CutMessage, with_payload, Cut, with_first, cut_from, limit, stop_or_limit, limited, cut, messages}
 use Rattle.giop_stream.specs.Events.{EventKind, Begins, Takes, Opens, Continues, Cancelled, Faults, Closes, Event, Open, events_of_octet, events_of, opened, events_from, events}
-use Rattle.giop_stream.specs.Lines.{Content, Said, Line, line, lines_of_event, lines_of_events, by_class, in_order, ends, is_last_of, up_to_last_line, lines_of_messages, stop_line, lines}
+use Rattle.giop_stream.specs.Lines.{Content, Said, StreamLine, line, lines_of_event, lines_of_events, by_class, in_order, ends, is_last_of, up_to_last_line, lines_of_messages, stop_line, lines}
 use Rattle.giop_stream.specs.Stream.{is_fault, fault_count, is_inside, is_truncated, tally, final}
 use Rattle.giop_stream.proofs.Lists.{each_append, each_weaker, each_map, each_filter}
 use Rattle.giop_stream.proofs.Cuts.CutFrom.{cut_wrong, cut_short, cut_open, cut_more}
@@ -28,7 +28,7 @@ abbrev Numbered : ℕ → Cut → Type 0
 Numbered first c = Each (λ m. (first ≤ m.number) × (m.number < first + length (messages c)))
     (messages c)
 
-numbered_first : (first : ℕ) (m : Message) (c : Cut) → m.number ≡ first → Numbered (suc first) c
+numbered_first : (first : ℕ) (m : CutMessage) (c : Cut) → m.number ≡ first → Numbered (suc first) c
     → Numbered first (with_first m c)
 unfolding with_first messages
 numbered_first first m c number h = search (arith, each_weaker)
@@ -84,7 +84,7 @@ module _ (most : ℕ) (P : ℕ → Type 0) where
   abbrev Live : List Open → Type 0
   Live still_open = Each (λ o. P o.opener.number) still_open
 
-  events_of_each : (still_open : List Open) (m : Message) → P m.number → Live still_open →
+  events_of_each : (still_open : List Open) (m : CutMessage) → P m.number → Live still_open →
       Named (events_of most still_open m)
   unfolding events_of
   events_of_each still_open m h k = go (fronts m.payload)
@@ -97,7 +97,7 @@ module _ (most : ℕ) (P : ℕ → Type 0) where
       go [] = tt
       go (front ∷ fs) = search (arith, each_append, here, go fs)
 
-  events_each : (still_open : List Open) (ms : List Message) → Live still_open →
+  events_each : (still_open : List Open) (ms : List CutMessage) → Live still_open →
       Each (λ m. P m.number) ms
       → Named (events_from most still_open ms)
   unfolding events_from
@@ -110,7 +110,7 @@ module _ (most : ℕ) (P : ℕ → Type 0) where
       (events_each (opened still_open es) ms then_still_open k.1)
 
 -- a line of one of n messages, which is the message's last line if it is a fault
-record IsOne (n : ℕ) (l : Line) : Type 0 where
+record IsOne (n : ℕ) (l : StreamLine) : Type 0 where
   number : IsNumber n l.number
   last : is_fault l.content ≡ true → ends l.content ≡ true
 
@@ -152,7 +152,8 @@ lines_each R n all past (e ∷ es) h = search (
       ++ e ∷ []) es h.1,
 )
 
-order_each : (P : Line → Type 0) (n : ℕ) (ls : List Line) → Each P ls → Each P (in_order n ls)
+order_each : (P : StreamLine → Type 0) (n : ℕ) (ls : List StreamLine) → Each P ls →
+    Each P (in_order n ls)
 unfolding in_order by_class
 order_each P zero ls h = tt
 order_each P (suc n) ls h = search (
@@ -201,7 +202,7 @@ module _ (f g : ℕ → Bool) (more : (i : ℕ) → f i ≡ true → g i ≡ tru
         omega (arith, one, less_free k n (h.0, omega (arith, h.1, other)) e d)
   ]
 
-faults_free : (n : ℕ) (over : ℕ → Bool) (ls : List Line) → Each (IsOne n) ls
+faults_free : (n : ℕ) (over : ℕ → Bool) (ls : List StreamLine) → Each (IsOne n) ls
     → fault_count (up_to_last_line over ls) ≤ free over n
 unfolding up_to_last_line fault_count is_last_of
 faults_free n over [] h = omega arith
@@ -273,7 +274,7 @@ unfolding stop_count
 free_stop None e = refl
 free_stop (Some found) e = absurd cc
 
-one_end : (stop : Option (ℕ × StreamFault)) (current : Option Message) (held : List ℕ)
+one_end : (stop : Option (ℕ × StreamFault)) (current : Option CutMessage) (held : List ℕ)
     → stop_count stop + (if is_inside current held stop then 1 else 0) ≤ 1
 unfolding stop_count is_inside
 one_end (Some found) current held = omega arith

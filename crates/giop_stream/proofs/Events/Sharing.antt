@@ -4,7 +4,7 @@ use Rattle.std.specs.Prelude.{◌==◌, if◌then◌else◌}
 use Rattle.std.proofs.lemmas.Bool.{lt-ltb, le-ltb, cases_lt, ne_eqb, eq-eqb}
 use Rattle.std.proofs.lemmas.List.{append-nil, length_push, get_or_push, take-append-le, drop-append-le, take_all, drop_all}
 use Rattle.giop_stream.specs.Kinds.{is_old, named_at}
-use Rattle.giop_stream.specs.Framing.{Message, with_payload, cut, messages}
+use Rattle.giop_stream.specs.Framing.{CutMessage, with_payload, cut, messages}
 use Rattle.giop_stream.specs.Events.{EventKind, Begins, Takes, Faults, Event, Open, own, event_of_open, id, key, opener_of, goes_past, events_at_header, events_at_octet, events_of_octet, events_of, opened, events_from, events, octet, joined, now_of, header_events, payload_events, Now}
 use Rattle.giop_stream.specs.Shares.{continued, share, shares}
 use Rattle.giop_stream.proofs.Lists.{by_growth}
@@ -59,7 +59,8 @@ silent_header i now =
     (λ fault. silent_own i now (Faults fault) refl)
 
 -- What one more octet of a message gives to message i.
-events_of_octet_is : (most : ℕ) (i : ℕ) (still_open : List Open) (m : Message) (first : List Event)
+events_of_octet_is : (most : ℕ) (i : ℕ) (still_open : List Open) (m : CutMessage) (first : List
+    Event)
     → (if length m.payload == 0 then events_at_header m else events_at_octet still_open m) ≡ first →
     joined i (events_of_octet most still_open m) ≡ joined i first
 unfolding events_of_octet IsSilent
@@ -76,12 +77,12 @@ events_of_octet_is most i still_open m first h =
           }),
     ) (append-nil (joined i first))
 
-pub header_joined : (most : ℕ) (i : ℕ) (still_open : List Open) (m : Message) → m.payload ≡ [] →
+pub header_joined : (most : ℕ) (i : ℕ) (still_open : List Open) (m : CutMessage) → m.payload ≡ [] →
     joined i (events_of_octet most still_open m) ≡ []
 header_joined most i still_open m h = search (arith, events_of_octet_is, silent_header)
 
 -- what one more octet of m adds to the share of i
-unfoldable pub more_of : ℕ → List Open → Message → ℕ → List ℕ
+unfoldable pub more_of : ℕ → List Open → CutMessage → ℕ → List ℕ
 more_of i still_open m x = if goes_past m then continued i (opener_of still_open m) (x ∷ []) else
     (if m.number == i then x ∷ [] else [])
 
@@ -92,7 +93,8 @@ unfolding octet
 takes_if i now o x true = about_is i now o (Takes x)
 takes_if i now o x false = own_is i now (Takes x)
 
-pub octet_joined : (most : ℕ) (i : ℕ) (still_open : List Open) (m : Message) (xs : List ℕ) (x : ℕ)
+pub octet_joined : (most : ℕ) (i : ℕ) (still_open : List Open) (m : CutMessage) (xs : List ℕ) (x
+    : ℕ)
     → joined i (events_of_octet most still_open (with_payload m (xs ++ x ∷ [])))
     ≡ more_of i still_open (with_payload m (xs ++ x ∷ [])) x
 unfolding more_of payload_events goes_past
@@ -107,7 +109,7 @@ octet_joined most i still_open m xs x = search (
 )
 
 -- an octet that does not come after a Fragment has its place among the open messages
-pub own_joined : (most : ℕ) (still_open : List Open) (m : Message) (xs : List ℕ) (x : ℕ) →
+pub own_joined : (most : ℕ) (still_open : List Open) (m : CutMessage) (xs : List ℕ) (x : ℕ) →
     goes_past (with_payload m (xs ++ x ∷ [])) ≡ false
     → joined m.number (events_of_octet most still_open (with_payload m (xs ++ x ∷ []))) ≡ x ∷ []
 unfolding more_of
@@ -129,25 +131,25 @@ unfolding continued
 continued_none i None = refl
 continued_none i (Some o) = search (arith, both_empty)
 
-same_id : (m : Message) (xs : List ℕ) (x : ℕ) → 4 ≤ length xs →
+same_id : (m : CutMessage) (xs : List ℕ) (x : ℕ) → 4 ≤ length xs →
     id (with_payload m (xs ++ x ∷ [])) ≡ id (with_payload m xs)
 unfolding id
 same_id m xs x h = search (arith, take-append-le)
 
-same_key : (m : Message) (xs : List ℕ) (x : ℕ) → named_at m.header ≤ length xs → (b : Bool) →
+same_key : (m : CutMessage) (xs : List ℕ) (x : ℕ) → named_at m.header ≤ length xs → (b : Bool) →
     is_old m.header ≡ b → key (with_payload m (xs ++ x ∷ [])) ≡ key (with_payload m xs)
 unfolding key
 same_key m xs x h true e = rw e refl
 same_key m xs x h false e = search (arith, same_id, named_four)
 
-same_opener : (still_open : List Open) (m : Message) (xs : List ℕ) (x : ℕ) →
+same_opener : (still_open : List Open) (m : CutMessage) (xs : List ℕ) (x : ℕ) →
     named_at m.header ≤ length xs
     → opener_of still_open (with_payload m (xs ++ x ∷ []))
     ≡ opener_of still_open (with_payload m xs)
 unfolding opener_of
 same_opener still_open m xs x h = search (arith, same_key)
 
-share_grows : (i : ℕ) (still_open : List Open) (m : Message) (xs : List ℕ) (x : ℕ)
+share_grows : (i : ℕ) (still_open : List Open) (m : CutMessage) (xs : List ℕ) (x : ℕ)
     → share i still_open (with_payload m (xs ++ x ∷ [])) ≡ share i still_open (with_payload m xs)
     ++ more_of i still_open
     (with_payload m (xs ++ x ∷ [])) x
@@ -172,12 +174,12 @@ share_grows i still_open m xs x = search (
   take,
 )
 
-share_none : (i : ℕ) (still_open : List Open) (m : Message) →
+share_none : (i : ℕ) (still_open : List Open) (m : CutMessage) →
     share i still_open (with_payload m []) ≡ []
 unfolding share
 share_none i still_open m = search (arith, both_empty, continued_none)
 
-one_joined : (most : ℕ) (i : ℕ) (still_open : List Open) (m : Message) →
+one_joined : (most : ℕ) (i : ℕ) (still_open : List Open) (m : CutMessage) →
     joined i (events_of most still_open m) ≡ share i still_open m
 one_joined most i still_open m = by_growth
     (λ xs. joined i (events_of most still_open (with_payload m xs))
@@ -194,7 +196,7 @@ one_joined most i still_open m = by_growth
     ) (sym (share_grows i still_open m xs x)))
     m.payload
 
-from_joined : (most : ℕ) (i : ℕ) (still_open : List Open) (ms : List Message) →
+from_joined : (most : ℕ) (i : ℕ) (still_open : List Open) (ms : List CutMessage) →
     joined i (events_from most still_open ms) ≡ shares most i still_open ms
 unfolding events_from shares IsSilent
 from_joined most i still_open [] = (silent_both i).none

@@ -8,10 +8,10 @@ use Rattle.giop_message.specs.Headers.{size}
 use Rattle.giop_stream.specs.Kinds.{named_at}
 use Rattle.std.proofs.lemmas.List.{length_push}
 use Rattle.giop_stream.specs.Rules.{Rules}
-use Rattle.giop_stream.specs.Framing.{Message, with_payload, Cut, cut, messages}
+use Rattle.giop_stream.specs.Framing.{CutMessage, with_payload, Cut, cut, messages}
 use Rattle.giop_message.specs.MessageReader.{MessageReader, IsCausal}
 use Rattle.giop_stream.specs.Events.{EventKind, Event, Open, place, events_of_octet, opened, events_from, events, open_after, joined, Rising}
-use Rattle.giop_stream.specs.Lines.{Line, is_last_of, lines}
+use Rattle.giop_stream.specs.Lines.{StreamLine, is_last_of, lines}
 use Rattle.giop_stream.specs.Stream.{start_count}
 use Rattle.giop_stream.specs.OpenSlots.{OctetsByNumber, octets_of}
 use Rattle.giop_stream.specs.Effects.{kept_with, kept_after}
@@ -26,7 +26,7 @@ use Rattle.giop_stream.proofs.StreamLines.StartLines.{start_append}
 use Rattle.giop_stream.proofs.Events.AfterMoreEvents.{message_lines_grow, octets_grow, open_grows, lines_free}
 
 -- ---- The invariants.
-pub record CurrentFits (n : ℕ) (c : Cut) (m : Message) : Type 0 where
+pub record CurrentFits (n : ℕ) (c : Cut) (m : CutMessage) : Type 0 where
   pub place_is : place m ≡ n
   pub lacks : length m.payload < size m.header
   pub number_is : m.number ≡ suc (length c.whole)
@@ -59,16 +59,16 @@ pub record IsSound (R : Rules) (p : List ℕ) : Type 0 where
       (λ m. length m.payload ≤ named_at m.header →
       joined m.number (events R.most p) ≡ m.payload)
 
-settled_fits : (n : ℕ) (whole : List Message) (m : Message) → place m ≡ n →
+settled_fits : (n : ℕ) (whole : List CutMessage) (m : CutMessage) → place m ≡ n →
     m.number ≡ suc (length whole) → length m.header ≡ 12 → Fits n (end_message whole m)
 unfolding end_message
 settled_fits n whole m h k t = search (arith, ltb-true)
 
-settled_length : (whole : List Message) (m : Message) →
+settled_length : (whole : List CutMessage) (m : CutMessage) →
     length (messages (end_message whole m)) ≡ suc (length whole)
 settled_length whole m = search (arith, settled_messages, length_push)
 
-settled_early : (most : ℕ) (whole : List Message) (m : Message) (still_open : List Open) →
+settled_early : (most : ℕ) (whole : List CutMessage) (m : CutMessage) (still_open : List Open) →
     (length m.payload ≤ named_at m.header → Below m.number still_open)
     → IfSome (end_message whole m).current
     (λ m. length m.payload < named_at m.header → Below m.number
@@ -76,24 +76,26 @@ settled_early : (most : ℕ) (whole : List Message) (m : Message) (still_open : 
 unfolding end_message
 settled_early most whole m still_open h = search (arith, quiet_one, ltb-true)
 
-pub settled_current : (whole : List Message) (m : Message) (P Q : Message → Type 0) → (P m → Q m)
+pub settled_current : (whole : List CutMessage) (m : CutMessage) (P Q : CutMessage → Type 0) →
+    (P m → Q m)
     → IfSome (end_message whole m).current P → IfSome (end_message whole m).current Q
 unfolding end_message
 settled_current whole m P Q h = search (arith)
 
-pub settled_if : (whole : List Message) (m : Message) (Q : Message → Type 0) → Q m →
+pub settled_if : (whole : List CutMessage) (m : CutMessage) (Q : CutMessage → Type 0) → Q m →
     IfSome (end_message whole m).current Q
 unfolding end_message
 settled_if whole m Q h = search (arith)
 
-still_unknown : (K : OctetsByNumber) (es : List Event) (ls : List Line) (i : ℕ) → K i ≡ Some [] →
+still_unknown : (K : OctetsByNumber) (es : List Event) (ls : List StreamLine) (i : ℕ) →
+    K i ≡ Some [] →
     joined i es ≡ []
     → list_any (is_last_of i) ls ≡ false → kept_after (kept_with K es) ls i ≡ Some []
 unfolding kept_after kept_with
 still_unknown K es ls i h k j = rw (j, h, k) refl
 
 pub dealt_sound : (R : Rules) → IsCausal R.reading →
-    (p p' : List ℕ) (whole : List Message) (m : Message)
+    (p p' : List ℕ) (whole : List CutMessage) (m : CutMessage)
     → length p' ≡ suc (length p) → cut p' ≡ end_message whole m → events R.most p' ≡ events R.most p
     ++ events_of_octet R.most (open_after R.most p) m
     → place m ≡ suc (length p) → m.number ≡ suc (length whole) → length m.header ≡ 12 →
@@ -175,7 +177,7 @@ dealt_sound R causal p p' whole m len ec ev pl nm twelve st more low starts grow
     now_each R P known es h = unfold sorted_lines in written_each R P known es h
 
 -- The events and the open messages after a message has one more octet.
-pub events_on : (most : ℕ) (whole : List Message) (m : Message) (x : ℕ) →
+pub events_on : (most : ℕ) (whole : List CutMessage) (m : CutMessage) (x : ℕ) →
     length m.payload < size m.header
     → (let es = events_from most [] (whole ++ m ∷ []) in let m' =
     with_payload m (m.payload ++ x ∷ []) in events_from most []
@@ -189,7 +191,7 @@ events_on most whole m x h = search (
   append_assoc,
 )
 
-pub events_begin : (most : ℕ) (whole : List Message) (m : Message) → m.payload ≡ []
+pub events_begin : (most : ℕ) (whole : List CutMessage) (m : CutMessage) → m.payload ≡ []
     → events_from most [] (whole ++ m ∷ []) ≡ events_from most [] whole
     ++ events_of_octet most (opened [] (events_from most [] whole)) m
 events_begin most whole m h = search (arith, events_of_none, events_from_push)

@@ -6,7 +6,7 @@ use Rattle.std.proofs.lemmas.List.{length_push}
 use Rattle.giop_checkpoint.specs.declared.fault.StreamFault.{StreamFault}
 use Rattle.giop_stream.specs.Kinds.{named_at}
 use Rattle.giop_stream.specs.Rules.{Rules}
-use Rattle.giop_stream.specs.Framing.{Message, with_payload, Cut, cut, messages}
+use Rattle.giop_stream.specs.Framing.{CutMessage, with_payload, Cut, cut, messages}
 use Rattle.giop_stream.specs.Events.{place, events_from, events, open_after, joined}
 use Rattle.giop_stream.specs.Lines.{lines_of_messages, stop_line, lines}
 use Rattle.giop_stream.specs.Stream.{start_count}
@@ -49,7 +49,7 @@ pub stop_starts : (found : ℕ × StreamFault) → start_count (stop_line (Some 
 unfolding start_count stop_line
 stop_starts found = refl
 
-pub place_more : (m : Message) (x n : ℕ) → place m ≡ n →
+pub place_more : (m : CutMessage) (x n : ℕ) → place m ≡ n →
     place (with_payload m (m.payload ++ x ∷ [])) ≡ suc n
 unfolding place
 place_more m x n h = search (arith, length_push)
@@ -61,7 +61,7 @@ unfolding octets_of
 none_known R p i h = search (arith)
 
 -- the last octet of a header: the place of the message
-pub place_first : (n : ℕ) (m : Message) → m.before ≡ suc n - 12 → m.payload ≡ [] → 11 ≤ n →
+pub place_first : (n : ℕ) (m : CutMessage) → m.before ≡ suc n - 12 → m.payload ≡ [] → 11 ≤ n →
     place m ≡ suc n
 unfolding place
 place_first n m h k j = rw k (omega arith)
@@ -74,6 +74,7 @@ pub octets_are : (R : Rules) (p : List ℕ) (i : ℕ) (xs : List ℕ) → octets
 unfolding octets_of
 octets_are R p i xs h = search (arith)
 
-pub if_some : (P : Message → Type 0) (o : Option Message) (m : Message) → o ≡ Some m → IfSome o P →
+pub if_some : (P : CutMessage → Type 0) (o : Option CutMessage) (m : CutMessage) → o ≡ Some m →
+    IfSome o P →
     P m
 if_some P o m e h = rw e at h

@@ -9,7 +9,7 @@ use Rattle.std.proofs.lemmas.List.Elements.{filter-append}
 use Rattle.giop_message.specs.Headers.{size}
 use Rattle.giop_stream.specs.Kinds.{has_fragments, is_any_fragment, named_at}
 use Rattle.giop_stream.specs.Rules.{Rules}
-use Rattle.giop_stream.specs.Framing.{Message, with_payload, Cut, cut, messages}
+use Rattle.giop_stream.specs.Framing.{CutMessage, with_payload, Cut, cut, messages}
 use Rattle.giop_message.specs.MessageReader.{IsCausal, IsEnding, IsStreamable}
 use Rattle.giop_stream.specs.Events.{EventKind, Event, Open, place, events_of_octet, opened, events, open_after}
 use Rattle.giop_stream.specs.Lines.{is_last_of, lines_of_messages}
@@ -34,7 +34,7 @@ use Rattle.giop_stream.proofs.StreamLines.FirstMessages.{numbers_of, tail_of, ba
 use Rattle.giop_stream.proofs.Events.UnfinishedKept.{Stays, not_open, stays_events, Known, opener_known, done_known}
 
 -- What is left at the finish.
-unfoldable pub tail_now : List Open → Option Message → List ℕ
+unfoldable pub tail_now : List Open → Option CutMessage → List ℕ
 tail_now still_open None = []
 tail_now still_open (Some m) = tail_of still_open m
 
@@ -70,15 +70,16 @@ unfolding alive
 alive_less over more [] = refl
 alive_less over more (i ∷ xs) = search (arith, less_by, alive, not, alive_less over more xs)
 
-head_of : Message → List ℕ
+head_of : CutMessage → List ℕ
 head_of m = if is_any_fragment m.header then [] else m.number ∷ []
 
-heads_push : (ms : List Message) (m : Message) → first_messages (ms ++ m ∷ []) ≡ first_messages ms
+heads_push : (ms : List CutMessage) (m : CutMessage) → first_messages (ms ++ m ∷ []) ≡
+    first_messages ms
     ++ head_of m
 unfolding first_messages head_of
 heads_push ms m = search (arith, filter-append, not, map-append, cond, map)
 
-known_tail : (over : ℕ → Bool) (still_open : List Open) (m : Message) →
+known_tail : (over : ℕ → Bool) (still_open : List Open) (m : CutMessage) →
     (is_any_fragment m.header ≡ false → Known over still_open m) →
     alive over (tail_of still_open m) ≡ []
 unfolding tail_of Known alive
@@ -100,7 +101,7 @@ alive_same over over' more xs ys h k =
     let mix : over' ≡ (λ i. over i || more i) = λ j i. h i j in
     rw (mix, alive_less over more xs, alive_less over more ys, k) refl
 
-settled_kept : (over : ℕ → Bool) (whole : List Message) (m : Message) (still_open : List Open)
+settled_kept : (over : ℕ → Bool) (whole : List CutMessage) (m : CutMessage) (still_open : List Open)
     → (size m.header ≤ length m.payload → is_any_fragment m.header ≡ false →
     Known over still_open m)
     → alive over (base still_open m) ≡ alive over
@@ -117,20 +118,20 @@ settled_kept over whole m still_open h = search (
   alive_none,
 )
 
-known_later : (over over' more : ℕ → Bool) (still_open : List Open) (m : Message) →
+known_later : (over over' more : ℕ → Bool) (still_open : List Open) (m : CutMessage) →
     ((i : ℕ) → over' i ≡ (over i || more i)) → Known over still_open m → Known over' still_open m
 unfolding Known
 known_later over over' more still_open m h (inl o) = inl o
 known_later over over' more still_open m h (inr d) = search (arith, or_left)
 
-stays_is : (over : ℕ → Bool) (m : Message) (still_open : List Open) (es : List Event) →
+stays_is : (over : ℕ → Bool) (m : CutMessage) (still_open : List Open) (es : List Event) →
     Stays over m still_open es
     → alive over (base (opened still_open es) m) ≡ alive over (base still_open m)
 unfolding Stays
 stays_is over m still_open es h = h
 
 complete_deal : (R : Rules) → IsCausal R.reading → IsEnding R.reading →
-    (p p' : List ℕ) (whole : List Message) (m : Message)
+    (p p' : List ℕ) (whole : List CutMessage) (m : CutMessage)
     → length p' ≡ suc (length p) → cut p' ≡ end_message whole m → events R.most p' ≡ events R.most p
     ++ events_of_octet R.most (open_after R.most p) m
     → Each (λ e. e.place ≤ length p) (events R.most p) → place m ≡ suc (length p)
@@ -178,12 +179,12 @@ complete_deal R causal ending p p' whole m len ec ev old pl fits low start known
       named = rw (ec, open_grows R.most p p' es ev) named';
     }
 
-known_same : (over : ℕ → Bool) (still_open : List Open) (m : Message) (xs : List ℕ) →
+known_same : (over : ℕ → Bool) (still_open : List Open) (m : CutMessage) (xs : List ℕ) →
     Known over still_open m → Known over still_open (with_payload m xs)
 unfolding Known
 known_same over still_open m xs h = h
 
-first_base : (over : ℕ → Bool) (still_open : List Open) (hs : List ℕ) (m : Message) →
+first_base : (over : ℕ → Bool) (still_open : List Open) (hs : List ℕ) (m : CutMessage) →
     Below m.number still_open
     → alive over hs ≡ alive over (numbers_of still_open) →
     alive over (hs ++ head_of m) ≡ alive over (base still_open m)
@@ -191,7 +192,7 @@ unfolding base tail_of head_of
 first_base over still_open hs m low h = search (arith, not_open, alive, numbers_of, alive_append)
 
 -- what must hold of the message m to which the octet belongs
-record Ready (R : Rules) (p : List ℕ) (m : Message) : Type 0 where
+record Ready (R : Rules) (p : List ℕ) (m : CutMessage) : Type 0 where
   start : alive (is_over R p) (first_messages (cut p).whole ++ head_of m)
       ≡ alive (is_over R p) (base (open_after R.most p) m)
   low : length m.payload ≡ named_at m.header → Below m.number (open_after R.most p)
@@ -200,7 +201,7 @@ record Ready (R : Rules) (p : List ℕ) (m : Message) : Type 0 where
 
 module _ (R : Rules) (causal : IsCausal R.reading) (ending : IsEnding R.reading) (p : List ℕ)
     (x : ℕ) (sound : IsSound R p) (complete : IsComplete R p) where
-  ready_first : (m : Message) → (cut p).current ≡ None → m.payload ≡ [] →
+  ready_first : (m : CutMessage) → (cut p).current ≡ None → m.payload ≡ [] →
       m.number ≡ suc (length (cut p).whole) → Ready R p m
   unfolding messages tail_now
   ready_first m cur none number = search (
@@ -213,7 +214,7 @@ module _ (R : Rules) (causal : IsCausal R.reading) (ending : IsEnding R.reading)
     first_base,
   )
 
-  ready_next : (was : Message) → (cut p).stop ≡ None → (cut p).current ≡ Some was →
+  ready_next : (was : CutMessage) → (cut p).stop ≡ None → (cut p).current ≡ Some was →
       Ready R p (with_octet was x)
   unfolding messages head_of base tail_of tail_now
   ready_next was st cur = search (
@@ -228,9 +229,9 @@ module _ (R : Rules) (causal : IsCausal R.reading) (ending : IsEnding R.reading)
     known_same,
   )
 
-  ready : (m : Message) → (cut p).stop ≡ None → m.number ≡ suc (length (cut p).whole)
+  ready : (m : CutMessage) → (cut p).stop ≡ None → m.number ≡ suc (length (cut p).whole)
       → (((cut p).current ≡ None) × (m.payload ≡ []))
-      ⊎ ((was : Message) × ((cut p).current ≡ Some was) × (m
+      ⊎ ((was : CutMessage) × ((cut p).current ≡ Some was) × (m
       ≡ with_octet was x)) → Ready R p m
   ready m st number (inl (cur, none)) = ready_first m cur none number
   ready m st number (inr (was, cur, is)) = subst (Ready R p) (sym is) (ready_next was st cur)

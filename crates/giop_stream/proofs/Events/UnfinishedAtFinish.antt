@@ -5,7 +5,7 @@ use Rattle.std.specs.List.{AllByRecursion as Each}
 use Rattle.std.proofs.lemmas.Bool.{eq-eqb, or_right}
 use Rattle.giop_stream.specs.Kinds.{is_any_fragment, named_at}
 use Rattle.giop_stream.specs.Rules.{Rules}
-use Rattle.giop_stream.specs.Framing.{Message, Cut, cut, read_of}
+use Rattle.giop_stream.specs.Framing.{CutMessage, Cut, cut, read_of}
 use Rattle.giop_message.specs.MessageReader.{IsCausal, IsEnding, IsStreamable}
 use Rattle.giop_stream.specs.Text.{truncated_line}
 use Rattle.giop_stream.specs.Stream.{is_inside, is_over, unfinished}
@@ -54,7 +54,7 @@ all_open [] = tt
 all_open (o ∷ still_open) = search (arith, eq-eqb, each_weaker, or_right, all_open still_open)
 
 -- if the owner of the next octets isn't open, it is the current message
-current_left : (over : ℕ → Bool) (c : Tracked) (current : Option Message)
+current_left : (over : ℕ → Bool) (c : Tracked) (current : Option CutMessage)
     → ((i : ℕ) → over i ≡ true → c.known i ≡ None) →
     ((i : ℕ) → over i ≡ false → (ys : List ℕ) × (c.known i ≡ Some ys))
     → left_current c (owner_of_next_in c.still_open current)

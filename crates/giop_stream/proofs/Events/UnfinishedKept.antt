@@ -9,7 +9,7 @@ use Rattle.giop_stream.specs.declared.fault.FramingFault.{FramingFault}
 use Rattle.giop_stream.specs.declared.fault.FramingFault.TheVariants.{OldFragment, Short, IdOpen, TooManyOpen}
 use Rattle.giop_message.specs.Headers.{size}
 use Rattle.giop_stream.specs.Kinds.{has_fragments, is_any_fragment, named_at}
-use Rattle.giop_stream.specs.Framing.{Message}
+use Rattle.giop_stream.specs.Framing.{CutMessage}
 use Rattle.giop_stream.specs.Events.{EventKind, Opens, Cancelled, Faults, Closes, MessageKey, Event, Open, key, own, event_of_open, opener_of, events_at_header, events_at_octet, opens, cancels, events_at_name, events_at_end, events_of_octet, changed, opened, now_of, naming_events, message_end_events}
 use Rattle.giop_stream.specs.OpenSlots.{is_open}
 use Rattle.giop_stream.proofs.Events.EventsOfOctet.{opened_append, quiet_header, quiet_octet, quiet_continues, quiet_if, quiet_own, quiet_none, still_faulted}
@@ -19,16 +19,16 @@ use Rattle.giop_stream.proofs.StreamLines.LastLines.{any_right, is_final, Dead}
 use Rattle.giop_stream.proofs.StreamLines.FirstMessages.{numbers_of, tail_of, base, alive, without, removed}
 
 -- The numbers that are not over stay through these events.
-unfoldable pub Stays : (ℕ → Bool) → Message → List Open → List Event → Type 0
+unfoldable pub Stays : (ℕ → Bool) → CutMessage → List Open → List Event → Type 0
 Stays over m still_open es = alive over (base (opened still_open es) m)
     ≡ alive over (base still_open m)
 
-stays_quiet : (over : ℕ → Bool) (m : Message) (still_open : List Open) (es : List Event) →
+stays_quiet : (over : ℕ → Bool) (m : CutMessage) (still_open : List Open) (es : List Event) →
     opened still_open es ≡ still_open → Stays over m still_open es
 unfolding Stays
 stays_quiet over m still_open es h = rw h refl
 
-stays_if : (over : ℕ → Bool) (m : Message) (still_open : List Open) (b : Bool)
+stays_if : (over : ℕ → Bool) (m : CutMessage) (still_open : List Open) (b : Bool)
     (es more : List Event)
     → (b ≡ true → Each (Dead over) es → Stays over m still_open es) →
     (b ≡ false → Each (Dead over) more → Stays over m still_open more)
@@ -36,12 +36,12 @@ stays_if : (over : ℕ → Bool) (m : Message) (still_open : List Open) (b : Boo
 stays_if over m still_open true es more h k d = h refl d
 stays_if over m still_open false es more h k d = k refl d
 
-stays_closes : (over : ℕ → Bool) (m : Message) (still_open : List Open) →
+stays_closes : (over : ℕ → Bool) (m : CutMessage) (still_open : List Open) →
     Each (Dead over) (own (now_of m) Closes) → Stays over m still_open (own (now_of m) Closes)
 unfolding own Dead is_final Stays opened changed without
 stays_closes over m still_open d = removed over m.number still_open m (d.0 refl)
 
-stays_about : (over : ℕ → Bool) (m : Message) (still_open : List Open) (o : Option Open)
+stays_about : (over : ℕ → Bool) (m : CutMessage) (still_open : List Open) (o : Option Open)
     (what : EventKind)
     → ((subject : MessageKey) → changed still_open subject what
     ≡ without subject.number still_open) → is_final what ≡ true
@@ -69,7 +69,7 @@ final_cancelled : (j : ℕ) → is_final (Cancelled j) ≡ true
 unfolding is_final
 final_cancelled j = refl
 
-stays_end : (over : ℕ → Bool) (before still_open : List Open) (m : Message) →
+stays_end : (over : ℕ → Bool) (before still_open : List Open) (m : CutMessage) →
     Each (Dead over) (events_at_end before m) → Stays over m still_open (events_at_end before m)
 unfolding message_end_events
 stays_end over before still_open m = search (
@@ -95,7 +95,7 @@ open_last : (still_open : List Open) (o : Open) →
 unfolding is_open
 open_last still_open o = search (arith, any_right, eq-eqb)
 
-stays_opens : (over : ℕ → Bool) (m : Message) (still_open : List Open) →
+stays_opens : (over : ℕ → Bool) (m : CutMessage) (still_open : List Open) →
     is_any_fragment m.header ≡ false → Below m.number still_open → (k : Option ℕ) →
     Stays over m still_open (own (now_of m) (Opens k))
 unfolding Stays own opened changed base tail_of numbers_of
@@ -110,7 +110,7 @@ stays_opens over m still_open f low k =
     )
     (ap (alive over) (append-nil (map (λ o. o.opener.number) still_open ++ m.number ∷ [])))
 
-stays_opening : (most : ℕ) (over : ℕ → Bool) (m : Message) (still_open : List Open) →
+stays_opening : (most : ℕ) (over : ℕ → Bool) (m : CutMessage) (still_open : List Open) →
     Below m.number still_open → is_any_fragment m.header ≡ false
     → (k : Option ℕ) (o : Option Open) → Stays over m still_open
     (opens most still_open (now_of m) k o)
@@ -134,7 +134,7 @@ stays_opening most over m still_open low f (Some id) None = search (
   stays_opens,
 )
 
-stays_cancels : (over : ℕ → Bool) (m : Message) (still_open : List Open) (o : Option Open)
+stays_cancels : (over : ℕ → Bool) (m : CutMessage) (still_open : List Open) (o : Option Open)
     → Each (Dead over) (cancels (now_of m) o) → Stays over m still_open (cancels (now_of m) o)
 stays_cancels over m still_open None d = search (arith, stays_quiet, quiet_none)
 stays_cancels over m still_open (Some o) d = search (
@@ -147,7 +147,7 @@ stays_cancels over m still_open (Some o) d = search (
   quiet_none,
 )
 
-stays_name : (most : ℕ) (over : ℕ → Bool) (m : Message) (still_open : List Open) →
+stays_name : (most : ℕ) (over : ℕ → Bool) (m : CutMessage) (still_open : List Open) →
     Below m.number still_open → Each (Dead over) (events_at_name most still_open m) →
     Stays over m still_open (events_at_name most still_open m)
 unfolding naming_events
@@ -169,13 +169,13 @@ each_right : {A : Type 0} (P : A → Type 0) (xs ys : List A) → Each P (xs ++ 
 each_right P [] ys h = h
 each_right P (x ∷ xs) ys h = each_right P xs ys h.1
 
-stays_both : (over : ℕ → Bool) (m : Message) (still_open : List Open) (es more : List Event) →
+stays_both : (over : ℕ → Bool) (m : CutMessage) (still_open : List Open) (es more : List Event) →
     Stays over m still_open es
     → Stays over m (opened still_open es) more → Stays over m still_open (es ++ more)
 unfolding Stays
 stays_both over m still_open es more h k = search (arith, opened_append)
 
-pub stays_events : (most : ℕ) (over : ℕ → Bool) (m : Message) (still_open : List Open) →
+pub stays_events : (most : ℕ) (over : ℕ → Bool) (m : CutMessage) (still_open : List Open) →
     (length m.payload ≡ named_at m.header → Below m.number still_open)
     → Each (Dead over) (events_of_octet most still_open m) →
     Stays over m still_open (events_of_octet most still_open m)
@@ -197,10 +197,10 @@ stays_events most over m still_open low d = search (
 )
 
 -- When a first message (one that is no Fragment) has its last octet, it is open or over.
-unfoldable pub Known : (ℕ → Bool) → List Open → Message → Type 0
+unfoldable pub Known : (ℕ → Bool) → List Open → CutMessage → Type 0
 Known over still_open m = (is_open still_open m.number ≡ true) ⊎ (over m.number ≡ true)
 
-dead_own : (over : ℕ → Bool) (m : Message) (what : EventKind) → is_final what ≡ true →
+dead_own : (over : ℕ → Bool) (m : CutMessage) (what : EventKind) → is_final what ≡ true →
     Each (Dead over) (own (now_of m) what) → over m.number ≡ true
 unfolding own Dead
 dead_own over m what f d = d.0 f
@@ -209,13 +209,13 @@ final_faulted : (fault : FramingFault) → is_final (Faults fault) ≡ true
 unfolding is_final
 final_faulted fault = refl
 
-opens_known : (over : ℕ → Bool) (m : Message) (still_open : List Open) (k : Option ℕ) →
+opens_known : (over : ℕ → Bool) (m : CutMessage) (still_open : List Open) (k : Option ℕ) →
     Known over (opened still_open (own (now_of m) (Opens k))) m
 unfolding Known opened own changed
 opens_known over m still_open k = inl (open_last still_open
     (record { key = k; opener = record { number = m.number; header = m.header } }))
 
-known_opens : (most : ℕ) (over : ℕ → Bool) (m : Message) (still_open : List Open) (k : Option ℕ)
+known_opens : (most : ℕ) (over : ℕ → Bool) (m : CutMessage) (still_open : List Open) (k : Option ℕ)
     (o : Option Open) → Each (Dead over) (opens most still_open (now_of m) k o) →
     Known over (opened still_open (opens most still_open (now_of m) k o)) m
 unfolding Known
@@ -232,40 +232,40 @@ known_opens most over m still_open (Some id) None d = pick (nat_le most (length 
     pick true d = inr (dead_own over m (Faults TooManyOpen) (final_faulted TooManyOpen) d)
     pick false d = opens_known over m still_open (Some id)
 
-opener_end : (still_open : List Open) (m : Message) → has_fragments m.header ≡ true →
+opener_end : (still_open : List Open) (m : CutMessage) → has_fragments m.header ≡ true →
     named_at m.header ≤ size m.header → events_at_end still_open m ≡ []
 unfolding message_end_events
 opener_end still_open m o h = search (arith, long_enough)
 
-head_end : (still_open : List Open) (m : Message) → has_fragments m.header ≡ false →
+head_end : (still_open : List Open) (m : CutMessage) → has_fragments m.header ≡ false →
     is_any_fragment m.header ≡ false → events_at_end still_open m ≡ own (now_of m) Closes
 unfolding message_end_events
 head_end still_open m o f = search (arith, other_long)
 
-short_end : (still_open : List Open) (m : Message) → has_fragments m.header ≡ true →
+short_end : (still_open : List Open) (m : CutMessage) → has_fragments m.header ≡ true →
     size m.header < named_at m.header →
     events_at_end still_open m ≡ own (now_of m) (Faults Short)
 unfolding message_end_events
 short_end still_open m o h = search (arith, short_first)
 
-opener_name : (most : ℕ) (still_open : List Open) (m : Message) → has_fragments m.header ≡ true →
+opener_name : (most : ℕ) (still_open : List Open) (m : CutMessage) → has_fragments m.header ≡ true →
     events_at_name most still_open m
     ≡ opens most still_open (now_of m) (key m) (opener_of still_open m)
 unfolding naming_events
 opener_name most still_open m o = search (arith, first_no_fragment)
 
-third_none : (still_open : List Open) (m : Message) → has_fragments m.header ≡ true →
+third_none : (still_open : List Open) (m : CutMessage) → has_fragments m.header ≡ true →
     named_at m.header ≤ size m.header
     → (if length m.payload == size m.header then events_at_end still_open m else []) ≡ []
 third_none still_open m o h = search (arith, opener_end)
 
-first_quiet : (still_open : List Open) (m : Message) →
+first_quiet : (still_open : List Open) (m : CutMessage) →
     opened still_open (if length m.payload == 0 then events_at_header m else events_at_octet
     still_open m) ≡ still_open
 first_quiet still_open m = search (arith, quiet_if, quiet_header, quiet_octet)
 
 -- the open messages after the three parts of an octet's events
-after_parts : (most : ℕ) (still_open : List Open) (m : Message) (second third : List Event)
+after_parts : (most : ℕ) (still_open : List Open) (m : CutMessage) (second third : List Event)
     → (if length m.payload == named_at m.header then events_at_name most still_open m else []) ≡
     second
     → (if length m.payload == size m.header then events_at_end still_open m else []) ≡ third
@@ -274,7 +274,7 @@ after_parts : (most : ℕ) (still_open : List Open) (m : Message) (second third 
 unfolding events_of_octet
 after_parts most still_open m second third h k = search (arith, opened_append, first_quiet)
 
-dead_parts : (most : ℕ) (over : ℕ → Bool) (still_open : List Open) (m : Message)
+dead_parts : (most : ℕ) (over : ℕ → Bool) (still_open : List Open) (m : CutMessage)
     (second third : List Event)
     → (if length m.payload == named_at m.header then events_at_name most still_open m else []) ≡
     second
@@ -284,12 +284,12 @@ dead_parts : (most : ℕ) (over : ℕ → Bool) (still_open : List Open) (m : Me
 unfolding events_of_octet
 dead_parts most over still_open m second third h k d = search (arith, each_right)
 
-second_none : (most : ℕ) (still_open : List Open) (m : Message) →
+second_none : (most : ℕ) (still_open : List Open) (m : CutMessage) →
     named_at m.header < length m.payload →
     (if length m.payload == named_at m.header then events_at_name most still_open m else []) ≡ []
 second_none most still_open m h = search (arith, ne_eqb)
 
-pub opener_known : (most : ℕ) (over : ℕ → Bool) (m : Message) (still_open : List Open) →
+pub opener_known : (most : ℕ) (over : ℕ → Bool) (m : CutMessage) (still_open : List Open) →
     has_fragments m.header ≡ true → named_at m.header ≤ length m.payload
     → length m.payload ≤ size m.header → (named_at m.header < length m.payload →
     Known over still_open m)
@@ -320,7 +320,7 @@ opener_known most over m still_open o long fits before d =
           (opener_of still_open m) dead_two)
     ]
 
-pub done_known : (most : ℕ) (over : ℕ → Bool) (m : Message) (still_open : List Open) →
+pub done_known : (most : ℕ) (over : ℕ → Bool) (m : CutMessage) (still_open : List Open) →
     is_any_fragment m.header ≡ false
     → length m.payload ≡ size m.header → (has_fragments m.header ≡ true →
     named_at m.header < length m.payload →

@@ -11,7 +11,7 @@ use Rattle.giop_message.specs.MessageReader.{IsCausal, IsStreamable}
 use Rattle.giop_message.specs.Signatures.{RequestTable, by_list}
 use Rattle.giop_message.proofs.MessageLaws.{is_causal}
 use Rattle.giop_checkpoint.specs.declared.fault.StreamFault.{StreamFault}
-use Rattle.giop_checkpoint.specs.declared.fixed.Place.TheVariants.{Header, Payload}
+use Rattle.giop_checkpoint.specs.declared.fixed.NextOctet.TheVariants.{Header, Payload}
 use Rattle.giop_checkpoint.specs.Layouts.{IsAmong}
 use Rattle.giop_checkpoint.specs.Fixed.{PlaceHasRange, HasRange}
 use Rattle.giop_stream.specs.Rules.{Rules, rules}

@@ -10,8 +10,8 @@ use Rattle.giop_message.specs.Headers.{size}
 use Rattle.giop_message.specs.Signatures.{RequestTable, Answers, by_list}
 use Rattle.giop_checkpoint.specs.declared.fault.StreamFault.{StreamFault}
 use Rattle.giop_checkpoint.specs.declared.fixed.Fixed.{Fixed}
-use Rattle.giop_checkpoint.specs.declared.fixed.Place.{Place}
-use Rattle.giop_checkpoint.specs.declared.fixed.Place.TheVariants.{Header, Payload}
+use Rattle.giop_checkpoint.specs.declared.fixed.NextOctet.{NextOctet}
+use Rattle.giop_checkpoint.specs.declared.fixed.NextOctet.TheVariants.{Header, Payload}
 use Rattle.giop_checkpoint.specs.Records.{entry_octets}
 use Rattle.giop_stream.specs.declared.slots.Slots.{Slots}
 use Rattle.giop_stream.specs.declared.slots.PayloadOwner.{PayloadOwner}
@@ -113,7 +113,7 @@ unfolding state_of
 held_behind R p fault e = search (arith, behind_none)
 
 -- the place, if the header is incomplete, or if the stream is in a payload
-abbrev running_place : Bool → List ℕ → ℕ → Place
+abbrev running_place : Bool → List ℕ → ℕ → NextOctet
 running_place b header payload_count = if b then Header (record { items = header }) else Payload
     header (size header - payload_count)
 

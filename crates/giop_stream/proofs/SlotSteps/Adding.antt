@@ -3,7 +3,7 @@ use Rattle.std.proofs.Common.{arith, ◌≡◌, ℕ, List, [], ◌++◌, length,
 use Rattle.std.proofs.Math.Seq.{drop-append_seam}
 use Rattle.giop_message.specs.MessageReader.{IsCausal, IsStreamable}
 use Rattle.giop_stream.specs.Rules.{Rules}
-use Rattle.giop_stream.specs.Lines.{Line, lines}
+use Rattle.giop_stream.specs.Lines.{StreamLine, lines}
 use Rattle.giop_stream.specs.Text.{lines_text}
 use Rattle.giop_stream.specs.Stream.{text}
 use Rattle.giop_stream.specs.EngineState.{state_of}
@@ -13,7 +13,7 @@ use Rattle.giop_stream.proofs.CodeSteps.EngineLaws.{run_lines}
 use Rattle.giop_stream.proofs.SlotSteps.Performing.{text_append}
 
 -- the text of the lines that are added
-added_by : (R : Rules) (p q : List ℕ) (ls : List Line) → lines R (p ++ q) ≡ lines R p ++ ls →
+added_by : (R : Rules) (p q : List ℕ) (ls : List StreamLine) → lines R (p ++ q) ≡ lines R p ++ ls →
     added R p q ≡ lines_text ls
 unfolding added text
 added_by R p q ls e = search (arith, drop, text_append, drop-append_seam)

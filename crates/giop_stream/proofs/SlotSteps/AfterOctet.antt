@@ -12,7 +12,7 @@ use Rattle.giop_message.specs.Headers.{size}
 use Rattle.giop_stream.specs.Kinds.{is_old, named_at}
 use Rattle.giop_stream.specs.declared.slots.Slots.{Slots}
 use Rattle.giop_stream.specs.declared.current.Current.{Current}
-use Rattle.giop_stream.specs.Framing.{Message}
+use Rattle.giop_stream.specs.Framing.{CutMessage}
 use Rattle.giop_stream.specs.Events.{MessageKey, Open, id, message_key, has_named, goes_past, events_at_name, events_at_end}
 use Rattle.giop_stream.specs.Effects.{effects, no_effect}
 use Rattle.giop_stream.specs.OpenSlots.{Tracked, IsNotOpen}
@@ -32,7 +32,7 @@ both_by : (f a b : Bool) (x y : Option MessageKey) → a ≡ b →
     (if f && a then x else y) ≡ (if f && b then x else y)
 both_by f a b x y e = rw e refl
 
-pub owner_elsewhere : (still_open : List Open) (m : Message) →
+pub owner_elsewhere : (still_open : List Open) (m : CutMessage) →
     (length m.payload == named_at m.header) ≡ false →
     owner_of_next still_open m ≡ owner_of_octet still_open m
 unfolding owner_of_next owner_of_octet has_named goes_past
@@ -48,12 +48,12 @@ owner_elsewhere still_open m other = search (
   eq-eqb,
 )
 
-pub owner_at_id : (still_open : List Open) (m : Message) → length m.payload ≡ named_at m.header →
+pub owner_at_id : (still_open : List Open) (m : CutMessage) → length m.payload ≡ named_at m.header →
     owner_of_next still_open m ≡ owner_after_name still_open m
 unfolding owner_of_next owner_after_name has_named
 owner_at_id still_open m named = search (arith, le-leb)
 
-pub owner_own : (still_open : List Open) (m : Message) → length m.payload ≤ named_at m.header →
+pub owner_own : (still_open : List Open) (m : CutMessage) → length m.payload ≤ named_at m.header →
     owner_of_octet still_open m ≡ Some (message_key m)
 unfolding owner_of_octet
 owner_own still_open m few = rw (not_past m few) refl
@@ -63,7 +63,7 @@ owner_own still_open m few = rw (not_past m few) refl
 pub newest_apart : (n : ℕ) (still_open : List Open) → IsNewest n still_open → IsNotOpen n still_open
 newest_apart n still_open newest = search (arith, each_weaker)
 
-module _ (C : Table) (l : Answers) (s : Slots) (c : Tracked) (m : Message) (now : Current)
+module _ (C : Table) (l : Answers) (s : Slots) (c : Tracked) (m : CutMessage) (now : Current)
     (h : IsAfterTake C l s c m now) where
   -- whether the code takes the octet for the last one of a request id
   abbrev At : Bool → Type 0
@@ -125,7 +125,7 @@ module _ (C : Table) (l : Answers) (s : Slots) (c : Tracked) (m : Message) (now 
   pub owner_still : At false → owner_of_next c.still_open m ≡ owner_of_octet c.still_open m
   owner_still e = owner_elsewhere c.still_open m (not_named e (is_old m.header) refl)
 
-module _ (C : Table) (l : Answers) (s : Slots) (c : Tracked) (m : Message) (now : Current)
+module _ (C : Table) (l : Answers) (s : Slots) (c : Tracked) (m : CutMessage) (now : Current)
     (h : IsAtOctet C l s c m now) (payload_count : length m.payload ≡ now.payload_count) where
   last_is : (now.payload_count == size now.header) ≡ true → length m.payload ≡ size m.header
   last_is e = search (arith, eqb-true)

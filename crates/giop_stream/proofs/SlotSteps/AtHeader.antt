@@ -10,11 +10,11 @@ use Rattle.giop_stream.specs.declared.fault.FramingFault.TheVariants.{OldFragmen
 use Rattle.giop_stream.specs.declared.slots.Slots.{Slots}
 use Rattle.giop_stream.specs.declared.current.Current.{Current}
 use Rattle.giop_stream.specs.Rules.{Rules, rules_by}
-use Rattle.giop_stream.specs.Framing.{Message}
+use Rattle.giop_stream.specs.Framing.{CutMessage}
 use Rattle.giop_stream.specs.Text.{line_text, start_line}
 use Rattle.giop_stream.specs.Kinds.{is_old, is_old_fragment, named_at, refused}
 use Rattle.giop_stream.specs.Events.{MessageKey, Event, Faults, Open, own, now_of, key, message_key, opener_of, has_named, events_at_header, events_at_name, events_of_octet, naming_events, opened}
-use Rattle.giop_stream.specs.Lines.{Line}
+use Rattle.giop_stream.specs.Lines.{StreamLine}
 use Rattle.giop_stream.specs.Stream.{fault_count}
 use Rattle.giop_stream.specs.Effects.{Effect, effects, one_effect, no_effect, then_effect, line_effect, starts}
 use Rattle.giop_stream.specs.OpenSlots.{Tracked, IsNotOpen}
@@ -34,14 +34,15 @@ use Rattle.giop_stream.proofs.SlotSteps.Parts.{effects_still_open}
 pub ready_later : (C : Table) (n n' : ℕ) (s : Slots) → n ≤ n' → AreReady C n s → AreReady C n' s
 ready_later C n n' s less h = search (arith, later_ready, all_later)
 
-pub starts_faults : (m : Message) (ls : List Line) → fault_count (starts m ∷ ls) ≡ fault_count ls
+pub starts_faults : (m : CutMessage) (ls : List StreamLine) → fault_count (starts m ∷ ls) ≡
+    fault_count ls
 unfolding fault_count
 starts_faults m ls = refl
 
 -- ---- The events of the header itself, then those of the message's place, and then the end.
 
 -- a message of 1.1 with a place is refused there
-events_of_old : (most : ℕ) (still_open : List Open) (m : Message) → is_old m.header ≡ true →
+events_of_old : (most : ℕ) (still_open : List Open) (m : CutMessage) → is_old m.header ≡ true →
     events_at_name most still_open m ≡ own (now_of m) (Faults OldFragment)
 unfolding naming_events key opener_of
 events_of_old most still_open m old = elim (old_kinds m.header old) [
@@ -49,7 +50,7 @@ events_of_old most still_open m old = elim (old_kinds m.header old) [
   | inr o ↦ rw (first_no_fragment m.header o, o, old) refl
 ]
 
-pub name_of_old : (most : ℕ) (still_open : List Open) (m : Message) → m.payload ≡ [] →
+pub name_of_old : (most : ℕ) (still_open : List Open) (m : CutMessage) → m.payload ≡ [] →
     is_old m.header ≡ true → name_events most still_open m ≡ own (now_of m) (Faults OldFragment)
 unfolding name_events
 name_of_old most still_open m none old =
@@ -59,12 +60,12 @@ name_of_old most still_open m none old =
     (events_of_old most still_open m old)
 
 -- any other message has its place later, or none
-pub no_name : (most : ℕ) (still_open : List Open) (m : Message) → m.payload ≡ [] →
+pub no_name : (most : ℕ) (still_open : List Open) (m : CutMessage) → m.payload ≡ [] →
     is_old m.header ≡ false → name_events most still_open m ≡ []
 unfolding name_events
 no_name most still_open m none new = rw (none, named_four m.header new) refl
 
-module _ (R : Rules) (c : Tracked) (m : Message) where
+module _ (R : Rules) (c : Tracked) (m : CutMessage) where
   abbrev pub begun : Effect
   begun = effects R.reading c (events_at_header m)
 
@@ -118,7 +119,8 @@ module _ (R : Rules) (c : Tracked) (m : Message) where
   unfolding owner_after end_events opened
   ended_owner = search (arith, effects_still_open)
 
-module _ (C : Table) (l : Answers) (s : Slots) (c : Tracked) (who : Option MessageKey) (m : Message)
+module _ (C : Table) (l : Answers) (s : Slots) (c : Tracked) (who : Option MessageKey) (m :
+    CutMessage)
     (now : Current) (h : IsBeforeMessage C l s c who m now) where
   pub apart : IsNotOpen m.number c.still_open
   apart = search (arith, newest_apart)
@@ -178,7 +180,7 @@ module _ (C : Table) (l : Answers) (s : Slots) (c : Tracked) (who : Option Messa
 
 -- ---- The place of a message, after it has begun.
 
-module _ (C : Table) (l : Answers) (s : Slots) (c : Tracked) (m : Message) (now : Current)
+module _ (C : Table) (l : Answers) (s : Slots) (c : Tracked) (m : CutMessage) (now : Current)
     (h : IsAtHeader C l s c m now) where
   header_of : (says : List ℕ → Bool) (r : Bool) → r ≡ says now.header → says m.header ≡ r
   header_of says r e = search (arith, h.current.header)

@@ -10,7 +10,7 @@ use Rattle.giop_stream.specs.declared.fault.FramingFault.TheVariants.{NoOpen, Id
 use Rattle.giop_stream.specs.declared.slots.Slots.{Slots}
 use Rattle.giop_stream.specs.declared.current.Current.{Current}
 use Rattle.giop_stream.specs.Rules.{rules_by}
-use Rattle.giop_stream.specs.Framing.{Message}
+use Rattle.giop_stream.specs.Framing.{CutMessage}
 use Rattle.giop_stream.specs.Events.{MessageKey, Open, Opens, Faults, Cancelled, message_key, key, is_id, opener_of, events_at_name}
 use Rattle.giop_stream.specs.OpenSlots.{Tracked}
 use Rattle.giop_stream.specs.Effects.{effects, one_effect, no_effect, lines_of, lines_for}
@@ -27,7 +27,7 @@ use Rattle.giop_stream.proofs.SlotSteps.FindingOpen.{none_open, one_open}
 use Rattle.giop_stream.proofs.SlotSteps.Cases.{opener_twice, opener_no_room, opener_opens, fragment_unknown, cancel_misses, cancel_spares, cancel_closes, other_id}
 
 -- the open message with this request id, and its index
-pub record IsFound (c : Tracked) (m : Message) (k : ℕ) : Type 0 where
+pub record IsFound (c : Tracked) (m : CutMessage) (k : ℕ) : Type 0 where
   pub o : Open
   pub here : slice_get c.still_open k ≡ Some o
   pub is : opener_of c.still_open m ≡ Some o
@@ -46,19 +46,19 @@ cancel_named header f = search (arith)
 -- ---- A message that becomes open adds no line.
 
 module _ (C : Table) (l : Answers) where
-  pub opens_lines : (c : Tracked) (m : Message) (at i : ℕ) →
+  pub opens_lines : (c : Tracked) (m : CutMessage) (at i : ℕ) →
       (one_effect (message_reader C l) c at (message_key m) (Opens (Some i))).lines ≡ []
   unfolding lines_of lines_for lines_of_event up_to_last_line
   opens_lines c m at i = search (arith)
 
 -- ---- The owner of the octets after the request id.
 
-pub owner_fragment : (still_open : List Open) (m : Message) → is_fragment m.header ≡ true →
+pub owner_fragment : (still_open : List Open) (m : CutMessage) → is_fragment m.header ≡ true →
     owner_after_name still_open m ≡ opener_key (opener_of still_open m)
 unfolding owner_after_name
 owner_fragment still_open m f = rw (fragment_any m.header f) refl
 
-pub owner_other : (still_open : List Open) (m : Message) → is_old m.header ≡ false →
+pub owner_other : (still_open : List Open) (m : CutMessage) → is_old m.header ≡ false →
     is_fragment m.header ≡ false → owner_after_name still_open m ≡ Some (message_key m)
 unfolding owner_after_name
 owner_other still_open m new f = search (arith, any_is)
@@ -75,7 +75,8 @@ opener_slot C l s c owner keeps k o v here e =
     let is = open_slot C l s there.0 c owner k o keeps here there.1 in
     (rw there.2 at is.number, rw there.2 at is.header)
 
-module _ (C : Table) (l : Answers) (s : Slots) (c : Tracked) (m : Message) (now : Current) (i : ℕ)
+module _ (C : Table) (l : Answers) (s : Slots) (c : Tracked) (m : CutMessage) (now : Current) (i
+    : ℕ)
     (h : IsAtRequestId C l s c m now i) where
   -- ---- The search.
 

@@ -22,10 +22,10 @@ use Rattle.giop_stream.specs.declared.slots.Slots.{Slots}
 use Rattle.giop_stream.specs.declared.current.Current.{Current}
 use Rattle.giop_stream.specs.declared.fragment.Continuation.{Continuation}
 use Rattle.giop_stream.specs.Rules.{Rules, rules_by}
-use Rattle.giop_stream.specs.Framing.{Message, with_payload}
+use Rattle.giop_stream.specs.Framing.{CutMessage, with_payload}
 use Rattle.giop_stream.specs.Text.{line_text, start_line}
 use Rattle.giop_stream.specs.Events.{MessageKey, Takes, Faults, Open, message_key, id, key, opener_of, events_at_name, events_of_octet, same_order}
-use Rattle.giop_stream.specs.Lines.{Line, Said}
+use Rattle.giop_stream.specs.Lines.{StreamLine, Said}
 use Rattle.giop_stream.specs.Stream.{fault_count}
 use Rattle.giop_stream.specs.Effects.{Effect, effects, then_effect, one_effect, no_effect, line_effect, goes_on, starts, with_octet, effect_to}
 use Rattle.giop_stream.specs.OpenSlots.{Tracked, IsNotOpen, slots_at}
@@ -48,19 +48,20 @@ use Rattle.giop_stream.proofs.SlotSteps.Parts.{first, second, third, first_still
 
 -- ---- At the request id.
 
-pub goes_faults : (m : Message) (o : Open) (ls : List Line) →
+pub goes_faults : (m : CutMessage) (o : Open) (ls : List StreamLine) →
     fault_count (goes_on m o ∷ ls) ≡ fault_count ls
 unfolding fault_count
 goes_faults m o ls = refl
 
 -- what the code knows of a Fragment at its request id
-pub continuing : (C : Table) (l : Answers) (s : Slots) (c : Tracked) (m : Message) (now : Current)
+pub continuing : (C : Table) (l : Answers) (s : Slots) (c : Tracked) (m : CutMessage) (now :
+    Current)
     (i : ℕ) → IsAtRequestId C l s c m now i
     → is_fragment m.header ≡ true → IsContinuing C l s c (Some (message_key m)) m now
 continuing C l s c m now i h f = search (arith, fragment_named)
 
 module _ (C : Table) (l : Answers) (s : Slots) (c : Tracked) (owner : Option MessageKey)
-    (m : Message) (now : Current) (h : IsContinuing C l s c owner m now) where
+    (m : CutMessage) (now : Current) (h : IsContinuing C l s c owner m now) where
   pub in_order : (o : Open) → is_fragment m.header ≡ true → opener_of c.still_open m ≡ Some o →
       same_order (order m.header) (order o.opener.header) ≡ true
       → effects (message_reader C l) c (events_at_name s.slots.most c.still_open m)
@@ -129,7 +130,7 @@ module _ (C : Table) (l : Answers) (number : ℕ) (header : List ℕ) (says : Sa
   four_due (a ∷ b ∷ c ∷ d ∷ xs) x three = absurd (omega (arith, three))
 
 -- the line of a request id
-abbrev pub id_line : ℕ → ℕ → ℕ → Line
+abbrev pub id_line : ℕ → ℕ → ℕ → StreamLine
 id_line at number i = record {
   place = at;
   number = number;
@@ -137,7 +138,7 @@ id_line at number i = record {
       Said Value (request_id_text i);
 }
 
-pub said_faults : (at number i : ℕ) (ls : List Line) →
+pub said_faults : (at number i : ℕ) (ls : List StreamLine) →
     fault_count (id_line at number i ∷ ls) ≡ fault_count ls
 unfolding fault_count
 said_faults at number i ls = refl
@@ -150,14 +151,15 @@ owned_by_none C l s c c' same h = search (arith)
 
 -- ---- The last octet of a header, and a request id.
 
-module _ (C : Table) (l : Answers) (s : Slots) (c : Tracked) (m : Message) (now : Current) (x : ℕ)
+module _ (C : Table) (l : Answers) (s : Slots) (c : Tracked) (m : CutMessage) (now : Current) (x
+    : ℕ)
     (found : Continuation)
     (h : IsBeforeContinuation C l s c m now x found) where
   abbrev pub R : Rules
   R = rules_by C l s.slots.most
 
   -- the Fragment with its request id
-  abbrev pub m' : Message
+  abbrev pub m' : CutMessage
   m' = with_octet m x
 
   abbrev pub c' : Tracked
@@ -234,7 +236,7 @@ module _ (C : Table) (l : Answers) (s : Slots) (c : Tracked) (m : Message) (now 
 
   -- ---- What the octets do.
 
-  abbrev pub rest_lines : List Line
+  abbrev pub rest_lines : List StreamLine
   rest_lines = (second R c m').lines ++ (third R c m').lines
 
   parts : effects (message_reader C l) c (events_of_octet s.slots.most c.still_open m')

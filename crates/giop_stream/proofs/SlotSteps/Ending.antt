@@ -9,7 +9,7 @@ use Rattle.giop_message.specs.Headers.{size}
 use Rattle.giop_stream.specs.declared.fault.FramingFault.TheVariants.{Short}
 use Rattle.giop_stream.specs.declared.slots.Slots.{Slots}
 use Rattle.giop_stream.specs.declared.current.Current.{Current}
-use Rattle.giop_stream.specs.Framing.{Message}
+use Rattle.giop_stream.specs.Framing.{CutMessage}
 use Rattle.giop_stream.specs.Kinds.{is_any_fragment, named_at, is_short, is_followed}
 use Rattle.giop_stream.specs.Events.{Open, Event, Closes, Faults, message_key, opener_of, has_named, own, event_of_open, events_at_end, now_of, message_end_events}
 use Rattle.giop_stream.specs.Effects.{effects, one_effect, no_effect, effect_to}
@@ -21,17 +21,17 @@ use Rattle.giop_stream.proofs.SlotSteps.Cases.{effects_none, effects_own, effect
 
 -- ---- The owner of the octets.
 
-pub owner_early : (still_open : List Open) (m : Message) → length m.payload < named_at m.header →
+pub owner_early : (still_open : List Open) (m : CutMessage) → length m.payload < named_at m.header →
     owner_of_next still_open m ≡ Some (message_key m)
 unfolding owner_of_next has_named
 owner_early still_open m few = search (arith, lt-leb)
 
-pub owner_plain : (still_open : List Open) (m : Message) → is_any_fragment m.header ≡ false →
+pub owner_plain : (still_open : List Open) (m : CutMessage) → is_any_fragment m.header ≡ false →
     owner_of_next still_open m ≡ Some (message_key m)
 unfolding owner_of_next has_named
 owner_plain still_open m f = rw f refl
 
-pub owner_passed : (still_open : List Open) (m : Message) → is_any_fragment m.header ≡ true →
+pub owner_passed : (still_open : List Open) (m : CutMessage) → is_any_fragment m.header ≡ true →
     named_at m.header ≤ length m.payload →
     owner_of_next still_open m ≡ opener_key (opener_of still_open m)
 unfolding owner_of_next has_named
@@ -53,7 +53,7 @@ last_by false true true xs ys e = absurd cc
 last_by false true false xs ys e = refl
 last_by false false more xs ys e = refl
 
-module _ (C : Table) (l : Answers) (s : Slots) (c : Tracked) (m : Message) (now : Current)
+module _ (C : Table) (l : Answers) (s : Slots) (c : Tracked) (m : CutMessage) (now : Current)
     (h : IsAtOctet C l s c m now) where
   header_at : (says : List ℕ → Bool) (r : Bool) → r ≡ says now.header → says m.header ≡ r
   header_at says r e = search (arith)

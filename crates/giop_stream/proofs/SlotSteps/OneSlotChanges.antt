@@ -6,7 +6,7 @@ use Rattle.std.proofs.lemmas.Bool.{eq-eqb, ne_eqb}
 use Rattle.std.proofs.lemmas.List.{append-nil, map-append}
 use Rattle.giop_message.specs.MessageReader.{MessageReader}
 use Rattle.giop_stream.specs.Events.{Event, Open, octet, joined}
-use Rattle.giop_stream.specs.Lines.{Line, is_last_of, up_to_last_line}
+use Rattle.giop_stream.specs.Lines.{StreamLine, is_last_of, up_to_last_line}
 use Rattle.giop_stream.specs.OpenSlots.{OctetsByNumber, slots_of, Tracked}
 use Rattle.giop_stream.specs.Effects.{lines_at, tracked_at, lines_of, octets_then, lines_for, kept_with, kept_after}
 use Rattle.giop_stream.proofs.Lists.{each_weaker, filter_keeps, map_agree}
@@ -23,7 +23,7 @@ other_joined : (i : ℕ) (e : Event) → (i ≡ e.subject.number → ⊥) → jo
 unfolding joined
 other_joined i e h = search (arith, ne_eqb)
 
-other_last : (i n : ℕ) (ls : List Line) → (i ≡ n → ⊥) → Each (λ l. l.number ≡ n) ls →
+other_last : (i n : ℕ) (ls : List StreamLine) → (i ≡ n → ⊥) → Each (λ l. l.number ≡ n) ls →
     list_any (is_last_of i) ls ≡ false
 unfolding is_last_of
 other_last i n [] h k = refl

@@ -14,7 +14,7 @@ use Rattle.giop_message.proofs.MessageLaws.{is_ordered, is_closing, is_named}
 use Rattle.giop_stream.specs.declared.slots.Slots.{Slots}
 use Rattle.giop_stream.specs.declared.current.Current.{Current}
 use Rattle.giop_stream.specs.Rules.{Rules, rules_by}
-use Rattle.giop_stream.specs.Framing.{Message, with_payload}
+use Rattle.giop_stream.specs.Framing.{CutMessage, with_payload}
 use Rattle.giop_stream.specs.Events.{Takes, MessageKey, Open, Event, message_key, place, opener_of, has_named, goes_past, id, key, events_at_octet, events_at_name, events_of_octet, opened, Rising, naming_events, message_end_events}
 use Rattle.giop_stream.specs.Effects.{Effect, effects, tracked_at, then_effect, with_octet, event, effect_to}
 use Rattle.giop_stream.specs.OpenSlots.{Tracked}
@@ -40,28 +40,29 @@ effects_still_open R c [] = refl
 effects_still_open R c (e ∷ es) = effects_still_open R (tracked_at R c e) es
 
 -- a Fragment opens and closes nothing as it has its place
-fragment_still : (most : ℕ) (still_open : List Open) (m : Message) →
+fragment_still : (most : ℕ) (still_open : List Open) (m : CutMessage) →
     is_any_fragment m.header ≡ true →
     opened still_open (name_events most still_open m) ≡ still_open
 unfolding name_events naming_events opened
 fragment_still most still_open m f = search (arith, quiet_continues)
 
 -- if a message is no Fragment, the open messages make no difference to the events at its end
-plain_end : (still_open still_open' : List Open) (m : Message) → is_any_fragment m.header ≡ false →
+plain_end : (still_open still_open' : List Open) (m : CutMessage) →
+    is_any_fragment m.header ≡ false →
     end_events still_open' m ≡ end_events still_open m
 unfolding end_events message_end_events
 plain_end still_open still_open' m f = rw f refl
 
-end_same : (most : ℕ) (still_open : List Open) (m : Message) →
+end_same : (most : ℕ) (still_open : List Open) (m : CutMessage) →
     end_events (opened still_open (name_events most still_open m)) m ≡ end_events still_open m
 end_same most still_open m = search (arith, fragment_still, plain_end)
 
 -- after the events of the place, the next octets have the same owner as before them
-owner_same : (most : ℕ) (still_open : List Open) (m : Message) →
+owner_same : (most : ℕ) (still_open : List Open) (m : CutMessage) →
     owner_of_next (opened still_open (name_events most still_open m)) m ≡ owner_of_next still_open m
 owner_same most still_open m = search (arith, fragment_still, owner_plain)
 
-rising_name : (most : ℕ) (still_open : List Open) (m : Message) → Rising still_open →
+rising_name : (most : ℕ) (still_open : List Open) (m : CutMessage) → Rising still_open →
     (length m.payload ≡ named_at m.header → IsNewest m.number still_open) →
     Rising (opened still_open (name_events most still_open m))
 unfolding name_events opened opened_by
@@ -79,7 +80,7 @@ rising_name most still_open m r newest = go (length m.payload == named_at m.head
 
 -- ---- The parts.
 
-module _ (R : Rules) (c : Tracked) (m : Message) where
+module _ (R : Rules) (c : Tracked) (m : CutMessage) where
   abbrev pub first : Effect
   first = effects R.reading c (events_at_octet c.still_open m)
 
@@ -130,23 +131,23 @@ module _ (R : Rules) (c : Tracked) (m : Message) where
 
 -- ---- The owner of the next octet.
 
-same_id : (m : Message) (x : ℕ) → 4 ≤ length m.payload → id (with_octet m x) ≡ id m
+same_id : (m : CutMessage) (x : ℕ) → 4 ≤ length m.payload → id (with_octet m x) ≡ id m
 unfolding id
 same_id m x many = search (arith, take-append-le)
 
-pub same_key : (m : Message) (x : ℕ) → named_at m.header ≤ length m.payload → (b : Bool) →
+pub same_key : (m : CutMessage) (x : ℕ) → named_at m.header ≤ length m.payload → (b : Bool) →
     is_old m.header ≡ b → key (with_octet m x) ≡ key m
 unfolding key
 same_key m x many true old = rw old refl
 same_key m x many false new = search (arith, same_id, named_four)
 
-same_opener : (still_open : List Open) (m : Message) (x : ℕ) →
+same_opener : (still_open : List Open) (m : CutMessage) (x : ℕ) →
     named_at m.header ≤ length m.payload →
     opener_of still_open (with_octet m x) ≡ opener_of still_open m
 unfolding opener_of
 same_opener still_open m x many = search (arith, same_key)
 
-pub owner_next : (still_open : List Open) (m : Message) (x : ℕ) →
+pub owner_next : (still_open : List Open) (m : CutMessage) (x : ℕ) →
     owner_of_octet still_open (with_octet m x) ≡ owner_of_next still_open m
 unfolding owner_of_octet owner_of_next has_named goes_past
 owner_next still_open m x = search (
@@ -164,7 +165,7 @@ module _ (C : Table) (l : Answers) where
   pub in_turn : IsStreamable (message_reader C l)
   in_turn = search (arith, is_named, is_ordered, is_closing)
 
-  about_takes : (c : Tracked) (m : Message) (x at : ℕ) (r : Option Open) → goes_past m ≡ true →
+  about_takes : (c : Tracked) (m : CutMessage) (x at : ℕ) (r : Option Open) → goes_past m ≡ true →
       opener_of c.still_open m ≡ r
       → get_or m.payload (length m.payload - 1) 0 ≡ x → place m ≡ at
       → effects (message_reader C l) c (events_at_octet c.still_open m)
@@ -172,14 +173,14 @@ module _ (C : Table) (l : Answers) where
   about_takes c m x at None past e last here = search (arith, octet_lost)
   about_takes c m x at (Some o) past e last here = search (arith, octet_passed)
 
-  pub octet_does : (c : Tracked) (m : Message) (x at : ℕ) →
+  pub octet_does : (c : Tracked) (m : CutMessage) (x at : ℕ) →
       get_or m.payload (length m.payload - 1) 0 ≡ x → place m ≡ at
       → effects (message_reader C l) c (events_at_octet c.still_open m)
       ≡ effect_to C l at c (owner_of_octet c.still_open m) (Takes x)
   unfolding owner_of_octet
   octet_does c m x at last here = search (arith, about_takes, octet_own)
 
-module _ (C : Table) (l : Answers) (most : ℕ) (c : Tracked) (m : Message) (now : Current) (x : ℕ)
+module _ (C : Table) (l : Answers) (most : ℕ) (c : Tracked) (m : CutMessage) (now : Current) (x : ℕ)
     (h : IsBeforeOctet c m now x) where
   last_is : get_or (m.payload ++ x ∷ []) (length (m.payload ++ x ∷ []) - 1) 0 ≡ x
   last_is = search (arith, get_or_push, length_push)
@@ -278,13 +279,13 @@ run_both C l (x ∷ q) before c w r =
     ∙ (λ j. let more = run_effect C l (at j) ran.tracked w r in
     record { tracked = more.tracked; lines = sym (append_assoc one.lines ran.lines more.lines) j })
 
-module _ (C : Table) (l : Answers) (most : ℕ) (s : Slots) (c : Tracked) (m : Message)
+module _ (C : Table) (l : Answers) (most : ℕ) (s : Slots) (c : Tracked) (m : CutMessage)
     (now : Current) (q : List ℕ) (x : ℕ)
     (h : IsBeforeOctets C l s c m now q x) where
   abbrev ran : Effect
   ran = effect_before C l c m now q
 
-  abbrev pub at_last : Message
+  abbrev pub at_last : CutMessage
   at_last = with_payload m (m.payload ++ q)
 
   room : suc (length q) ≤ now.place

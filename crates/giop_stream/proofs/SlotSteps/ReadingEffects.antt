@@ -18,7 +18,7 @@ use Rattle.giop_message.specs.MessageState.{due_text, closing_text, closes_text,
 use Rattle.giop_message.proofs.MessageLaws.{is_ordered, octet_text, close_short, is_closing, close_is}
 use Rattle.giop_stream.specs.declared.fault.FramingFault.{FramingFault}
 use Rattle.giop_stream.specs.Events.{MessageKey, Event, Takes, Faults, Cancelled, Closes, octet, joined}
-use Rattle.giop_stream.specs.Lines.{Line, Said, CancelledBy, Faulted, line, lines_of_event, is_last_of, up_to_last_line}
+use Rattle.giop_stream.specs.Lines.{StreamLine, Said, CancelledBy, Faulted, line, lines_of_event, is_last_of, up_to_last_line}
 use Rattle.giop_stream.specs.Text.{framing_fault_word, line_text, lines_text}
 use Rattle.giop_stream.specs.Stream.{fault_count}
 use Rattle.giop_stream.specs.Effects.{lines_of, octets_then, part_of, no_part, lines_for, event}
@@ -27,7 +27,7 @@ use Rattle.giop_stream.specs.DoesEffect.{WritesLines, one_if}
 
 -- ---- Lines that a reader gives.
 
-abbrev pub reader_lines : ℕ → ℕ → List TimedLine → List Line
+abbrev pub reader_lines : ℕ → ℕ → List TimedLine → List StreamLine
 reader_lines at number rs = map (λ r. record {
   place = at;
   number = number;
@@ -35,7 +35,7 @@ reader_lines at number rs = map (λ r. record {
       Said r.line_class r.text;
 }) rs
 
-abbrev close_lines : ℕ → ℕ → List (LineClass × List ℕ) → List Line
+abbrev close_lines : ℕ → ℕ → List (LineClass × List ℕ) → List StreamLine
 close_lines at number cs = map (λ c. record { place = at; number = number; content = Said c.0 c.1 })
     cs
 

@@ -14,7 +14,7 @@ use Rattle.giop_message.specs.Messages.{message, message_lines}
 use Rattle.giop_message.specs.ReaderOfTable.{first_request_id}
 use Rattle.giop_message.proofs.MessageLaws.{begins_with_id, id_is_said}
 use Rattle.giop_stream.specs.HeaderOctets.{wrong, fronts, first_wrong, first_wrong_octet}
-use Rattle.giop_stream.specs.Framing.{Message}
+use Rattle.giop_stream.specs.Framing.{CutMessage}
 use Rattle.giop_stream.specs.Events.{id}
 use Rattle.giop_stream.specs.PayloadOwner.{SaysId}
 
@@ -122,7 +122,7 @@ fragment_says header f =
 
 -- ---- The request id that is read from its first four octets.
 
-pub id_is_id : (C : Table) (l : Answers) (m : Message) → length m.payload ≡ 4 → SaysId m.header
+pub id_is_id : (C : Table) (l : Answers) (m : CutMessage) → length m.payload ≡ 4 → SaysId m.header
     → first_request_id (message_lines (message (signatures_of C (l m.number) unbroken) m.header
     m.payload))
     ≡ Some (id m)

@@ -3,15 +3,15 @@
 use Rattle.std.specs.Prelude.{false, List, [], ◌∷◌, ◌++◌}
 use Rattle.giop_message.specs.MessageReader.{MessageReader}
 use Rattle.giop_stream.specs.Events.{Event}
-use Rattle.giop_stream.specs.Lines.{Line, by_class, up_to_last_line}
+use Rattle.giop_stream.specs.Lines.{StreamLine, by_class, up_to_last_line}
 use Rattle.giop_stream.specs.OpenSlots.{OctetsByNumber}
 use Rattle.giop_stream.specs.Effects.{lines_for, kept_with}
 
-unfoldable pub all_lines : MessageReader → OctetsByNumber → List Event → List Line
+unfoldable pub all_lines : MessageReader → OctetsByNumber → List Event → List StreamLine
 all_lines R known [] = []
 all_lines R known (e ∷ es) = lines_for R e (known e.subject.number)
     ++ all_lines R (kept_with known (e ∷ [])) es
 
 -- the lines that are written, in the order of their classes
-unfoldable pub sorted_lines : MessageReader → OctetsByNumber → List Event → List Line
+unfoldable pub sorted_lines : MessageReader → OctetsByNumber → List Event → List StreamLine
 sorted_lines R known es = up_to_last_line (λ i. false) (by_class (all_lines R known es))

@@ -6,7 +6,7 @@ use Rattle.std.specs.List.{filter}
 use Rattle.std.proofs.lemmas.Bool.{cases_eq, ne_eqb, eqb-true}
 use Rattle.std.proofs.lemmas.List.Elements.{filter-append}
 use Rattle.giop_stream.specs.Kinds.{is_any_fragment}
-use Rattle.giop_stream.specs.Framing.{Message}
+use Rattle.giop_stream.specs.Framing.{CutMessage}
 use Rattle.giop_stream.specs.Events.{Open}
 use Rattle.giop_stream.specs.OpenSlots.{is_open}
 
@@ -15,11 +15,11 @@ use Rattle.giop_stream.specs.OpenSlots.{is_open}
 unfoldable pub numbers_of : List Open → List ℕ
 numbers_of still_open = map (λ o. o.opener.number) still_open
 
-unfoldable pub tail_of : List Open → Message → List ℕ
+unfoldable pub tail_of : List Open → CutMessage → List ℕ
 tail_of still_open m = if is_any_fragment m.header
     || is_open still_open m.number then [] else m.number ∷ []
 
-unfoldable pub base : List Open → Message → List ℕ
+unfoldable pub base : List Open → CutMessage → List ℕ
 base still_open m = numbers_of still_open ++ tail_of still_open m
 
 unfoldable pub alive : (ℕ → Bool) → List ℕ → List ℕ
@@ -58,13 +58,13 @@ unfolding without
 open_without n i [] h = refl
 open_without n i (o ∷ still_open) h = search (arith, open_by, open_without n i still_open h)
 
-pub dead_tail : (over : ℕ → Bool) (m : Message) (b : Bool) → over m.number ≡ true →
+pub dead_tail : (over : ℕ → Bool) (m : CutMessage) (b : Bool) → over m.number ≡ true →
     alive over (if b then [] else m.number ∷ []) ≡ []
 unfolding alive
 dead_tail over m true h = refl
 dead_tail over m false h = rw h refl
 
-pub removed : (over : ℕ → Bool) (n : ℕ) (still_open : List Open) (m : Message) → over n ≡ true →
+pub removed : (over : ℕ → Bool) (n : ℕ) (still_open : List Open) (m : CutMessage) → over n ≡ true →
     alive over (base (without n still_open) m) ≡ alive over (base still_open m)
 unfolding base tail_of alive
 removed over n still_open m h = search (

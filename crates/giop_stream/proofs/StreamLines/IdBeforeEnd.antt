@@ -9,10 +9,10 @@ use Rattle.giop_message.specs.Phases.{unbroken}
 use Rattle.giop_message.specs.Headers.{size, has_name}
 use Rattle.giop_stream.specs.Kinds.{named_at}
 use Rattle.giop_stream.specs.Rules.{Rules}
-use Rattle.giop_stream.specs.Framing.{Message, cut}
+use Rattle.giop_stream.specs.Framing.{CutMessage, cut}
 use Rattle.giop_message.specs.MessageReader.{LineClass, Value, MessageReader, IsStreamable, due}
 use Rattle.giop_stream.specs.Events.{Takes, MessageKey, Event, Open, goes_past, events_at_header, events_at_octet, events_of_octet, octet, joined}
-use Rattle.giop_stream.specs.Lines.{Line, Said, line, lines_of_event, is_last_of, up_to_last_line}
+use Rattle.giop_stream.specs.Lines.{StreamLine, Said, line, lines_of_event, is_last_of, up_to_last_line}
 use Rattle.giop_stream.specs.OpenSlots.{octets_of}
 use Rattle.giop_stream.specs.Effects.{lines_of, octets_then, lines_for}
 use Rattle.giop_stream.proofs.Lists.{each_filter}
@@ -33,7 +33,8 @@ values_last : {A : Type 0} (e : Event) (f : A → LineClass) (g : A → List ℕ
 values_last e f g i [] h = refl
 values_last e f g i (x ∷ xs) h = search (arith, value_last, values_last e f g i xs h.1)
 
-stand_by : (i : ℕ) (l : Line) (ls : List Line) (f : ℕ → Bool) (a b c : Bool) → is_last_of i l ≡ a
+stand_by : (i : ℕ) (l : StreamLine) (ls : List StreamLine) (f : ℕ → Bool) (a b c : Bool) →
+    is_last_of i l ≡ a
     → list_any (is_last_of i) ls ≡ b → (a || b) ≡ false
     → ((f : ℕ → Bool) → list_any (is_last_of i) ls ≡ false →
     list_any (is_last_of i) (up_to_last_line f ls) ≡ false)
@@ -44,7 +45,7 @@ stand_by i l ls f false true c e k j ih = absurd cc
 stand_by i l ls f false false true e k j ih = ih f k
 stand_by i l ls f false false false e k j ih = search (arith)
 
-stand_last : (i : ℕ) (ls : List Line) (f : ℕ → Bool) → list_any (is_last_of i) ls ≡ false →
+stand_last : (i : ℕ) (ls : List StreamLine) (f : ℕ → Bool) → list_any (is_last_of i) ls ≡ false →
     list_any (is_last_of i) (up_to_last_line f ls) ≡ false
 unfolding up_to_last_line
 stand_last i [] f h = refl
@@ -84,18 +85,18 @@ named_then R laws at w xs x name short = search (arith, takes_last)
 
 -- ---- Octet by octet.
 
-pub not_past : (m : Message) → length m.payload ≤ named_at m.header → goes_past m ≡ false
+pub not_past : (m : CutMessage) → length m.payload ≤ named_at m.header → goes_past m ≡ false
 unfolding goes_past
 not_past m h = search (arith, and_right, le-ltb)
 
-pub early_octet : (most : ℕ) (still_open : List Open) (m : Message) → 0 < length m.payload →
+pub early_octet : (most : ℕ) (still_open : List Open) (m : CutMessage) → 0 < length m.payload →
     length m.payload < named_at m.header
     → length m.payload < size m.header → events_of_octet most still_open m
     ≡ events_at_octet still_open m
 unfolding events_of_octet
 early_octet most still_open m some few lacks = search (arith, ne_eqb, append-nil)
 
-pub first_octet : (most : ℕ) (still_open : List Open) (m : Message) → length m.payload ≡ 0 →
+pub first_octet : (most : ℕ) (still_open : List Open) (m : CutMessage) → length m.payload ≡ 0 →
     0 < named_at m.header → 0 < size m.header →
     events_of_octet most still_open m ≡ events_at_header m
 unfolding events_of_octet
@@ -104,14 +105,15 @@ first_octet most still_open m none named some = search (arith, eq-eqb, ne_eqb, a
 -- the octets of the current message are kept while its request id is incomplete
 abbrev pub IsAlive : Rules → List ℕ → Type 0
 IsAlive R p =
-    (cut p).stop ≡ None → (m : Message) → (cut p).current ≡ Some m → has_name m.header ≡ true →
+    (cut p).stop ≡ None → (m : CutMessage) → (cut p).current ≡ Some m → has_name m.header ≡ true →
     length m.payload < 4 → octets_of R p m.number ≡ Some m.payload
 
-pub record Settled (whole : List Message) (m m' : Message) : Type 0 where
+pub record Settled (whole : List CutMessage) (m m' : CutMessage) : Type 0 where
   pub same : m' ≡ m
   pub lacks : length m.payload < size m.header
 
-pub settled_is : (whole : List Message) (m m' : Message) → (end_message whole m).current ≡ Some m' →
+pub settled_is : (whole : List CutMessage) (m m' : CutMessage) →
+    (end_message whole m).current ≡ Some m' →
     Settled whole m m'
 unfolding end_message
 settled_is whole m m' h = search (arith, ltb-true)

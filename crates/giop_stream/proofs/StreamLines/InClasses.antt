@@ -10,7 +10,7 @@ use Rattle.giop_stream.specs.declared.fault.FramingFault.TheVariants.{OldFragmen
 use Rattle.giop_message.specs.Phases.{unbroken}
 use Rattle.giop_message.specs.Headers.{order, size}
 use Rattle.giop_stream.specs.Rules.{Rules}
-use Rattle.giop_stream.specs.Framing.{Message}
+use Rattle.giop_stream.specs.Framing.{CutMessage}
 use Rattle.giop_message.specs.MessageReader.{MessageReader, IsOrdered, IsClosing}
 use Rattle.giop_stream.specs.Kinds.{is_short, named_at, may_be_cancelled, refused}
 use Rattle.giop_stream.specs.Events.{EventKind, Begins, Takes, Opens, Continues, Cancelled, Faults, Closes, Event, Open, own, event_of_open, key, opener_of, fault_events, opens, same_order, unopened, continues, cancels, events_at_name, events_at_end, now_of, header_events, naming_events, message_end_events, Now}
@@ -200,11 +200,11 @@ module _ (R : Rules) (now : Now) where
   )
 
 -- a message that ends before the request id that it needs
-abbrev pub ends_short : Message → Bool
+abbrev pub ends_short : CutMessage → Bool
 ends_short m = is_short m.header
 
 -- if a message doesn't end before its request id, the joined message may close
-pub always_close : (R : MessageReader) → IsClosing R → (still_open : List Open) (m : Message) →
+pub always_close : (R : MessageReader) → IsClosing R → (still_open : List Open) (m : CutMessage) →
     ends_short m ≡ false → Always R 6 8 (events_at_end still_open m)
 unfolding message_end_events
 always_close R closing still_open m long = search (
@@ -216,12 +216,12 @@ always_close R closing still_open m long = search (
   always_own,
 )
 
-always_short : (R : MessageReader) (still_open : List Open) (m : Message) → ends_short m ≡ true →
+always_short : (R : MessageReader) (still_open : List Open) (m : CutMessage) → ends_short m ≡ true →
     Always R 5 5 (events_at_end still_open m)
 unfolding message_end_events
 always_short R still_open m short = search (arith, always_faulted)
 
-pub always_end : (R : MessageReader) → IsClosing R → (still_open : List Open) (m : Message) →
+pub always_end : (R : MessageReader) → IsClosing R → (still_open : List Open) (m : CutMessage) →
     Always R 5 8 (events_at_end still_open m)
 always_end R closing still_open m = go (ends_short m) refl
   where
@@ -232,7 +232,7 @@ always_end R closing still_open m = go (ends_short m) refl
         (always_close R closing still_open m long)
 
 -- the parts after the first one
-pub always_later : (R : Rules) → IsClosing R.reading → (still_open : List Open) (m : Message) →
+pub always_later : (R : Rules) → IsClosing R.reading → (still_open : List Open) (m : CutMessage) →
     length m.payload ≤ size m.header
     → Always R.reading 3 8
     ((if length m.payload == named_at m.header then events_at_name R.most still_open m

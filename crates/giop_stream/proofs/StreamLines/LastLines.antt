@@ -7,7 +7,7 @@ use Rattle.giop_message.specs.Phases.{unbroken}
 use Rattle.giop_message.specs.MessageReader.{LineClass, MessageReader, IsEnding, is_last}
 use Rattle.giop_stream.specs.Rules.{Rules}
 use Rattle.giop_stream.specs.Events.{EventKind, Cancelled, Faults, Closes, Event, events, joined}
-use Rattle.giop_stream.specs.Lines.{Class, Start, rank, Said, class_of, Line, line, lines_of_event, classes, by_class, is_last_of, up_to_last_line, lines_of_messages}
+use Rattle.giop_stream.specs.Lines.{Class, Start, rank, Said, class_of, StreamLine, line, lines_of_event, classes, by_class, is_last_of, up_to_last_line, lines_of_messages}
 use Rattle.giop_stream.specs.Stream.{is_over}
 use Rattle.giop_stream.specs.OpenSlots.{OctetsByNumber, octets_of}
 use Rattle.giop_stream.specs.Effects.{kept_with, lines_for}
@@ -15,7 +15,7 @@ use Rattle.giop_stream.proofs.StreamLines.EventsTogether.{all_lines, sorted_line
 use Rattle.giop_stream.proofs.Lists.{each_weaker, any_append}
 
 -- No line is lost by ordering them by class.
-of_rank : List Line → ℕ → List Line
+of_rank : List StreamLine → ℕ → List StreamLine
 of_rank ls n = filter (λ l. rank (class_of l.content) == n) ls
 
 any_left : {A : Type 0} (t : A → Bool) (xs ys : List A) → list_any t xs ≡ true →
@@ -26,7 +26,8 @@ pub any_right : {A : Type 0} (t : A → Bool) (xs ys : List A) → list_any t ys
     list_any t (xs ++ ys) ≡ true
 any_right t xs ys h = search (arith, any_append, or_right)
 
-class_by : (t : Line → Bool) (g : ℕ → List Line) (n : ℕ) (d : Class) (cs : List Class) (b : Bool) →
+class_by : (t : StreamLine → Bool) (g : ℕ → List StreamLine) (n : ℕ) (d : Class) (cs : List Class)
+    (b : Bool) →
     (n == rank d) ≡ b
     → (b || list_any (λ c. n == rank c) cs) ≡ true → list_any t (g n) ≡ true
     → (list_any (λ c. n == rank c) cs ≡ true → list_any t (flat_map (λ c. g (rank c)) cs) ≡ true)
@@ -34,7 +35,7 @@ class_by : (t : Line → Bool) (g : ℕ → List Line) (n : ℕ) (d : Class) (cs
 class_by t g n d cs true e h k ih = search (arith, any_left, eqb-true)
 class_by t g n d cs false e h k ih = search (arith, any_right)
 
-any_class : (t : Line → Bool) (g : ℕ → List Line) (n : ℕ) (cs : List Class) →
+any_class : (t : StreamLine → Bool) (g : ℕ → List StreamLine) (n : ℕ) (cs : List Class) →
     list_any (λ c. n == rank c) cs ≡ true
     → list_any t (g n) ≡ true → list_any t (flat_map (λ c. g (rank c)) cs) ≡ true
 any_class t g n [] h k = absurd cc
@@ -46,12 +47,13 @@ unfolding classes
 known_class Start = refl
 known_class _ = refl
 
-record Ranked (t : Line → Bool) (ls : List Line) : Type 0 where
+record Ranked (t : StreamLine → Bool) (ls : List StreamLine) : Type 0 where
   at : ℕ
   known : list_any (λ c. at == rank c) classes ≡ true
   found : list_any t (of_rank ls at) ≡ true
 
-ranked_here : (t : Line → Bool) (l : Line) (ls : List Line) → t l ≡ true → Ranked t (l ∷ ls)
+ranked_here : (t : StreamLine → Bool) (l : StreamLine) (ls : List StreamLine) → t l ≡ true →
+    Ranked t (l ∷ ls)
 unfolding of_rank
 ranked_here t l ls h = record {
   at = rank (class_of l.content);
@@ -61,28 +63,31 @@ ranked_here t l ls h = record {
       rank (class_of k.content) == rank (class_of l.content)) ls)) h);
 }
 
-ranked_by : (t : Line → Bool) (l : Line) (ls : List Line) (b : Bool) → list_any t ls ≡ true →
+ranked_by : (t : StreamLine → Bool) (l : StreamLine) (ls : List StreamLine) (b : Bool) →
+    list_any t ls ≡ true →
     list_any t (cond b (l ∷ ls) ls) ≡ true
 ranked_by t l ls true h = search (arith, or_right)
 ranked_by t l ls false h = h
 
-ranked_more : (t : Line → Bool) (l : Line) (ls : List Line) → Ranked t ls → Ranked t (l ∷ ls)
+ranked_more : (t : StreamLine → Bool) (l : StreamLine) (ls : List StreamLine) → Ranked t ls →
+    Ranked t (l ∷ ls)
 unfolding of_rank
 ranked_more t l ls r = search (arith, ranked_by)
 
-ranked : (t : Line → Bool) (ls : List Line) → list_any t ls ≡ true → Ranked t ls
+ranked : (t : StreamLine → Bool) (ls : List StreamLine) → list_any t ls ≡ true → Ranked t ls
 ranked t [] h = absurd cc
 ranked t (l ∷ ls) h = elim (or_cases (t l) (list_any t ls) h)
     [ inl a ↦ ranked_here t l ls a | inr b ↦ ranked_more t l ls (ranked t ls b) ]
 
-any_by_class : (t : Line → Bool) (ls : List Line) → list_any t ls ≡ true →
+any_by_class : (t : StreamLine → Bool) (ls : List StreamLine) → list_any t ls ≡ true →
     list_any t (by_class ls) ≡ true
 unfolding by_class of_rank
 any_by_class t ls h = let r = ranked t ls h in
     any_class t (λ n. filter (λ l. rank (class_of l.content) == n) ls) r.at classes r.known r.found
 
 -- The last line is written, if its message was not over before.
-stand_by : (i : ℕ) (f : ℕ → Bool) (l : Line) (ls : List Line) (b c : Bool) → f i ≡ false →
+stand_by : (i : ℕ) (f : ℕ → Bool) (l : StreamLine) (ls : List StreamLine) (b c : Bool) →
+    f i ≡ false →
     f l.number ≡ b
     → is_last_of i l ≡ c → (c || list_any (is_last_of i) ls) ≡ true
     → ((g : ℕ → Bool) → g i ≡ false → list_any (is_last_of i) ls ≡ true →
@@ -95,7 +100,7 @@ stand_by i f l ls true false free e k h ih = ih f free h
 stand_by i f l ls false true free e k h ih = rw k refl
 stand_by i f l ls false false free e k h ih = search (arith, or_right)
 
-last_stands : (i : ℕ) (f : ℕ → Bool) (ls : List Line) → f i ≡ false →
+last_stands : (i : ℕ) (f : ℕ → Bool) (ls : List StreamLine) → f i ≡ false →
     list_any (is_last_of i) ls ≡ true → list_any (is_last_of i) (up_to_last_line f ls) ≡ true
 unfolding up_to_last_line
 last_stands i f [] free h = absurd cc
@@ -183,7 +188,7 @@ all_end R ending K (e ∷ es) = (
       (λ d. ends_more R K e es d) es (all_end R ending (kept_with K (e ∷ [])) es),
 )
 
-pub is_over_grows : (R : Rules) (p p' : List ℕ) (ls : List Line) (i : ℕ) →
+pub is_over_grows : (R : Rules) (p p' : List ℕ) (ls : List StreamLine) (i : ℕ) →
     lines_of_messages R p' ≡ lines_of_messages R p ++ ls
     → is_over R p' i ≡ (is_over R p i || list_any (is_last_of i) ls)
 unfolding is_over

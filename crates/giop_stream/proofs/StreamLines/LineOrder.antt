@@ -9,11 +9,11 @@ use Rattle.giop_message.specs.Phases.{unbroken}
 use Rattle.giop_message.specs.Headers.{size, is_fragment, is_opener, has_name}
 use Rattle.giop_stream.specs.Kinds.{is_old, is_any_fragment, is_short, has_place, named_at}
 use Rattle.giop_stream.specs.Rules.{Rules}
-use Rattle.giop_stream.specs.Framing.{Message}
+use Rattle.giop_stream.specs.Framing.{CutMessage}
 use Rattle.giop_message.specs.MessageReader.{LineClass, Value, Fault, MessageReader, due, IsStreamable}
 use Rattle.giop_stream.specs.Effects.{IsBegun, lines_for, kept_with}
 use Rattle.giop_stream.specs.Events.{EventKind, Begins, Takes, Closes, MessageKey, Event, Open, own, event_of_open, opener_of, goes_past, events_at_header, events_at_octet, events_at_name, events_at_end, events_of_octet, octet, joined, now_of, header_events, payload_events, naming_events, message_end_events, events_with_key, Now}
-use Rattle.giop_stream.specs.Lines.{Line, Said, line, lines_of_event, is_last_of, up_to_last_line}
+use Rattle.giop_stream.specs.Lines.{StreamLine, Said, line, lines_of_event, is_last_of, up_to_last_line}
 use Rattle.giop_stream.specs.OpenSlots.{OctetsByNumber}
 use Rattle.giop_stream.proofs.StreamLines.EventsTogether.{all_lines}
 use Rattle.giop_stream.proofs.Lists.{each_filter}
@@ -38,7 +38,7 @@ two_faults d e t u same = search (arith, eq-eqb)
 -- The lines of two events d and e; the lines of each are made from a list of its own.
 module _ {A B : Type 0} (d e : Event) (f : A → LineClass) (g : A → List ℕ) (f' : B → LineClass)
     (g' : B → List ℕ) where
-  abbrev both_give_lines : List A → List B → List Line
+  abbrev both_give_lines : List A → List B → List StreamLine
   both_give_lines xs ys = map (λ a. line d (Said (f a) (g a))) xs
       ++ map (λ b. line e (Said (f' b) (g' b))) ys
 
@@ -158,30 +158,30 @@ module _ (R : MessageReader) (laws : IsStreamable R) where
 
 -- ---- All events of an octet.
 
-at_end_owner : (still_open : List Open) (m : Message) → ends_short m ≡ false →
+at_end_owner : (still_open : List Open) (m : CutMessage) → ends_short m ≡ false →
     is_any_fragment m.header ≡ false
     → (events_at_end still_open m ≡ []) ⊎ (events_at_end still_open m ≡ own (now_of m) Closes)
 unfolding message_end_events
 at_end_owner still_open m short f = search (arith)
 
-at_end_past : (still_open : List Open) (m : Message) → ends_short m ≡ false →
+at_end_past : (still_open : List Open) (m : CutMessage) → ends_short m ≡ false →
     is_any_fragment m.header ≡ true
     → (events_at_end still_open m ≡ []) ⊎ (events_at_end still_open m
     ≡ event_of_open (now_of m) (opener_of still_open m) Closes)
 unfolding message_end_events
 at_end_past still_open m short f = search (arith)
 
-pub not_past : (m : Message) → length m.payload ≤ named_at m.header → goes_past m ≡ false
+pub not_past : (m : CutMessage) → length m.payload ≤ named_at m.header → goes_past m ≡ false
 unfolding goes_past
 not_past m h = search (arith, and_right, le-ltb)
 
-no_name : (most : ℕ) (still_open : List Open) (m : Message) → has_place m.header ≡ false →
+no_name : (most : ℕ) (still_open : List Open) (m : CutMessage) → has_place m.header ≡ false →
     events_at_name most still_open m ≡ []
 unfolding naming_events
 no_name most still_open m h = search (arith, unplaced)
 
 -- a message that doesn't begin with its request id has no place after the octets of its header
-unnamed_past : (most : ℕ) (still_open : List Open) (m : Message) → 0 < length m.payload →
+unnamed_past : (most : ℕ) (still_open : List Open) (m : CutMessage) → 0 < length m.payload →
     has_name m.header ≡ false
     → (if length m.payload == named_at m.header then events_at_name most still_open m else []) ≡ []
 unnamed_past most still_open m some h = go (is_old m.header) (has_place m.header) refl refl
@@ -202,13 +202,14 @@ unnamed_old h n f = go (is_old h) refl
     go false old = absurd (let no = placed_named h (any_placed h f) old in cc)
 
 -- a message isn't too short if it has no request id, or if it has at least 4 octets
-not_short : (m : Message) → (has_name m.header ≡ false) ⊎ (4 ≤ size m.header) → ends_short m ≡ false
+not_short : (m : CutMessage) → (has_name m.header ≡ false) ⊎ (4 ≤ size m.header) →
+    ends_short m ≡ false
 unfolding is_short
 not_short m (inl h) = search (arith, unnamed, and_right)
 not_short m (inr h) = search (arith, le-ltb)
 
 -- the last octet of a header
-short_begins : (R : MessageReader) (m : Message) → ends_short m ≡ true →
+short_begins : (R : MessageReader) (m : CutMessage) → ends_short m ≡ true →
     Always R 0 0 (events_at_header m)
 unfolding header_events own is_short
 short_begins R m short =
@@ -217,14 +218,14 @@ short_begins R m short =
     short).1) refl in
     rw (named_accepted m.header named) (always_own R 0 0 (now_of m) Begins (event_lines_begins R))
 
-old_begins : (R : MessageReader) (m : Message) → is_old m.header ≡ true →
+old_begins : (R : MessageReader) (m : CutMessage) → is_old m.header ≡ true →
     Always R 0 0 (events_at_header m)
 unfolding header_events own
 old_begins R m old =
     rw (old_accepted m.header old) (always_own R 0 0 (now_of m) Begins (event_lines_begins R))
 
 module _ (R : Rules) (laws : IsStreamable R.reading) (K : OctetsByNumber) (still_open : List Open)
-    (m : Message) where
+    (m : CutMessage) where
   abbrev x : ℕ
   x = (now_of m).octet
 

@@ -9,7 +9,7 @@ use Rattle.std.proofs.lemmas.List.Concat.{flat_map-append}
 use Rattle.giop_stream.specs.Events.{EventKind, Begins, Takes, Opens, Continues, Cancelled, Faults, Closes, Event, octet, joined}
 use Rattle.giop_message.specs.Phases.{unbroken}
 use Rattle.giop_message.specs.MessageReader.{MessageReader, IsCausal}
-use Rattle.giop_stream.specs.Lines.{Class, Content, Said, Line, has_class, line, lines_of_event, lines_of_events, classes, by_class, in_order, is_last_of, up_to_last_line}
+use Rattle.giop_stream.specs.Lines.{Class, Content, Said, StreamLine, has_class, line, lines_of_event, lines_of_events, classes, by_class, in_order, is_last_of, up_to_last_line}
 use Rattle.giop_stream.specs.OpenSlots.{OctetsByNumber}
 use Rattle.giop_stream.specs.Effects.{lines_for, kept_with}
 use Rattle.giop_stream.proofs.StreamLines.EventsTogether.{all_lines}
@@ -38,7 +38,7 @@ event_lines_early R causal e so_far more (Takes x) =
 event_lines_early R causal e so_far more _ = refl
 
 -- The lines of events; the octets up to an event determine its lines.
-unfoldable pub lines_so_far : MessageReader → List Event → List Event → List Line
+unfoldable pub lines_so_far : MessageReader → List Event → List Event → List StreamLine
 lines_so_far R past [] = []
 lines_so_far R past (e ∷ es) = lines_of_event R e (joined e.subject.number past)
     (joined e.subject.number past ++ octet e.what) e.what ++ lines_so_far R (past ++ e ∷ []) es
@@ -76,7 +76,7 @@ pub lines_grow : (R : MessageReader) → IsCausal R → (es fs : List Event) →
 lines_grow R causal es fs = search (arith, lines_by_past, lines_so_far_append)
 
 -- Each line of an event has its place and its message.
-IsOf : Event → Line → Type 0
+IsOf : Event → StreamLine → Type 0
 IsOf e l = (l.place ≡ e.place) × (l.number ≡ e.subject.number)
 
 line_of : (e : Event) (content : Content) → IsOf e (line e content)
@@ -111,18 +111,19 @@ pub by_class_none : by_class [] ≡ []
 unfolding by_class classes
 by_class_none = refl
 
-earlier_none : (n k : ℕ) (ls : List Line) → Each (λ l. l.place ≤ n) ls → n < k →
+earlier_none : (n k : ℕ) (ls : List StreamLine) → Each (λ l. l.place ≤ n) ls → n < k →
     filter (λ l. l.place == k) ls ≡ []
 earlier_none n k ls h m = search (arith, filter_drops, each_weaker, ne_eqb)
 
-later_none : (n k : ℕ) (ls : List Line) → Each (λ l. l.place ≡ suc n) ls → k ≤ n →
+later_none : (n k : ℕ) (ls : List StreamLine) → Each (λ l. l.place ≡ suc n) ls → k ≤ n →
     filter (λ l. l.place == k) ls ≡ []
 later_none n k ls h m = search (arith, filter_drops, each_weaker, ne_eqb)
 
-now_all : (n : ℕ) (ls : List Line) → Each (λ l. l.place ≡ n) ls → filter (λ l. l.place == n) ls ≡ ls
+now_all : (n : ℕ) (ls : List StreamLine) → Each (λ l. l.place ≡ n) ls →
+    filter (λ l. l.place == n) ls ≡ ls
 now_all n ls h = search (arith, filter_keeps, each_weaker, eq-eqb)
 
-in_order_same : (k n : ℕ) (old new : List Line) → Each (λ l. l.place ≡ suc n) new → k ≤ n →
+in_order_same : (k n : ℕ) (old new : List StreamLine) → Each (λ l. l.place ≡ suc n) new → k ≤ n →
     in_order k (old ++ new) ≡ in_order k old
 unfolding in_order
 in_order_same zero n old new h m = refl
@@ -135,7 +136,7 @@ in_order_same (suc k) n old new h m =
       append-nil (filter (λ l. l.place == suc k) old),
     ) refl
 
-pub in_order_grows : (n : ℕ) (old new : List Line) → Each (λ l. l.place ≤ n) old →
+pub in_order_grows : (n : ℕ) (old new : List StreamLine) → Each (λ l. l.place ≤ n) old →
     Each (λ l. l.place ≡ suc n) new
     → in_order (suc n) (old ++ new) ≡ in_order n old ++ by_class new
 unfolding in_order
@@ -148,19 +149,19 @@ in_order_grows n old new h k =
       now_all (suc n) new k,
     ) refl
 
-pub in_order_idle : (n : ℕ) (old : List Line) → Each (λ l. l.place ≤ n) old →
+pub in_order_idle : (n : ℕ) (old : List StreamLine) → Each (λ l. l.place ≤ n) old →
     in_order (suc n) old ≡ in_order n old
 unfolding in_order
 in_order_idle n old h = rw (earlier_none n (suc n) old h (omega arith), by_class_none)
     (append-nil (in_order n old))
 
-filter_classes : (q : Line → Bool) (ls : List Line) (cs : List Class)
+filter_classes : (q : StreamLine → Bool) (ls : List StreamLine) (cs : List Class)
     → filter q (flat_map (λ c. filter (has_class c) ls) cs)
     ≡ flat_map (λ c. filter (has_class c) (filter q ls)) cs
 filter_classes q ls [] = refl
 filter_classes q ls (c ∷ cs) = search (arith, filter-append, filter_swap, filter_classes q ls cs)
 
-by_class_filter : (q : Line → Bool) (ls : List Line) →
+by_class_filter : (q : StreamLine → Bool) (ls : List StreamLine) →
     filter q (by_class ls) ≡ by_class (filter q ls)
 unfolding by_class
 by_class_filter q ls = filter_classes q ls classes
@@ -174,21 +175,21 @@ or_or : (a b c : Bool) → ((a || b) || c) ≡ (a || (b || c))
 or_or true b c = refl
 or_or false b c = refl
 
-standing_same : (f g : ℕ → Bool) (ls : List Line) → ((i : ℕ) → f i ≡ g i) →
+standing_same : (f g : ℕ → Bool) (ls : List StreamLine) → ((i : ℕ) → f i ≡ g i) →
     up_to_last_line f ls ≡ up_to_last_line g ls
 standing_same f g ls h = search (arith)
 
-standing_skips : (f : ℕ → Bool) (l : Line) (ls : List Line) → f l.number ≡ true →
+standing_skips : (f : ℕ → Bool) (l : StreamLine) (ls : List StreamLine) → f l.number ≡ true →
     up_to_last_line f (l ∷ ls) ≡ up_to_last_line f ls
 unfolding up_to_last_line
 standing_skips f l ls e = rw (up_to_last_line, e) refl
 
-standing_keeps : (f : ℕ → Bool) (l : Line) (ls : List Line) → f l.number ≡ false →
+standing_keeps : (f : ℕ → Bool) (l : StreamLine) (ls : List StreamLine) → f l.number ≡ false →
     up_to_last_line f (l ∷ ls) ≡ l ∷ up_to_last_line (λ i. f i || is_last_of i l) ls
 unfolding up_to_last_line
 standing_keeps f l ls e = rw (up_to_last_line, e) refl
 
-append_by : (f : ℕ → Bool) (l : Line) (xs ys : List Line) (b : Bool) → f l.number ≡ b
+append_by : (f : ℕ → Bool) (l : StreamLine) (xs ys : List StreamLine) (b : Bool) → f l.number ≡ b
     → ((f : ℕ → Bool) → up_to_last_line f (xs ++ ys) ≡ up_to_last_line f xs
     ++ up_to_last_line (λ i. f i || list_any (is_last_of i) (up_to_last_line f xs)) ys)
     → up_to_last_line f (l ∷ xs ++ ys) ≡ up_to_last_line f (l ∷ xs)
@@ -196,14 +197,14 @@ append_by : (f : ℕ → Bool) (l : Line) (xs ys : List Line) (b : Bool) → f l
 append_by f l xs ys true e ih = search (arith, standing_skips)
 append_by f l xs ys false e ih = search (arith, standing_keeps, standing_same, or_or)
 
-pub standing_append : (f : ℕ → Bool) (xs ys : List Line)
+pub standing_append : (f : ℕ → Bool) (xs ys : List StreamLine)
     → up_to_last_line f (xs ++ ys) ≡ up_to_last_line f xs
     ++ up_to_last_line (λ i. f i || list_any (is_last_of i) (up_to_last_line f xs)) ys
 unfolding up_to_last_line
 standing_append f [] ys = search (arith, standing_same, or_false)
 standing_append f (l ∷ xs) ys = append_by f l xs ys (f l.number) refl (λ g. standing_append g xs ys)
 
-drops_by : (over orig f : ℕ → Bool) (l : Line) (ls : List Line) →
+drops_by : (over orig f : ℕ → Bool) (l : StreamLine) (ls : List StreamLine) →
     ((i : ℕ) → over i ≡ (orig i || f i))
     → ((over f : ℕ → Bool) → ((i : ℕ) → over i ≡ (orig i || f i)) →
     up_to_last_line over ls ≡ up_to_last_line f (filter (λ l. not (orig l.number)) ls))
@@ -214,7 +215,7 @@ drops_by over orig f l ls h ih false true e k = search (arith, standing_skips, n
 drops_by over orig f l ls h ih false false e k = search (arith, standing_keeps, or_or, not)
 
 -- Lines of messages that were over before are never written.
-pub standing_drops : (over orig f : ℕ → Bool) (ls : List Line) →
+pub standing_drops : (over orig f : ℕ → Bool) (ls : List StreamLine) →
     ((i : ℕ) → over i ≡ (orig i || f i))
     → up_to_last_line over ls ≡ up_to_last_line f (filter (λ l. not (orig l.number)) ls)
 unfolding up_to_last_line
@@ -273,7 +274,7 @@ pub all_lines_agree : (R : MessageReader) (f g : OctetsByNumber) (es : List Even
 unfolding all_lines kept_with
 all_lines_agree R f g [] h = refl
 all_lines_agree R f g (e ∷ es) h =
-    rw h.0 (ap (λ (ls : List Line). lines_for R e (g e.subject.number) ++ ls)
+    rw h.0 (ap (λ (ls : List StreamLine). lines_for R e (g e.subject.number) ++ ls)
     (all_lines_agree R (kept_with f (e ∷ [])) (kept_with g (e ∷ [])) es
     (each_weaker (λ d. f d.subject.number ≡ g d.subject.number)
     (λ d. kept_with f (e ∷ []) d.subject.number ≡ kept_with g (e ∷ []) d.subject.number)
@@ -326,17 +327,18 @@ all_lines_each R P known (e ∷ es) h =
     (event_lines_number R P e (known e.subject.number) h.0)
     (all_lines_each R P (kept_with known (e ∷ [])) es h.1)
 
-pub classes_each : (P : Line → Type 0) (ls : List Line) (cs : List Class) → Each P ls →
+pub classes_each : (P : StreamLine → Type 0) (ls : List StreamLine) (cs : List Class) → Each P ls →
     Each P (flat_map (λ c. filter (has_class c) ls) cs)
 classes_each P ls [] h = tt
 classes_each P ls (c ∷ cs) h = search (arith, each_append, each_filter, classes_each P ls cs h)
 
-stands_by : (P : Line → Type 0) (b : Bool) (l : Line) (one two : List Line) → P l → Each P one →
+stands_by : (P : StreamLine → Type 0) (b : Bool) (l : StreamLine) (one two : List StreamLine) →
+    P l → Each P one →
     Each P two → Each P (if b then one else l ∷ two)
 stands_by P true l one two h j k = j
 stands_by P false l one two h j k = (h, k)
 
-pub standing_each : (P : Line → Type 0) (over : ℕ → Bool) (ls : List Line) → Each P ls →
+pub standing_each : (P : StreamLine → Type 0) (over : ℕ → Bool) (ls : List StreamLine) → Each P ls →
     Each P (up_to_last_line over ls)
 unfolding up_to_last_line
 standing_each P over [] h = tt
@@ -351,11 +353,11 @@ pub written_each : (R : MessageReader) (P : ℕ → Type 0) (known : OctetsByNum
 unfolding by_class
 written_each R P known es h = search (arith, standing_each, classes_each, all_lines, all_lines_each)
 
-none_last_by : (i : ℕ) (l : Line) → l.number < i → is_last_of i l ≡ false
+none_last_by : (i : ℕ) (l : StreamLine) → l.number < i → is_last_of i l ≡ false
 unfolding is_last_of
 none_last_by i l h = search (arith, ne_eqb)
 
-pub none_last : (i : ℕ) (ls : List Line) → Each (λ l. l.number < i) ls →
+pub none_last : (i : ℕ) (ls : List StreamLine) → Each (λ l. l.number < i) ls →
     list_any (is_last_of i) ls ≡ false
 none_last i [] h = refl
 none_last i (l ∷ ls) h = search (arith, none_last_by, none_last i ls h.1)

@@ -8,7 +8,7 @@ use Rattle.std.proofs.lemmas.List.Elements.{filter-append}
 use Rattle.giop_stream.specs.Rules.{Rules}
 use Rattle.giop_stream.specs.Framing.{Cut}
 use Rattle.giop_message.specs.MessageReader.{IsCausal, IsStreamable}
-use Rattle.giop_stream.specs.Lines.{Class, rank, Line, has_class, lines}
+use Rattle.giop_stream.specs.Lines.{Class, rank, StreamLine, has_class, lines}
 use Rattle.giop_stream.specs.OpenSlots.{Tracked}
 use Rattle.giop_stream.specs.Octet.{Octet, Ends, Of}
 use Rattle.giop_stream.proofs.Lists.{by_growth, filter_drops, each_append, each_weaker}
@@ -19,12 +19,14 @@ use Rattle.giop_stream.proofs.CodeSteps.EngineAlive.{sound}
 
 -- ---- If the classes of lines rise, each class has at most one line.
 
-passed : (test : Line → Bool) (n : ℕ) → ((l : Line) → test l ≡ true → rank_of l ≡ n) → (k : Line) →
+passed : (test : StreamLine → Bool) (n : ℕ) → ((l : StreamLine) → test l ≡ true →
+    rank_of l ≡ n) → (k : StreamLine) →
     n < rank_of k → test k ≡ false
 passed test n h k less = search (arith)
 
-one_at_most : (test : Line → Bool) (n : ℕ) → ((l : Line) → test l ≡ true → rank_of l ≡ n) →
-    (ls : List Line) → Rises ls → length (filter test ls) ≤ 1
+one_at_most : (test : StreamLine → Bool) (n : ℕ) → ((l : StreamLine) → test l ≡ true →
+    rank_of l ≡ n) →
+    (ls : List StreamLine) → Rises ls → length (filter test ls) ≤ 1
 one_at_most test n h [] r = omega arith
 one_at_most test n h (l ∷ ls) r = search (
   arith,
@@ -39,12 +41,12 @@ one_at_most test n h (l ∷ ls) r = search (
 -- ---- The lines that an octet adds.
 
 record More (R : Rules) (p : List ℕ) (x : ℕ) : Type 0 where
-  more : List Line
+  more : List StreamLine
   grows : lines R (p ++ x ∷ []) ≡ lines R p ++ more
   here : Each (λ l. l.place ≡ suc (length p)) more
   rises : Rises more
 
-more_of : (R : Rules) (p : List ℕ) (x : ℕ) (c : Cut) (ls : List Line) (tracked : Tracked) →
+more_of : (R : Rules) (p : List ℕ) (x : ℕ) (c : Cut) (ls : List StreamLine) (tracked : Tracked) →
     Adds R p (p ++ x ∷ []) c ls tracked → More R p x
 more_of R p x c ls tracked h = search (arith)
 
@@ -55,17 +57,17 @@ more_by R p x _ h = more_of R p x _ _ _ h.2
 
 -- ---- Octet by octet.
 
-abbrev is_at : ℕ → Class → Line → Bool
+abbrev is_at : ℕ → Class → StreamLine → Bool
 is_at k c l = (l.place == k) && has_class c l
 
 record Apart (R : Rules) (p : List ℕ) : Type 0 where
   places : Each (λ l. l.place ≤ length p) (lines R p)
   one : (k : ℕ) (c : Class) → length (filter (is_at k c) (lines R p)) ≤ 1
 
-is_ranked : (k : ℕ) (c : Class) (l : Line) → is_at k c l ≡ true → rank_of l ≡ rank c
+is_ranked : (k : ℕ) (c : Class) (l : StreamLine) → is_at k c l ≡ true → rank_of l ≡ rank c
 is_ranked k c l h = search (arith, eqb-true, rank_of, and_parts)
 
-elsewhere : (k : ℕ) (c : Class) (l : Line) → (l.place ≡ k → ⊥) → is_at k c l ≡ false
+elsewhere : (k : ℕ) (c : Class) (l : StreamLine) → (l.place ≡ k → ⊥) → is_at k c l ≡ false
 elsewhere k c l h = rw (ne_eqb l.place k h) refl
 
 apart_more : (R : Rules) → IsCausal R.reading → IsStreamable R.reading → (p : List ℕ) (x : ℕ) →

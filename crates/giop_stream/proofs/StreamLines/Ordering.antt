@@ -8,7 +8,7 @@ use Rattle.std.proofs.lemmas.List.{append-nil}
 use Rattle.std.proofs.lemmas.List.Elements.{filter-append}
 use Rattle.giop_message.specs.MessageReader.{MessageReader}
 use Rattle.giop_stream.specs.Events.{Event, opened, joined}
-use Rattle.giop_stream.specs.Lines.{Class, Start, rank, class_of, Line, has_class, classes, by_class, is_last_of, up_to_last_line}
+use Rattle.giop_stream.specs.Lines.{Class, Start, rank, class_of, StreamLine, has_class, classes, by_class, is_last_of, up_to_last_line}
 use Rattle.giop_stream.specs.OpenSlots.{OctetsByNumber, Tracked}
 use Rattle.giop_stream.proofs.StreamLines.EventsTogether.{all_lines, sorted_lines}
 use Rattle.giop_stream.specs.Effects.{lines_at, tracked_at, effects, lines_for, kept_with, kept_after}
@@ -17,28 +17,30 @@ use Rattle.giop_stream.proofs.StreamLines.LinesOfOctet.{joined_append, standing_
 
 -- ---- Lines in the order of their classes.
 
-abbrev pub rank_of : Line → ℕ
+abbrev pub rank_of : StreamLine → ℕ
 rank_of l = rank (class_of l.content)
 
-abbrev pub Ordered : List Line → Type 0
+abbrev pub Ordered : List StreamLine → Type 0
 Ordered [] = Unit {0}
 Ordered (l ∷ ls) = Each (λ k. rank_of l ≤ rank_of k) ls × Ordered ls
 
 -- lines whose ranks rise, so that no two have the same class
-abbrev pub Rises : List Line → Type 0
+abbrev pub Rises : List StreamLine → Type 0
 Rises [] = Unit {0}
 Rises (l ∷ ls) = Each (λ k. rank_of l < rank_of k) ls × Rises ls
 
-pub rises_ordered : (ls : List Line) → Rises ls → Ordered ls
+pub rises_ordered : (ls : List StreamLine) → Rises ls → Ordered ls
 rises_ordered [] h = tt
 rises_ordered (l ∷ ls) h = search (arith, each_weaker, rises_ordered ls h.1)
 
-rises_if : (b : Bool) (l : Line) (one two : List Line) → Each (λ k. rank_of l < rank_of k) two →
+rises_if : (b : Bool) (l : StreamLine) (one two : List StreamLine) →
+    Each (λ k. rank_of l < rank_of k) two →
     Rises one → Rises two → Rises (if b then one else l ∷ two)
 rises_if true l one two h j k = j
 rises_if false l one two h j k = (h, k)
 
-pub rises_standing : (over : ℕ → Bool) (ls : List Line) → Rises ls → Rises (up_to_last_line over ls)
+pub rises_standing : (over : ℕ → Bool) (ls : List StreamLine) → Rises ls →
+    Rises (up_to_last_line over ls)
 unfolding up_to_last_line
 rises_standing over [] h = tt
 rises_standing over (l ∷ ls) h =
@@ -48,11 +50,11 @@ rises_standing over (l ∷ ls) h =
     (rises_standing later ls h.1)
 
 -- the lines are in order, and no two of those that are written have the same class
-pub record Fine (ls : List Line) : Type 0 where
+pub record Fine (ls : List StreamLine) : Type 0 where
   pub ordered : Ordered ls
   pub rises : Rises (up_to_last_line (λ i. false) ls)
 
-pub fine_of : (ls : List Line) → Rises ls → Fine ls
+pub fine_of : (ls : List StreamLine) → Rises ls → Fine ls
 fine_of ls h = search (arith, rises_ordered, rises_standing)
 
 -- the ranks of these classes rise
@@ -60,14 +62,15 @@ abbrev Rise : List Class → Type 0
 Rise [] = Unit {0}
 Rise (c ∷ cs) = Each (λ d. rank c < rank d) cs × Rise cs
 
-has_false : (c : Class) (l : Line) → (rank_of l ≡ rank c → ⊥) → has_class c l ≡ false
+has_false : (c : Class) (l : StreamLine) → (rank_of l ≡ rank c → ⊥) → has_class c l ≡ false
 has_false c l h = ne_eqb (rank_of l) (rank c) h
 
-lower_none : (c : Class) (l : Line) (ls : List Line) → rank c < rank_of l →
+lower_none : (c : Class) (l : StreamLine) (ls : List StreamLine) → rank c < rank_of l →
     Each (λ k. rank_of l ≤ rank_of k) ls → filter (has_class c) ls ≡ []
 lower_none c l ls h k = search (arith, filter_drops, each_weaker, has_false)
 
-higher_none : (cs : List Class) (l : Line) (ls : List Line) → Each (λ d. rank_of l < rank d) cs
+higher_none : (cs : List Class) (l : StreamLine) (ls : List StreamLine) →
+    Each (λ d. rank_of l < rank d) cs
     → flat_map (λ c. filter (has_class c) (l ∷ ls)) cs ≡ flat_map (λ c. filter (has_class c) ls) cs
 higher_none [] l ls h = refl
 higher_none (c ∷ cs) l ls h = search (arith, has_false, higher_none cs l ls h.1)
@@ -82,7 +85,7 @@ member_rank n c (d ∷ cs) h k = go (n == rank d) refl k (member_rank n c cs h.1
     go true e j ih = search (arith, eqb-true)
     go false e j ih = ih j
 
-first_by : (c : Class) (cs : List Class) (l : Line) (ls : List Line) (b : Bool) →
+first_by : (c : Class) (cs : List Class) (l : StreamLine) (ls : List StreamLine) (b : Bool) →
     (rank_of l == rank c) ≡ b
     → Each (λ k. rank_of l ≤ rank_of k) ls → Each (λ d. rank c < rank d) cs
     → (b || list_any (λ d. rank_of l == rank d) cs) ≡ true
@@ -97,7 +100,7 @@ first_by c cs l ls false e h r m ih =
     let less = member_rank (rank_of l) c cs r m in
     rw (lower_none c l ls less h, ih m) refl
 
-first_stays : (cs : List Class) (l : Line) (ls : List Line) → Rise cs →
+first_stays : (cs : List Class) (l : StreamLine) (ls : List StreamLine) → Rise cs →
     Each (λ k. rank_of l ≤ rank_of k) ls → list_any (λ d. rank_of l == rank d) cs ≡ true
     → flat_map (λ c. filter (has_class c) (l ∷ ls)) cs
     ≡ l ∷ flat_map (λ c. filter (has_class c) ls) cs
@@ -119,23 +122,23 @@ no_lines [] = refl
 no_lines (c ∷ cs) = no_lines cs
 
 -- lines in the order of their classes stay as they are when they are sorted
-pub ordered_stays : (ls : List Line) → Ordered ls → by_class ls ≡ ls
+pub ordered_stays : (ls : List StreamLine) → Ordered ls → by_class ls ≡ ls
 unfolding by_class
 ordered_stays [] h = no_lines classes
 ordered_stays (l ∷ ls) h = first_stays classes l ls classes_rise h.0 (a_class (class_of l.content))
-    ∙ ap (λ (ks : List Line). l ∷ ks) (ordered_stays ls h.1)
+    ∙ ap (λ (ks : List StreamLine). l ∷ ks) (ordered_stays ls h.1)
 
-pub ordered_right : (xs ys : List Line) → Ordered (xs ++ ys) → Ordered ys
+pub ordered_right : (xs ys : List StreamLine) → Ordered (xs ++ ys) → Ordered ys
 ordered_right [] ys h = h
 ordered_right (x ∷ xs) ys h = ordered_right xs ys h.1
 
-filtered_by : (q : Line → Bool) (l : Line) (ls : List Line) (b : Bool) →
+filtered_by : (q : StreamLine → Bool) (l : StreamLine) (ls : List StreamLine) (b : Bool) →
     Each (λ k. rank_of l ≤ rank_of k) ls
     → Ordered (filter q ls) → Ordered (cond b (l ∷ filter q ls) (filter q ls))
 filtered_by q l ls true h k = search (arith, each_filter)
 filtered_by q l ls false h k = k
 
-ordered_filter : (q : Line → Bool) (ls : List Line) → Ordered ls → Ordered (filter q ls)
+ordered_filter : (q : StreamLine → Bool) (ls : List StreamLine) → Ordered ls → Ordered (filter q ls)
 ordered_filter q [] h = tt
 ordered_filter q (l ∷ ls) h = search (arith, filtered_by, ordered_filter q ls h.1)
 
@@ -180,7 +183,7 @@ all_lines_filter R over K (e ∷ es) =
       kept_filter R over e (K e.subject.number) (over e.subject.number) refl,
       all_lines_filter R over (kept_with K (e ∷ [])) es,
     )
-    (ap (λ (ls : List Line). lines_for R e
+    (ap (λ (ls : List StreamLine). lines_for R e
     (if over e.subject.number then None else K e.subject.number) ++ ls)
     (same_all_lines R (λ i. if over i then None else kept_with K (e ∷ []) i)
     (kept_with (λ i. if over i then None else K i) (e ∷ [])) es
@@ -230,7 +233,7 @@ split_lines R K e es h =
     ordered_stays (filter (λ l. not (over l.number)) B)
     (ordered_filter (λ l. not (over l.number)) B (ordered_right A B h)) in
     rw (ordered_stays (A ++ B) h, later, sorted)
-    (standing_append (λ i. false) A B ∙ ap (λ (ls : List Line). up_to_last_line (λ i. false) A
+    (standing_append (λ i. false) A B ∙ ap (λ (ls : List StreamLine). up_to_last_line (λ i. false) A
     ++ ls)
     (standing_drops over over (λ i. false) B (λ i. or_none (over i))))
 

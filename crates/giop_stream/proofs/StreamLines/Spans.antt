@@ -4,26 +4,27 @@ use Rattle.std.proofs.Common.{inl, inr, ◌⊎◌, ◌≡◌, ℕ, ◌<◌, ◌�
 use Rattle.std.specs.List.{list_any, AllByRecursion as Each}
 use Rattle.giop_message.specs.MessageReader.{LineClass, Value, Call, Rest, Fault, End, AreInLineOrder, AtClose, is_fault}
 use Rattle.giop_stream.specs.Events.{Event}
-use Rattle.giop_stream.specs.Lines.{Said, Line, line}
+use Rattle.giop_stream.specs.Lines.{Said, StreamLine, line}
 use Rattle.giop_stream.proofs.Lists.{each_append, each_weaker}
 use Rattle.giop_stream.proofs.StreamLines.Ordering.{rank_of, Rises}
 
 -- ---- Lines whose classes rise, within two ranks.
 
-abbrev pub Between : ℕ → ℕ → Line → Type 0
+abbrev pub Between : ℕ → ℕ → StreamLine → Type 0
 Between lo hi l = (lo ≤ rank_of l) × (rank_of l ≤ hi)
 
-pub record Spans (lo hi : ℕ) (ls : List Line) : Type 0 where
+pub record Spans (lo hi : ℕ) (ls : List StreamLine) : Type 0 where
   pub within : Each (Between lo hi) ls
   pub rises : Rises ls
 
 pub spans_none : (lo hi : ℕ) → Spans lo hi []
 spans_none lo hi = search (arith)
 
-pub spans_wider : (a b lo hi : ℕ) (ls : List Line) → a ≤ lo → hi ≤ b → Spans lo hi ls → Spans a b ls
+pub spans_wider : (a b lo hi : ℕ) (ls : List StreamLine) → a ≤ lo → hi ≤ b → Spans lo hi ls →
+    Spans a b ls
 spans_wider a b lo hi ls h k s = search (arith, each_weaker)
 
-rises_join : (n : ℕ) (xs ys : List Line) → Each (λ l. rank_of l ≤ n) xs →
+rises_join : (n : ℕ) (xs ys : List StreamLine) → Each (λ l. rank_of l ≤ n) xs →
     Each (λ l. n < rank_of l) ys → Rises xs → Rises ys → Rises (xs ++ ys)
 rises_join n [] ys h k o p = p
 rises_join n (x ∷ xs) ys h k o p = search (
@@ -35,7 +36,7 @@ rises_join n (x ∷ xs) ys h k o p = search (
       xs ys h.1 k o.1 p,
 )
 
-pub spans_join : (a b c d : ℕ) (xs ys : List Line) → b < c → a ≤ c → b ≤ d → Spans a b xs →
+pub spans_join : (a b c d : ℕ) (xs ys : List StreamLine) → b < c → a ≤ c → b ≤ d → Spans a b xs →
     Spans c d ys → Spans a d (xs ++ ys)
 spans_join a b c d xs ys h k i s t = record {
   within = each_append (Between a d) xs ys
@@ -48,7 +49,7 @@ spans_join a b c d xs ys h k i s t = record {
       (λ l j. let low = j.0 in omega arith) ys t.within) s.rises t.rises;
 }
 
-pub spans_one : (n : ℕ) (l : Line) → rank_of l ≡ n → Spans n n (l ∷ [])
+pub spans_one : (n : ℕ) (l : StreamLine) → rank_of l ≡ n → Spans n n (l ∷ [])
 spans_one n l h = search (arith)
 
 -- ---- The same for a reader's line classes.

@@ -7,11 +7,11 @@ use Rattle.std.proofs.lemmas.List.Elements.{filter-append}
 use Rattle.giop_stream.specs.declared.fault.FramingFault.{FramingFault}
 use Rattle.giop_message.specs.Headers.{size}
 use Rattle.giop_stream.specs.Rules.{Rules}
-use Rattle.giop_stream.specs.Framing.{Message}
+use Rattle.giop_stream.specs.Framing.{CutMessage}
 use Rattle.giop_stream.specs.Kinds.{named_at, refused}
 use Rattle.giop_stream.specs.Events.{EventKind, Begins, Takes, Opens, Closes, Event, Open, message_key, place, key, own, event_of_open, opener_of, fault_events, events_at_name, events_at_end, events_of_octet, now_of, header_events, payload_events, Now}
 use Rattle.giop_message.specs.MessageReader.{LineClass, MessageReader}
-use Rattle.giop_stream.specs.Lines.{Start, Started, Said, Line, has_class, line, lines_of_event, classes, by_class, is_last_of, up_to_last_line}
+use Rattle.giop_stream.specs.Lines.{Start, Started, Said, StreamLine, has_class, line, lines_of_event, classes, by_class, is_last_of, up_to_last_line}
 use Rattle.giop_stream.specs.Stream.{is_start, start_count}
 use Rattle.giop_stream.specs.OpenSlots.{OctetsByNumber}
 use Rattle.giop_stream.specs.Effects.{lines_for, kept_with}
@@ -20,14 +20,15 @@ use Rattle.giop_stream.proofs.Events.EventInduction.{IsLater, of_later, either}
 use Rattle.giop_stream.proofs.Lists.{each_append, each_map, filter_drops, each_weaker}
 use Rattle.giop_stream.proofs.StreamLines.LinesOfOctet.{classes_each, standing_each}
 
-NoStart : Line → Type 0
+NoStart : StreamLine → Type 0
 NoStart l = is_start l.content ≡ false
 
-none_count : (ls : List Line) → Each NoStart ls → start_count ls ≡ 0
+none_count : (ls : List StreamLine) → Each NoStart ls → start_count ls ≡ 0
 unfolding start_count NoStart
 none_count ls h = search (arith, filter_drops)
 
-pub start_append : (xs ys : List Line) → start_count (xs ++ ys) ≡ start_count xs + start_count ys
+pub start_append : (xs ys : List StreamLine) → start_count (xs ++ ys) ≡ start_count xs +
+    start_count ys
 unfolding start_count
 start_append xs ys = search (arith, filter-append, length-append)
 
@@ -102,12 +103,12 @@ unfolding payload_events
 quiet_octet now other = search (arith, either, quiet_about, calm_takes, quiet_own)
 
 -- the events of an octet after its first part
-later_part : (most : ℕ) → List Open → Message → List Event
+later_part : (most : ℕ) → List Open → CutMessage → List Event
 later_part most still_open m =
     (if length m.payload == named_at m.header then events_at_name most still_open m else [])
     ++ (if length m.payload == size m.header then events_at_end still_open m else [])
 
-quiet_later : (most : ℕ) (still_open : List Open) (m : Message) →
+quiet_later : (most : ℕ) (still_open : List Open) (m : CutMessage) →
     Each Quiet (later_part most still_open m)
 unfolding later_part
 quiet_later most still_open m =
@@ -117,7 +118,7 @@ quiet_later most still_open m =
       theirs = λ what later. quiet_about (now_of m) (opener_of still_open m) what (calm what later);
     })
 
-pub none_later : (R : Rules) (K : OctetsByNumber) (still_open : List Open) (m : Message) →
+pub none_later : (R : Rules) (K : OctetsByNumber) (still_open : List Open) (m : CutMessage) →
     0 < length m.payload → start_count (sorted_lines R.reading K
     (events_of_octet R.most still_open m)) ≡ 0
 unfolding sorted_lines by_class events_of_octet later_part
@@ -135,16 +136,17 @@ none_later R K still_open m h = search (
 )
 
 -- lines without a start line have none of the class Start
-no_start_class : (ls : List Line) → Each NoStart ls → filter (has_class Start) ls ≡ []
+no_start_class : (ls : List StreamLine) → Each NoStart ls → filter (has_class Start) ls ≡ []
 unfolding NoStart
 no_start_class ls h = search (arith, filter_drops, each_weaker)
 
-start_first : (l : Line) (header : List ℕ) (ls : List Line) → l.content ≡ Started header →
+start_first : (l : StreamLine) (header : List ℕ) (ls : List StreamLine) →
+    l.content ≡ Started header →
     Each NoStart ls → by_class (l ∷ ls) ≡ l ∷ by_class ls
 unfolding by_class classes
 start_first l header ls e h = search (arith, no_start_class)
 
-begun : (R : MessageReader) (K : OctetsByNumber) (m : Message) (e : Event) (xs : List ℕ)
+begun : (R : MessageReader) (K : OctetsByNumber) (m : CutMessage) (e : Event) (xs : List ℕ)
     (rest : List Event) → e.subject ≡ message_key m
     → e.what ≡ Begins → K m.number ≡ Some xs →
     all_lines R K (e ∷ rest) ≡ line e (Started m.header) ∷ all_lines R
@@ -156,22 +158,22 @@ first_start : (e : Event) (header : List ℕ) → is_start (line e (Started head
 unfolding line
 first_start e header = refl
 
-by_class_each : (ls : List Line) → Each NoStart ls → Each NoStart (by_class ls)
+by_class_each : (ls : List StreamLine) → Each NoStart ls → Each NoStart (by_class ls)
 unfolding by_class
 by_class_each ls h = search (arith, classes_each)
 
-one_counted : (l : Line) (ls : List Line) → is_start l.content ≡ true
+one_counted : (l : StreamLine) (ls : List StreamLine) → is_start l.content ≡ true
     → Each NoStart (up_to_last_line (λ i. false || is_last_of i l) ls) →
     start_count (up_to_last_line (λ i. false) (l ∷ ls)) ≡ 1
 unfolding up_to_last_line start_count
 one_counted l ls k h = search (arith, none_count)
 
-first_of_all : (e : Event) (header : List ℕ) (more : List Line) → Each NoStart more
+first_of_all : (e : Event) (header : List ℕ) (more : List StreamLine) → Each NoStart more
     → by_class (line e (Started header) ∷ more) ≡ line e (Started header) ∷ by_class more
 unfolding line
 first_of_all e header more h = search (arith, start_first)
 
-pub one_first : (R : Rules) (K : OctetsByNumber) (still_open : List Open) (m : Message)
+pub one_first : (R : Rules) (K : OctetsByNumber) (still_open : List Open) (m : CutMessage)
     (xs : List ℕ) → m.payload ≡ []
     → K m.number ≡ Some xs → start_count (sorted_lines R.reading K
     (events_of_octet R.most still_open m)) ≡ 1
@@ -180,7 +182,7 @@ one_first R K still_open m xs payload_octet known =
     let e : Event = record { place = place m; subject = message_key m; what = Begins } in
     let rest : List Event = fault_events (now_of m) (refused m.header)
     ++ later_part R.most still_open m in
-    let more : List Line = all_lines R.reading (kept_with K (e ∷ [])) rest in
+    let more : List StreamLine = all_lines R.reading (kept_with K (e ∷ [])) rest in
     let none : Each NoStart more =
     all_lines_none R.reading (kept_with K (e ∷ [])) rest
     (each_append Quiet (fault_events (now_of m) (refused m.header))

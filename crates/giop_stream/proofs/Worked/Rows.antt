@@ -1,6 +1,6 @@
 -- The definitions on example streams with fragments: the text, and what is written at the end. Each
 -- row holds by computation, with a small reader: it gives a line for the request id, and at the
--- close a line for the octets after it. `giop_stream_rows` has streams that are read by the reader
+-- close a line for the octets after it. `giop_stream_worked` has streams that are read by the reader
 -- of messages itself.
 use Rattle.std.proofs.Common.{arith, ◌≡◌, ℕ, ◌+◌, ◌-◌, ◌*◌, List, [], ◌∷◌, ◌++◌, length, take, drop, codes}
 use Rattle.std.specs.Prelude.{nat_le, nat_lt, ◌==◌, if◌then◌else◌, ◌&&◌}

@@ -1,7 +1,7 @@
 use Rattle.giop_conversation.proofs.StreamTextLemmas.{all_shown}
 use Rattle.giop_conversation.proofs.StreamEnds.{all_end}
 use Rattle.giop_conversation.proofs.StreamCloses.{all_close}
-use Rattle.giop_conversation.proofs.StreamRooms.{all_have_rooms}
+use Rattle.giop_conversation.proofs.StreamSlots.{all_have_slots}
 use Rattle.giop_conversation.proofs.laws.each_stream_is_dumped.Goals as goal
 
 pub returns-clause-shows : goal.returns-clause-shows
@@ -17,5 +17,5 @@ returns-clause-ends c = λ S written events d leads turn number is.
 pub returns-clause-closes : goal.returns-clause-closes
 returns-clause-closes c = all_close
 
-pub returns-clause-rooms : goal.returns-clause-rooms
-returns-clause-rooms c = all_have_rooms
+pub returns-clause-slots : goal.returns-clause-slots
+returns-clause-slots c = all_have_slots

@@ -2,8 +2,8 @@ use Rattle.std.proofs.Common.{◌-◌, arith}
 use Rattle.giop_decode.proofs.StoredChain.{chained_more, first_rest, frame_known, frame_there}
 use Rattle.giop_decode.proofs.chain.+follow.Goals as goal
 
-pub part_in-requires-clause-place : goal.part_in-requires-clause-place
-part_in-requires-clause-place t c =
+pub part_in-requires-clause-index : goal.part_in-requires-clause-index
+part_in-requires-clause-index t c =
     let fits = (c.is_frame_of.ensures.0 c.if-is_frame_of.true).1 in
     rw c.part_index.ensures
     (frame_there c.args.catalogue.now (c.args.room - 1) c.args.of.0 _ _ _ _ fits)

@@ -57,8 +57,8 @@ push-requires c =
     (c.in-Some.ensures.whole _) in
     (omega arith, omega (arith, b.room))
 
-pub part-inner-requires-clause-place : goal.part-inner-requires-clause-place
-part-inner-requires-clause-place c =
+pub part-inner-requires-clause-index : goal.part-inner-requires-clause-index
+part-inner-requires-clause-index c =
     whole_placed (tree_at c.args.catalogue.now 24 c.loop-count.inner.0) c.in-Some.count
     c.in-Some.told (begins _ _ c.in-Some.count c.in-Some.told c.loop-count.invariant.fit
     (c.in-Some.ensures.whole _)).some (c.in-Some.ensures.whole 24)

@@ -105,8 +105,8 @@ loop-frame-preserved-else-left-gt0 c =
           (f.of.0, link_pop t root c.loop-frame.outer.items rest f l.0 is l.1));
     }
 
-pub part-part-requires-clause-place : goal.part-part-requires-clause-place
-part-part-requires-clause-place c =
+pub part-part-requires-clause-index : goal.part-part-requires-clause-index
+part-part-requires-clause-index c =
     let t = c.args.catalogue.now in
     let f = c.in-Some.frame in
     let rest = frames_above c.loop-frame.outer.items in

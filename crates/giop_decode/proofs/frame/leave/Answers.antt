@@ -1,5 +1,5 @@
 use Rattle.std.proofs.Common.{◌∷◌, [], length, sym, ◌∙◌, ap, subst, arith, length-append}
-use Rattle.giop_decode.specs.declared.progress.Kind.TheVariants as kinds
+use Rattle.giop_decode.specs.declared.progress.ValueFault.TheVariants as kinds
 use Rattle.giop_decode.specs.Fits.{OpenFrom}
 use Rattle.giop_decode.specs.NextParts.{frames_above}
 use Rattle.giop_decode.specs.ReadResult.{Done, Fault}

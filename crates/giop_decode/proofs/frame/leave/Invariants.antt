@@ -1,7 +1,7 @@
 use Rattle.std.proofs.Common.{◌≡◌, ℕ, ◌≤◌, List, []}
 use Rattle.arrayvec.specs.ArrayVec.{array_vec_len}
 use Rattle.giop_decode.specs.declared.frame.Within.{Within}
-use Rattle.giop_decode.specs.declared.progress.Kind.TheVariants as kinds
+use Rattle.giop_decode.specs.declared.progress.ValueFault.TheVariants as kinds
 use Rattle.giop_decode.specs.Fits.{OpenFrom}
 use Rattle.giop_decode.specs.ReadResult.{Coding, PathSegment, Fault}
 use Rattle.giop_decode.specs.ReadingSteps.{around}

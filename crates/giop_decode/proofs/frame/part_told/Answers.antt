@@ -61,7 +61,7 @@ returns-in-Then-clause-part c =
     (Then (c.in-Then.place - 1)) c.len.ensures.value
     (rw c.signal.ensures at c.in-Then.ensures.is) in
     (then_told C items rest f c.args.told start is told P c.in-Then.place
-    c.replace.new.outer.items _ c.part.result.0 c.in-Then.ensures.place s to refl
+    c.replace.new.outer.items _ c.part.result.0 c.in-Then.ensures.index s to refl
     c.part.ensures.known c.part.ensures.number
     (c.part.ensures.rooms (led_bare (tree C f.of.0) (P.within 24).0))).0
 
@@ -81,7 +81,7 @@ returns-in-Then-clause-known c =
     (Then (c.in-Then.place - 1)) c.len.ensures.value
     (rw c.signal.ensures at c.in-Then.ensures.is) in
     (then_told C items rest f c.args.told start is told P c.in-Then.place
-    c.replace.new.outer.items _ c.part.result.0 c.in-Then.ensures.place s to refl
+    c.replace.new.outer.items _ c.part.result.0 c.in-Then.ensures.index s to refl
     c.part.ensures.known c.part.ensures.number
     (c.part.ensures.rooms (led_bare (tree C f.of.0) (P.within 24).0))).1
 

@@ -2,7 +2,7 @@ use Rattle.std.proofs.Common.{suc, refl, arith}
 use Rattle.giop_sig.specs.Trees.{tree_at}
 use Rattle.giop_sig.specs.declared.types.Shape.TheVariants as shapes
 use Rattle.giop_decode.proofs.Rooms.{fit_of_room, shape_of_room}
-use Rattle.giop_decode.specs.declared.progress.Kind.TheVariants as kinds
+use Rattle.giop_decode.specs.declared.progress.ValueFault.TheVariants as kinds
 use Rattle.giop_decode.proofs.StepLaws.{refused_fits, refused_gives, sequence_over}
 use Rattle.giop_decode.proofs.TransitionLaws.{sequence_empty, sequence_open}
 use Rattle.giop_decode.proofs.leading_numbers.take_count.Goals as goal

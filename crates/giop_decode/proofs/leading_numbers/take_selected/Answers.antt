@@ -2,7 +2,7 @@ use Rattle.std.proofs.Common.{suc, refl, sym}
 use Rattle.giop_sig.specs.Trees.{tree_at}
 use Rattle.giop_sig.specs.Types.{switch_of}
 use Rattle.giop_decode.proofs.Rooms.{fit_of_room, member_of_room, number_of_room, union_of_room}
-use Rattle.giop_decode.specs.declared.progress.Kind.TheVariants as kinds
+use Rattle.giop_decode.specs.declared.progress.ValueFault.TheVariants as kinds
 use Rattle.giop_decode.proofs.StepLaws.{refused_fits, union_silent}
 use Rattle.giop_decode.proofs.TransitionLaws.{member_case, case_transition, turns_nothing, turns_refused, taken_number}
 use Rattle.giop_decode.proofs.leading_numbers.take_selected.Goals as goal
@@ -14,7 +14,7 @@ returns-in-Case-clause-fits c room =
     record {
       transition_fits = member_case (tree_at C (suc room) c.args.of.0) i
           (union_of_room C c.args.of.0 room c.requires.union)
-          (member_of_room C c.args.of.0 room i (c.in-Case.ensures.place i refl));
+          (member_of_room C c.args.of.0 room i (c.in-Case.ensures.index i refl));
       has_output = (
         union_of_room C c.args.of.0 room c.requires.union,
         number_of_room C c.args.of.0 room c.args.number c.laws.ensures c.requires.known

@@ -1,7 +1,7 @@
 use Rattle.std.proofs.Common.{suc, [], refl, arith}
 use Rattle.giop_sig.specs.Trees.{tree_at}
 use Rattle.giop_decode.proofs.Rooms.{octets_of_room}
-use Rattle.giop_decode.specs.declared.progress.Kind.TheVariants as kinds
+use Rattle.giop_decode.specs.declared.progress.ValueFault.TheVariants as kinds
 use Rattle.giop_decode.proofs.StepLaws.{octets_over, piece_ended, refused_fits, refused_gives}
 use Rattle.giop_decode.proofs.TransitionLaws.{octets_empty, octets_open}
 use Rattle.giop_decode.proofs.leading_numbers.take_size.Goals as goal

@@ -2,7 +2,7 @@ use Rattle.std.proofs.Common.{◌≡◌, suc, ◌≤◌, Some, None, refl, sym, 
 use Rattle.giop_sig.specs.Trees.{tree, tree_at}
 use Rattle.giop_sig.specs.Types.{Plain, Enum, Marked, switch_of}
 use Rattle.giop_cdr.specs.Numbers.{num}
-use Rattle.giop_decode.specs.declared.progress.Kind.TheVariants as kinds
+use Rattle.giop_decode.specs.declared.progress.ValueFault.TheVariants as kinds
 use Rattle.giop_decode.specs.Reading.{wrong}
 use Rattle.giop_decode.proofs.MarkedNumbers.{number_marked}
 use Rattle.giop_decode.proofs.Rooms.{union_of_room}

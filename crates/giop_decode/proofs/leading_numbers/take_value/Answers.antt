@@ -1,7 +1,7 @@
 use Rattle.std.proofs.Common.{◌≡◌, suc, Some, None, refl, ◌∙◌, arith, rules}
 use Rattle.giop_sig.specs.Trees.{tree, tree_at}
 use Rattle.giop_cdr.specs.Numbers.{num}
-use Rattle.giop_decode.specs.declared.progress.Kind.TheVariants as kinds
+use Rattle.giop_decode.specs.declared.progress.ValueFault.TheVariants as kinds
 use Rattle.giop_decode.specs.Reading.{wrong}
 use Rattle.giop_decode.proofs.MarkedNumbers.{marked_wrong, number_marked}
 use Rattle.giop_decode.proofs.StepLaws.{refused_fits, refused_gives}

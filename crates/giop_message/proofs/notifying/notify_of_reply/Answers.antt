@@ -6,7 +6,7 @@ use Rattle.giop_message.proofs.notifying.notify_of_reply.Goals as goal
 pub returns-in-Some-clause-told : goal.returns-in-Some-clause-told
 returns-in-Some-clause-told g c C r keeps_noted =
     let st = g.Q.Correspondent.state c.args.correspondent.now in
-    c.answered.ensures
+    c.on_answer.ensures
     ∙ ap (λ o. after_event g.Q.Correspondent.notified st (reply_event c.args.number o))
     (c.in-Some.ensures C roots.Header r keeps_noted)
 

@@ -15,7 +15,7 @@ returns-in_default-clause-told g c C r keeps_noted =
 pub returns-clause-told : goal.returns-clause-told
 returns-clause-told g c C r keeps_noted =
     let st = g.Q.Correspondent.state c.args.correspondent.now in
-    c.called.ensures
+    c.on_call.ensures
     ∙ (ap (λ name. g.Q.Correspondent.notified st
     (Requested c.args.number c.in-Some.id name c.args.operation
     c.expects_reply-expects_reply.result))

@@ -9,7 +9,7 @@ returns-in-None-clause-dumped g c =
     begun_dumped _ (asked_of c.args.asked) _ _ c.in_ok-engine.engine _ _
     (g.R.Inputs.given c.args.rt.now) _ _ _
     e.table e.request_table c.ending_for-ending.ensures (rw c.in-None.is refl)
-    e.ok (c.dumped.ensures.dumped _ c.standard_input.ensures)
+    e.ok (c.dump_source.ensures.dumped _ c.standard_input.ensures)
 
 pub returns-in-Some-clause-dumped : goal.returns-in-Some-clause-dumped
 returns-in-Some-clause-dumped g c =

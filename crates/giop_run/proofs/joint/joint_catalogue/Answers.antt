@@ -5,12 +5,12 @@ use Rattle.giop_sig.specs.Table.{Table}
 use Rattle.giop_sig_files.specs.declared.places.SignatureText.{SignatureText}
 use Rattle.giop_run.specs.Files.{Folder, Declares}
 use Rattle.giop_run.specs.Joint.{AreRead, text_of, CataloguesOf}
-use Rattle.giop_run.specs.declared.fault.ProgramFault.{ProgramFault}
+use Rattle.giop_run.specs.declared.fault.ProgramError.{ProgramError}
 use Rattle.giop_run.proofs.joint.joint_catalogue.Goals as goal
 
 -- there are as many files as names
 by_names : (held : Folder) (names : List (List ℕ)) (files : List SignatureText)
-    (r : Result Table ProgramFault) → AreRead held names files
+    (r : Result Table ProgramError) → AreRead held names files
     → (files ≡ [] → IfOk r (λ C. C ≡ builtin_table))
     → (files ≢ [] → IfOk r (Declares 3 (text_of files))) → IfOk r (CataloguesOf held names)
 by_names held names files (Err fault) read none some = tt

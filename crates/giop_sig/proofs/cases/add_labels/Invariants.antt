@@ -4,4 +4,4 @@ use Rattle.giop_sig.proofs.cases.add_labels.Given as goal
 
 abbrev pub invariant-loop-number : goal.invariant-loop-number
 invariant-loop-number l =
-    l.labels.items ≡ l.fn.labels.items ++ map (placed l.place) (take l.number-index l.numbers)
+    l.labels.items ≡ l.fn.labels.items ++ map (placed l.index) (take l.number-index l.numbers)

@@ -14,7 +14,7 @@ returns-else-at-labels c = λ cases is.
     let ls = c.args.labels.now in
     let at = c.first_from-at.result in
     let none = not_found cases ls at c.args.number
-    (record { number = numbers.Unsigned 0; place = 0 }) is c.requires
+    (record { number = numbers.Unsigned 0; index = 0 }) is c.requires
     (λ i d lt. omega (arith, c.first_from-at.ensures.below i d lt, c.key_of.ensures))
     (λ i d le lt. omega (arith, c.first_from-at.ensures.above i d le lt, c.key_of.ensures)) in
     elim c.else-at-labels.branch [

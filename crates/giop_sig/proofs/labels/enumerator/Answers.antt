@@ -6,12 +6,12 @@ use Rattle.giop_sig.specs.Scopes.{numbered}
 use Rattle.giop_sig.proofs.Finds.{position-map}
 use Rattle.giop_sig.proofs.labels.enumerator.Goals as goal
 
-pub returns-in_err-place : goal.returns-in_err-place
-returns-in_err-place c =
+pub returns-in_err-index : goal.returns-in_err-index
+returns-in_err-index c =
     let k = position_from_yields_List (λ e. bytes_eq c.args.name.now e.items) _ _ c.position.result
     c.position.ensures.ran
     (YieldsList-from_slice c.args.names.now cc) (λ x b q k. search (rules, tests)) in
-    c.from_residual.ensures ∙ ap numbered (sym c.in_err-place.was ∙ k
+    c.from_residual.ensures ∙ ap numbered (sym c.in_err-index.was ∙ k
     ∙ sym (position-map (bytes_eq c.args.name.now) (λ n. n.items) c.args.names.now))
 
 pub returns : goal.returns
@@ -19,5 +19,5 @@ returns c =
     let k = position_from_yields_List (λ e. bytes_eq c.args.name.now e.items) _ _ c.position.result
     c.position.ensures.ran
     (YieldsList-from_slice c.args.names.now cc) (λ x b q k. search (rules, tests)) in
-    ap numbered (sym c.in_ok-place.was ∙ k
+    ap numbered (sym c.in_ok-index.was ∙ k
     ∙ sym (position-map (bytes_eq c.args.name.now) (λ n. n.items) c.args.names.now))

@@ -1,7 +1,7 @@
 use Rattle.std.proofs.Common.{ℕ, Ok, Err, sym, ap, ◌∙◌}
 use Rattle.std.specs.Prelude.{not, position}
 use Rattle.std.specs.Option.{is_some}
-use Rattle.giop_tokens.specs.declared.fault.Refusal.{Refusal}
+use Rattle.giop_tokens.specs.declared.fault.TokenError.{TokenError}
 use Rattle.giop_tokens.specs.declared.fault.SigFaultKind.TheVariants as kinds
 use Rattle.giop_sig.specs.FileReading.{settled_unless}
 use Rattle.giop_sig.proofs.SettledEntries.{settled_reads}
@@ -9,19 +9,19 @@ use Rattle.giop_sig.proofs.parse.settle.Goals as goal
 
 pub returns-in-None-clause-gives : goal.returns-in-None-clause-gives
 returns-in-None-clause-gives c =
-    settled_reads c.args.draft.now c.args.places.now c.in_ok-targets.targets.items
+    settled_reads c.args.draft.now c.args.lefts.now c.in_ok-targets.targets.items
     c.first_none.result c.in_ok-targets.ensures.ok
     (c.first_none.ensures ∙ ap (position (λ t. not (is_some t))) c.as_slice.ensures.value)
-    ∙ ap (settled_unless c.args.draft.now c.args.places.now) c.in-None.is
+    ∙ ap (settled_unless c.args.draft.now c.args.lefts.now) c.in-None.is
     ∙ ap Ok (sym c.settle.ensures.is)
 
-abbrev refused_at : ℕ → Refusal
+abbrev refused_at : ℕ → TokenError
 refused_at n = record { kind = kinds.UnknownType; left = n }
 
 pub returns-clause-gives : goal.returns-clause-gives
 returns-clause-gives c =
-    settled_reads c.args.draft.now c.args.places.now c.in_ok-targets.targets.items
+    settled_reads c.args.draft.now c.args.lefts.now c.in_ok-targets.targets.items
     c.first_none.result c.in_ok-targets.ensures.ok
     (c.first_none.ensures ∙ ap (position (λ t. not (is_some t))) c.as_slice.ensures.value)
-    ∙ ap (settled_unless c.args.draft.now c.args.places.now) c.in-Some.is
-    ∙ ap (λ n. Err (refused_at n)) (sym c.place_at.ensures)
+    ∙ ap (settled_unless c.args.draft.now c.args.lefts.now) c.in-Some.is
+    ∙ ap (λ n. Err (refused_at n)) (sym c.left_at.ensures)

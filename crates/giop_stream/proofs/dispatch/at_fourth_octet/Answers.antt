@@ -11,7 +11,7 @@ returns-then-ends_request_id-clause-does g c =
       id_here C l c.args.slots.now c' m c.args.now h at,
       owner_then C l c.args.slots.now c' m c.args.now h at,
     )
-    (c.named.ensures.does C l c' m (named_here C l c.args.slots.now c' m c.args.now h
+    (c.at_request_id.ensures.does C l c' m (named_here C l c.args.slots.now c' m c.args.now h
     c.request_id-id.result
     (c.request_id-id.ensures C l) at))
 

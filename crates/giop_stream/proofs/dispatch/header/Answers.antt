@@ -16,19 +16,19 @@ returns-in_err-refused-clause-does g c =
     rw three (first_failed _ _ c.from_residual.result _ _ c.from_residual.ensures.0
     (c.in_err-refused.ensures.does l c' who m h))
 
-pub returns-in_err-named-clause-does : goal.returns-in_err-named-clause-does
-returns-in_err-named-clause-does g c =
+pub returns-in_err-at_request_id-clause-does : goal.returns-in_err-at_request_id-clause-does
+returns-in_err-at_request_id-clause-does g c =
     λ l c' who m h.
     let three = in_three (rules_by c.args.catalogue.now l c.args.slots.now.slots.most) c' m
     h.none_come in
     let begun = c.in_ok-refused.ensures.does l c' who m h in
     let at = begun_at c.args.catalogue.now l c.args.slots.now c' who m c.args.now h
-    c.starts.new.slots begun.kept in
-    let failed = c.from_residual-in_err-named.ensures.0 in
-    rw three (then_failed _ c.from_residual-in_err-named.result _ _ _ failed begun
-    (first_failed _ _ c.from_residual-in_err-named.result _ _ failed
+    c.begin_message.new.slots begun.kept in
+    let failed = c.from_residual-in_err-at_request_id.ensures.0 in
+    rw three (then_failed _ c.from_residual-in_err-at_request_id.result _ _ _ failed begun
+    (first_failed _ _ c.from_residual-in_err-at_request_id.result _ _ failed
     (rw c.in_ok-refused.ensures.most at
-    (c.in_err-named.ensures.does c.args.catalogue.now l _ m at))))
+    (c.in_err-at_request_id.ensures.does c.args.catalogue.now l _ m at))))
 
 pub returns-in_err-ended-clause-does : goal.returns-in_err-ended-clause-does
 returns-in_err-ended-clause-does g c =
@@ -37,9 +37,9 @@ returns-in_err-ended-clause-does g c =
     h.none_come in
     let begun = c.in_ok-refused.ensures.does l c' who m h in
     let at = begun_at c.args.catalogue.now l c.args.slots.now c' who m c.args.now h
-    c.starts.new.slots begun.kept in
+    c.begin_message.new.slots begun.kept in
     let placed = rw c.in_ok-refused.ensures.most at
-    (c.in_ok-named.ensures.does c.args.catalogue.now l _ m at) in
+    (c.in_ok-at_request_id.ensures.does c.args.catalogue.now l _ m at) in
     let last = placed_at c.args.catalogue.now l c.args.slots.now c' who m c.args.now h
     c.refuses_old.new.slots placed.kept in
     let failed = c.from_residual-in_err-ended.ensures.0 in
@@ -56,9 +56,9 @@ returns-clause-does g c =
     let three = in_three R c' m h.none_come in
     let begun = c.in_ok-refused.ensures.does l c' who m h in
     let at = begun_at c.args.catalogue.now l c.args.slots.now c' who m c.args.now h
-    c.starts.new.slots begun.kept in
+    c.begin_message.new.slots begun.kept in
     let placed = rw c.in_ok-refused.ensures.most at
-    (c.in_ok-named.ensures.does c.args.catalogue.now l _ m at) in
+    (c.in_ok-at_request_id.ensures.does c.args.catalogue.now l _ m at) in
     let last = placed_at c.args.catalogue.now l c.args.slots.now c' who m c.args.now h
     c.refuses_old.new.slots placed.kept in
     let ended = c.in_ok-ended.ensures.does l _ m last

@@ -4,8 +4,8 @@ use Rattle.tcp_connections.proofs.flows.first_settled.Given as goal
 
 abbrev pub invariant-loop-left : goal.invariant-loop-left
 invariant-loop-left l =
-    (l.ranks.rooms ≡ l.fn.ranks.rooms)
-    × AreAtMost l.ranks.rooms l.ranks.nodes.items l.states l.came.ids.items l.stamps.last.items
+    (l.ranks.slots ≡ l.fn.ranks.slots)
+    × AreAtMost l.ranks.slots l.ranks.nodes.items l.states l.came.ids.items l.stamps.last.items
 
 abbrev pub decreases-loop-left : goal.decreases-loop-left
 decreases-loop-left l = l.left

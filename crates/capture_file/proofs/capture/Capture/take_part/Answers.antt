@@ -11,22 +11,22 @@ use Rattle.capture_file.proofs.capture.Capture.take_part.Goals as goal
 pub returns-in-Some-clause-reads : goal.returns-in-Some-clause-reads
 returns-in-Some-clause-reads c p r =
     let due : IsRecordDue c.args.self.now (drop c.args.start c.args.octets.now)
-    c.in-Some.head c.in-Some.captured =
-    rw (c.in-Some.head-is, c.in-Some.captured-is, ← take_rest c.args.octets.now c.args.start)
+    c.in-Some.info c.in-Some.captured =
+    rw (c.in-Some.info-is, c.in-Some.captured-is, ← take_rest c.args.octets.now c.args.start)
     c.in-Some.ensures in
     rw c.take_record.ensures.count
-    (takes_record p c.args.octets.now c.in-Some.head c.args.start c.in-Some.captured
+    (takes_record p c.args.octets.now c.in-Some.info c.args.start c.in-Some.captured
     c.args.self.now c.take_record.new.self r c.requires.running due
     c.take_record.ensures.takes).reads
 
 pub returns-in-Some-clause-answers : goal.returns-in-Some-clause-answers
 returns-in-Some-clause-answers c p r =
     let due : IsRecordDue c.args.self.now (drop c.args.start c.args.octets.now)
-    c.in-Some.head c.in-Some.captured =
-    rw (c.in-Some.head-is, c.in-Some.captured-is, ← take_rest c.args.octets.now c.args.start)
+    c.in-Some.info c.in-Some.captured =
+    rw (c.in-Some.info-is, c.in-Some.captured-is, ← take_rest c.args.octets.now c.args.start)
     c.in-Some.ensures in
     rw c.take_record.ensures.count
-    (takes_record p c.args.octets.now c.in-Some.head c.args.start c.in-Some.captured
+    (takes_record p c.args.octets.now c.in-Some.info c.args.start c.in-Some.captured
     c.args.self.now c.take_record.new.self r c.requires.running due
     c.take_record.ensures.takes).answers
 

@@ -5,8 +5,8 @@ use Rattle.giop_calls.proofs.calls.Calls.find.Goals as goal
 
 pub returns-in-Some : goal.returns-in-Some
 returns-in-Some c =
-    let place = sym c.find.ensures.value ∙ c.in-Some.is in
-    rw (← c.self.view_is) (c.get.ensures ∙ ap (option_map (λ e. e.value)) (found_at _ _ _ place))
+    let index = sym c.find.ensures.value ∙ c.in-Some.is in
+    rw (← c.self.view_is) (c.get.ensures ∙ ap (option_map (λ e. e.value)) (found_at _ _ _ index))
 
 pub returns-in-None : goal.returns-in-None
 returns-in-None c =

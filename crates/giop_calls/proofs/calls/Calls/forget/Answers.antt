@@ -4,8 +4,8 @@ use Rattle.giop_calls.proofs.calls.Calls.forget.Goals as goal
 
 pub invariant_of-self : goal.invariant_of-self
 invariant_of-self c =
-    let place = sym c.find.ensures.value ∙ c.in-Some.is in
-    let left = c.remove.ensures.entries ∙ removed_at _ _ _ c.self.invariant.0 place in
+    let index = sym c.find.ensures.value ∙ c.in-Some.is in
+    let left = c.remove.ensures.entries ∙ removed_at _ _ _ c.self.invariant.0 index in
     rw (left, c.remove.ensures.most) (
       apart_without _ _ c.self.invariant.0,
       omega (arith, length_without c.args.id c.self.inside.table.entries, c.self.invariant.1),
@@ -13,8 +13,8 @@ invariant_of-self c =
 
 pub returns-in-Some-clause-entries : goal.returns-in-Some-clause-entries
 returns-in-Some-clause-entries c =
-    let place = sym c.find.ensures.value ∙ c.in-Some.is in
-    rw (← c.self.view_is) (c.remove.ensures.entries ∙ removed_at _ _ _ c.self.invariant.0 place)
+    let index = sym c.find.ensures.value ∙ c.in-Some.is in
+    rw (← c.self.view_is) (c.remove.ensures.entries ∙ removed_at _ _ _ c.self.invariant.0 index)
 
 pub returns-in-None-clause-entries : goal.returns-in-None-clause-entries
 returns-in-None-clause-entries c =

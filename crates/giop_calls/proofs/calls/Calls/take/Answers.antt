@@ -5,8 +5,8 @@ use Rattle.giop_calls.proofs.calls.Calls.take.Goals as goal
 
 pub invariant_of-self : goal.invariant_of-self
 invariant_of-self c =
-    let place = sym c.find.ensures.value ∙ c.in-Some.is in
-    let left = c.remove.ensures.entries ∙ removed_at _ _ _ c.self.invariant.0 place in
+    let index = sym c.find.ensures.value ∙ c.in-Some.is in
+    let left = c.remove.ensures.entries ∙ removed_at _ _ _ c.self.invariant.0 index in
     rw (left, c.remove.ensures.most) (
       apart_without _ _ c.self.invariant.0,
       omega (arith, length_without c.args.id c.self.inside.table.entries, c.self.invariant.1),
@@ -14,14 +14,14 @@ invariant_of-self c =
 
 pub returns-in-Some-clause-value : goal.returns-in-Some-clause-value
 returns-in-Some-clause-value c =
-    let place = sym c.find.ensures.value ∙ c.in-Some.is in
+    let index = sym c.find.ensures.value ∙ c.in-Some.is in
     rw (← c.self.view_is) (sym c.remove.ensures.value
-    ∙ ap (option_map (λ e. e.value)) (found_at _ _ _ place))
+    ∙ ap (option_map (λ e. e.value)) (found_at _ _ _ index))
 
 pub returns-in-Some-clause-entries : goal.returns-in-Some-clause-entries
 returns-in-Some-clause-entries c =
-    let place = sym c.find.ensures.value ∙ c.in-Some.is in
-    rw (← c.self.view_is) (c.remove.ensures.entries ∙ removed_at _ _ _ c.self.invariant.0 place)
+    let index = sym c.find.ensures.value ∙ c.in-Some.is in
+    rw (← c.self.view_is) (c.remove.ensures.entries ∙ removed_at _ _ _ c.self.invariant.0 index)
 
 pub returns-in-None-clause-value : goal.returns-in-None-clause-value
 returns-in-None-clause-value c =

@@ -9,12 +9,12 @@ pub returns-in-Even-clause-text : goal.returns-in-Even-clause-text
 returns-in-Even-clause-text g c = λ S k w holds ready.
     let octets = c.args.octets.now in
     let arrival = c.args.arrival in
-    let d = c.face.new.self.even in
-    let t = c.face.new.self.exchange in
-    let h : HoldsHalf S d k.even = rw c.face.ensures.even holds.even in
-    let opposite : HoldsHalf S c.face.new.self.odd k.odd = rw c.face.ensures.odd holds.odd in
-    let calls : HasCalls Even t k = rw c.in-Even.is at (c.face.ensures.kept k holds.calls) in
-    let here : c.face.new.self.side ≡ Even = c.face.ensures.value ∙ c.in-Even.is in
+    let d = c.turn_to.new.self.even in
+    let t = c.turn_to.new.self.exchange in
+    let h : HoldsHalf S d k.even = rw c.turn_to.ensures.even holds.even in
+    let opposite : HoldsHalf S c.turn_to.new.self.odd k.odd = rw c.turn_to.ensures.odd holds.odd in
+    let calls : HasCalls Even t k = rw c.in-Even.is at (c.turn_to.ensures.kept k holds.calls) in
+    let here : c.turn_to.new.self.side ≡ Even = c.turn_to.ensures.value ∙ c.in-Even.is in
     let go = c.answers_go_on.ensures S.table k.even.answers S.messages k.even.octets octets
     (calls_in S Even arrival k) in
     let a = go.0 in
@@ -29,12 +29,13 @@ pub returns-in-Odd-clause-text : goal.returns-in-Odd-clause-text
 returns-in-Odd-clause-text g c = λ S k w holds ready.
     let octets = c.args.octets.now in
     let arrival = c.args.arrival in
-    let d = c.face.new.self.odd in
-    let t = c.face.new.self.exchange in
-    let h : HoldsHalf S d k.odd = rw c.face.ensures.odd holds.odd in
-    let opposite : HoldsHalf S c.face.new.self.even k.even = rw c.face.ensures.even holds.even in
-    let calls : HasCalls Odd t k = rw c.in-Odd.is at (c.face.ensures.kept k holds.calls) in
-    let here : c.face.new.self.side ≡ Odd = c.face.ensures.value ∙ c.in-Odd.is in
+    let d = c.turn_to.new.self.odd in
+    let t = c.turn_to.new.self.exchange in
+    let h : HoldsHalf S d k.odd = rw c.turn_to.ensures.odd holds.odd in
+    let opposite : HoldsHalf S c.turn_to.new.self.even k.even = rw c.turn_to.ensures.even
+    holds.even in
+    let calls : HasCalls Odd t k = rw c.in-Odd.is at (c.turn_to.ensures.kept k holds.calls) in
+    let here : c.turn_to.new.self.side ≡ Odd = c.turn_to.ensures.value ∙ c.in-Odd.is in
     let go = c.answers_go_on.ensures S.table k.odd.answers S.messages k.odd.octets octets
     (calls_in S Odd arrival k) in
     let a = go.0 in

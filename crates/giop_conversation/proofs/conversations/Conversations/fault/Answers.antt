@@ -3,7 +3,7 @@ use Rattle.giop_conversation.specs.Lines.{capture_fault_line}
 use Rattle.giop_conversation.specs.TaggedState.{Tagging}
 use Rattle.giop_conversation.proofs.FailingLemmas.{once, none_failed, by_writes}
 use Rattle.std.proofs.Common.{refl}
-use Rattle.giop_conversation.proofs.ToldLemmas.{fault_told, still_sound}
+use Rattle.giop_conversation.proofs.WrittenLemmas.{fault_told, still_sound}
 use Rattle.giop_conversation.proofs.conversations.Conversations.fault.Goals as goal
 
 pub returns-clause-fails : goal.returns-clause-fails
@@ -18,9 +18,9 @@ returns-clause-fails g c =
 pub returns-clause-told : goal.returns-clause-told
 returns-clause-told g c = λ S written events told.
     let now = c.args.self.now in
-    let rooms = now.rooms in
+    let slots = now.slots in
     let t = now.totals in
-    fault_told S written events rooms.items now.out now.arrival now.first t
+    fault_told S written events slots.items now.out now.arrival now.first t
     now.cut c.capture_fault_line.result
     c.args.word.now c.args.at c.no_tag.result c.set_tag.new.self c.capture_fault_line.new.out
     told c.set_tag.ensures c.no_tag.ensures

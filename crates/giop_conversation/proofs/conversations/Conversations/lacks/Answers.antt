@@ -7,13 +7,13 @@ use Rattle.giop_conversation.proofs.conversations.Conversations.lacks.Goals as g
 
 pub returns-in-Some-clause-value : goal.returns-in-Some-clause-value
 returns-in-Some-clause-value g c = λ events follows.
-    let rooms = c.args.self.now.rooms.items in
-    let old = c.in-Some.room.now in
+    let slots = c.args.self.now.slots.items in
+    let old = c.in-Some.slot.now in
     let at = rw c.deref.ensures.value at c.in-Some.ensures.lookup in
-    let below : c.args.flow / 2 < length rooms =
-    ltb-true (c.args.flow / 2) (length rooms) (sym at.0) in
-    let here = element rooms (length rooms) (c.args.flow / 2) old refl below at.1 in
-    lacking_told rooms events c.args.flow old c.lacking.result follows here
+    let below : c.args.flow / 2 < length slots =
+    ltb-true (c.args.flow / 2) (length slots) (sym at.0) in
+    let here = element slots (length slots) (c.args.flow / 2) old refl below at.1 in
+    lacking_told slots events c.args.flow old c.lacking.result follows here
     (rw c.side_of.ensures at c.lacking.ensures)
 
 pub returns-in-Some-clause-fails : goal.returns-in-Some-clause-fails

@@ -2,16 +2,16 @@ use Rattle.std.proofs.Common.{◌≡◌, ◌+◌, ap, ◌∙◌, arith, add-one,
 use Rattle.giop_conversation.specs.Captured.{setup, new_connection, start}
 use Rattle.giop_conversation.specs.DumpHeld.{AreHeld}
 use Rattle.giop_conversation.proofs.DumpLemmas.{held_push}
-use Rattle.giop_conversation.proofs.ToldLemmas.{new_ready}
+use Rattle.giop_conversation.proofs.WrittenLemmas.{new_ready}
 use Rattle.std.proofs.lemmas.List.Elements.{All-push}
 use Rattle.giop_conversation.proofs.FollowedLemmas.{IsNew, followed_none}
 use Rattle.giop_conversation.proofs.conversations.Conversations.new.Goals as goal
 
-pub loop-room-preserved : goal.loop-room-preserved
-loop-room-preserved g c =
+pub loop-slot-preserved : goal.loop-slot-preserved
+loop-slot-preserved g c =
     record {
-      rooms = rw c.in-Ok.ensures.items (All-push IsNew c.loop-room.rooms.items
-          c.in_ok-conversation.conversation c.loop-room.invariant.rooms
+      slots = rw c.in-Ok.ensures.items (All-push IsNew c.loop-slot.slots.items
+          c.in_ok-conversation.conversation c.loop-slot.invariant.slots
           (record {
             even = c.in_ok-conversation.ensures.even;
             odd =
@@ -20,28 +20,28 @@ loop-room-preserved g c =
       held =
           let S = setup c.args.catalogue.now c.args.limits.messages c.args.limits.calls
           c.args.limits.connections c.args.limits.first_stream in
-          rw (c.in-Ok.ensures.items, add-one c.loop-room._room)
-          (held_push S c.loop-room.rooms.items c.loop-room._room
+          rw (c.in-Ok.ensures.items, add-one c.loop-slot._slot)
+          (held_push S c.loop-slot.slots.items c.loop-slot._slot
           c.in_ok-conversation.conversation (new_connection S)
-          c.loop-room.invariant.held c.in_ok-conversation.ensures.held);
-      count = c.in-Ok.ensures.len ∙ ap (λ n. n + 1) c.loop-room.invariant.count;
+          c.loop-slot.invariant.held c.in_ok-conversation.ensures.held);
+      count = c.in-Ok.ensures.len ∙ ap (λ n. n + 1) c.loop-slot.invariant.count;
     }
 
 pub returns-clause-follows : goal.returns-clause-follows
-returns-clause-follows g c = followed_none c.loop-room.rooms.items c.loop-room.invariant.rooms
+returns-clause-follows g c = followed_none c.loop-slot.slots.items c.loop-slot.invariant.slots
 
 pub returns-clause-told : goal.returns-clause-told
 returns-clause-told g c = λ written known.
     let S = setup c.args.catalogue.now c.args.limits.messages c.args.limits.calls
     c.args.limits.connections c.args.limits.first_stream in
-    let all : c.loop-room._room ≡ c.args.limits.connections =
-    omega (arith, c.loop-room.auto._room-end, c.loop-room-test.false) in
+    let all : c.loop-slot._slot ≡ c.args.limits.connections =
+    omega (arith, c.loop-slot.auto._slot-end, c.loop-slot-test.false) in
     record {
       dump = start S written;
       leads = refl;
       holds = record {
-        connections = subst (λ n. AreHeld S c.loop-room.rooms.items
-            (replicate n (new_connection S))) all c.loop-room.invariant.held;
+        connections = subst (λ n. AreHeld S c.loop-slot.slots.items
+            (replicate n (new_connection S))) all c.loop-slot.invariant.held;
         ready = new_ready c.new-2.result _ _ written c.new-2.ensures known;
         arrival_is = refl;
         first_is = refl;

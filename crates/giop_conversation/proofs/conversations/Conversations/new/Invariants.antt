@@ -5,12 +5,12 @@ use Rattle.std.specs.List.{All}
 use Rattle.giop_conversation.proofs.FollowedLemmas.{IsNew}
 use Rattle.giop_conversation.proofs.conversations.Conversations.new.Given as goal
 
-abbrev pub invariant-loop-room : goal.invariant-loop-room
-invariant-loop-room g l =
+abbrev pub invariant-loop-slot : goal.invariant-loop-slot
+invariant-loop-slot g l =
     record {
-      rooms : All IsNew l.rooms.items;
+      slots : All IsNew l.slots.items;
       held : (let S = setup l.catalogue l.limits.messages l.limits.calls l.limits.connections
           l.limits.first_stream in
-          AreHeld S l.rooms.items (replicate l._room (new_connection S)));
-      count : vec_len l.rooms ≡ l._room;
+          AreHeld S l.slots.items (replicate l._slot (new_connection S)));
+      count : vec_len l.slots ≡ l._slot;
     }

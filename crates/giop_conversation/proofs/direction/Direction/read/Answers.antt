@@ -32,7 +32,7 @@ loop-size-preserved g c =
           more;
       text = λ a p holds agrees table arrival unanswered unraised.
           read_on c.args.self.now.engine c.loop-size.self.engine c.read_piece.new.self.engine a p
-          octets at n c.read_in.new.self c.loop-size.exchange
+          octets at n c.note_packet.new.self c.loop-size.exchange
           c.read_piece.new.exchange c.set_tag.new.self c.loop-size.out c.read_piece.new.out
           c.args.arrival c.loop-size.invariant.same
           (c.loop-size.invariant.text a p holds agrees table arrival unanswered unraised) agrees
@@ -51,11 +51,11 @@ loop-size-preserved g c =
 pub loop-size-init : goal.loop-size-init
 loop-size-init g c =
     let e = c.args.self.now.engine in
-    let s = c.read_in.new.self in
+    let s = c.note_packet.new.self in
     let starts : s ≡ reading_in e c.args.self.now.stream c.args.arrival c.args.exchange.now =
     reading_starts e c.args.self.now.stream c.args.arrival c.args.exchange.now
     c.set_catalogue.new.self s c.self.inside.catalogue.now c.self.inside.stream
-    c.set_catalogue.ensures c.read_in.ensures (rw (← c.self.view_is) c.self.invariant.0.same)
+    c.set_catalogue.ensures c.note_packet.ensures (rw (← c.self.view_is) c.self.invariant.0.same)
     (rw (← c.self.view_is) refl) in
     record {
       within = omega arith;
@@ -78,14 +78,14 @@ returns-in_err-size-clause-text g c = λ a p w holds ready agrees.
     let R = rules_with e a in
     let at = c.loop-size.at in
     let octets = c.args.octets.now in
-    let s = c.read_in.new.self in
+    let s = c.note_packet.new.self in
     let s' = c.loop-size.exchange in
     let same = c.loop-size.invariant.same in
     let due = stream_tag c.args.self.now.stream in
     let starts : s ≡ reading_in e c.args.self.now.stream c.args.arrival c.args.exchange.now =
     reading_starts e c.args.self.now.stream c.args.arrival c.args.exchange.now
     c.set_catalogue.new.self s c.self.inside.catalogue.now c.self.inside.stream
-    c.set_catalogue.ensures c.read_in.ensures (rw (← c.self.view_is) c.self.invariant.0.same)
+    c.set_catalogue.ensures c.note_packet.ensures (rw (← c.self.view_is) c.self.invariant.0.same)
     (rw (← c.self.view_is) refl) in
     let agree : AgreeWith e a s p octets =
     subst (λ (x : Exchanged). AgreeWith e a x p octets) (sym starts) agrees in
@@ -143,13 +143,13 @@ returns-then-at-octets-clause-text g c = λ a p w holds ready agrees.
     let octets = c.args.octets.now in
     let does = rw (rest_from at octets) at c.in_ok-size.ensures in
     let past : length octets ≤ at + n = omega arith in
-    let s = c.read_in.new.self in
+    let s = c.note_packet.new.self in
     let out = c.read_piece.new.out in
     let due = stream_tag c.args.self.now.stream in
     let starts : s ≡ reading_in e c.args.self.now.stream c.args.arrival c.args.exchange.now =
     reading_starts e c.args.self.now.stream c.args.arrival c.args.exchange.now
     c.set_catalogue.new.self s c.self.inside.catalogue.now c.self.inside.stream
-    c.set_catalogue.ensures c.read_in.ensures (rw (← c.self.view_is) c.self.invariant.0.same)
+    c.set_catalogue.ensures c.note_packet.ensures (rw (← c.self.view_is) c.self.invariant.0.same)
     (rw (← c.self.view_is) refl) in
     let agree : AgreeWith e a s p octets =
     subst (λ (x : Exchanged). AgreeWith e a x p octets) (sym starts) agrees in

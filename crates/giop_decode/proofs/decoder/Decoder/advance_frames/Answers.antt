@@ -75,24 +75,24 @@ push-requires-in-Selected c = (
   ),
 )
 
-pub part-part-requires-clause-place : goal.part-part-requires-clause-place
-part-part-requires-clause-place c =
+pub part-part-requires-clause-index : goal.part-part-requires-clause-index
+part-part-requires-clause-index c =
     let C = c.args.catalogue.now in
     let old = c.args.self.now.outer.items in
     let opens = rw c.in-Opened.is at c.requires.transition_fits in
     (within_in_room C (24 - length old) 24 c.args.of.0 None 0 c.in-Opened.count
     (parts_within (tree_in C old c.args.of.0) c.in-Opened.count opens.0 opens.1)).0
 
-pub part_in-part-requires-clause-place : goal.part_in-part-requires-clause-place
-part_in-part-requires-clause-place c =
+pub part_in-part-requires-clause-index : goal.part_in-part-requires-clause-index
+part_in-part-requires-clause-index c =
     let C = c.args.catalogue.now in
     let old = c.args.self.now.outer.items in
     let case = rw c.in-Selected.is at c.requires.transition_fits in
     (within_in_room C (24 - length old) 24 c.args.of.0 None c.in-Selected.index 0
     (case_within (tree_in C old c.args.of.0) c.in-Selected.index case)).0
 
-pub part-part-requires-in-Entered-clause-place : goal.part-part-requires-in-Entered-clause-place
-part-part-requires-in-Entered-clause-place c =
+pub part-part-requires-in-Entered-clause-index : goal.part-part-requires-in-Entered-clause-index
+part-part-requires-in-Entered-clause-index c =
     let C = c.args.catalogue.now in
     let old = c.args.self.now.outer.items in
     let opens = rw c.in-Entered.is at c.requires.transition_fits in

@@ -2,8 +2,8 @@ use Rattle.std.proofs.Common.{arith}
 use Rattle.giop_decode.proofs.NextParts.{place_next}
 use Rattle.giop_decode.proofs.decoder.Decoder.next_number.Goals as goal
 
-pub part-next-requires-clause-place : goal.part-next-requires-clause-place
-part-next-requires-clause-place c =
+pub part-next-requires-clause-index : goal.part-next-requires-clause-index
+part-next-requires-clause-index c =
     let h = c.requires.ahead in
     place_next c.args.catalogue.now c.args.self.now c.args.part.of c.args.part.frame c.requires.fits
     h.leaf h.outside h.outer 24

@@ -10,7 +10,7 @@ use Rattle.giop_sig.specs.Types.{elements_fit}
 use Rattle.giop_decode.proofs.Whole.{behind_gives}
 use Rattle.giop_decode.specs.Noted.{ends_in_string}
 use Rattle.giop_decode.specs.DecoderSteps.{IsNotRefused, emitted, transition_result}
-use Rattle.giop_decode.specs.ReadResult.{Coding, Line, with_front}
+use Rattle.giop_decode.specs.ReadResult.{Coding, ValueAt, with_front}
 use Rattle.giop_decode.specs.ReadingSteps.{around, heard_parts, path_in}
 use Rattle.giop_decode.specs.Transitions.{IsOutput, open_parts, tree_in, Link, has_ended, still_held, after_transition, ticked}
 use Rattle.giop_sig.specs.Trees.{tree_at}
@@ -107,7 +107,7 @@ returns c d b =
     let went = c.settled-transition.ensures in
     let ended : c.has_ended-ended.result ≡ has_ended new.outer.items =
     rw (← c.as_slice-2.ensures.value) c.has_ended-ended.ensures in
-    let come : (coding : Coding) (here : ℕ) (lines : List Line) →
+    let come : (coding : Coding) (here : ℕ) (lines : List ValueAt) →
     Gives C d of step rest here (here + 1) lines →
     emitted coding C d of transition step.output lines here
     ≡ transition_result C T new transition lines (here + 1) =

@@ -1,8 +1,8 @@
 use Rattle.std.proofs.Common.{◌-◌, length, refl, ◌∙◌, rules}
 use Rattle.giop_decode.specs.declared.leaf.Leaf.TheVariants as innermost
 use Rattle.giop_decode.proofs.Advancing.{stands_at}
-use Rattle.giop_decode.proofs.Whole.{comes_head, comes_long, comes_number, width_in}
-use Rattle.giop_decode.proofs.Rooms.{head_in_room}
+use Rattle.giop_decode.proofs.Whole.{comes_leading, comes_long, comes_number, width_in}
+use Rattle.giop_decode.proofs.Rooms.{begins_in_room}
 use Rattle.giop_decode.proofs.decoder.Decoder.take_number.Goals as goal
 
 pub take_ahead-requires-clause-ahead : goal.take_ahead-requires-clause-ahead
@@ -54,7 +54,7 @@ take_value-step-requires g c =
     let C = c.args.catalogue.now in
     let d = c.args.self.now in
     let s = stands_at C d c.requires.fits (innermost.Number c.args.of) c.requires.leaf in
-    let head = head_in_room C (24 - length d.outer.items) 24 c.args.of.0 s.fits.kind in
+    let head = begins_in_room C (24 - length d.outer.items) 24 c.args.of.0 s.fits.kind in
     record {
       known = search rules;
       head = head;
@@ -74,7 +74,7 @@ take_ahead-requires-in-Some-whole_octets g c =
     c.width.ensures.width in
     record {
       fits = c.requires.fits;
-      ahead = rw (a.of, a.count, a.step, a.rest) (comes_head C d c.args.of c.args.octets.now
+      ahead = rw (a.of, a.count, a.step, a.rest) (comes_leading C d c.args.of c.args.octets.now
           whole.count c.requires.fits c.requires.leaf c.args.coded.0 c.args.coded.1
           c.requires.coded d.carry whole.whole.now c.take_value-step.result empty
           (rw empty (rw wide at whole.ensures.stands))

@@ -15,9 +15,9 @@ use Rattle.giop_decode.specs.Transitions.{HaveOctetsLeft, NumberStands, coding_b
 use Rattle.giop_decode.proofs.Advancing.{stands_at}
 use Rattle.giop_decode.proofs.Counting.{coding_small}
 use Rattle.giop_decode.proofs.PartialBlocks.{held_in}
-use Rattle.giop_decode.proofs.Whole.{comes_head, held_now, number_waits, width_in}
+use Rattle.giop_decode.proofs.Whole.{comes_leading, held_now, number_waits, width_in}
 use Rattle.giop_sig.specs.Table.{Table}
-use Rattle.giop_decode.proofs.Rooms.{head_in_room}
+use Rattle.giop_decode.proofs.Rooms.{begins_in_room}
 use Rattle.giop_sig.specs.declared.types.TypeId.{TypeId}
 use Rattle.giop_decode.proofs.decoder.Decoder.take_parted_number_apart.Goals as goal
 
@@ -63,7 +63,7 @@ comes : (C : Table) (d : Decoder) (of : TypeId) (octets : List ℕ) (order : Ord
     IsHeldOf C d (held_in d kept d.piece) octets of count s []
 comes C d of octets order width at count all kept s f e coded ahead is stands whole none fits by =
     held_now C d octets of count s [] kept d.piece f
-    (comes_head C d of octets count f e order at coded kept all s none
+    (comes_leading C d of octets count f e order at coded kept all s none
     (rw (eq-eqb (length all) width whole, is) at stands) ahead fits by)
 
 pub finish-requires : goal.finish-requires
@@ -99,7 +99,7 @@ pub take_value-step-requires-clause-head : goal.take_value-step-requires-clause-
 take_value-step-requires-clause-head g c =
     let C = c.args.catalogue.now in
     let d = c.args.self.now in
-    head_in_room C (24 - length d.outer.items) 24 c.args.of.0
+    begins_in_room C (24 - length d.outer.items) 24 c.args.of.0
     (stands_at C d c.requires.fits (innermost.Number c.args.of) c.requires.leaf).fits.kind
 
 pub take_value-step-requires-clause-fit : goal.take_value-step-requires-clause-fit
@@ -114,7 +114,7 @@ pub take_value-step-requires-clause-whole : goal.take_value-step-requires-clause
 take_value-step-requires-clause-whole g c =
     let C = c.args.catalogue.now in
     let d = c.args.self.now in
-    let head = head_in_room C (24 - length d.outer.items) 24 c.args.of.0
+    let head = begins_in_room C (24 - length d.outer.items) 24 c.args.of.0
     (stands_at C d c.requires.fits (innermost.Number c.args.of) c.requires.leaf).fits.kind in
     let all : length c.hold_number-count.new.carry ≡ c.width-width.result =
     omega (

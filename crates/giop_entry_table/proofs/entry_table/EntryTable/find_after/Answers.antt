@@ -2,14 +2,14 @@ use Rattle.std.proofs.Common.{◌+◌, arith}
 use Rattle.giop_entry_table.proofs.HoldingLemmas.{length-held, position-entries-after}
 use Rattle.giop_entry_table.proofs.entry_table.EntryTable.find_after.Goals as goal
 
-pub overflow_add-place : goal.overflow_add-place
-overflow_add-place g c =
+pub overflow_add-index : goal.overflow_add-index
+overflow_add-index g c =
     let there = rw (← c.self.view_is, length-held _ _ _ c.self.invariant.0) at c.requires in
     let small = c.self.inside.ids.keys.small in
     omega (arith, there, c.self.invariant.0.as_many, small)
 
-pub place_of-requires : goal.place_of-requires
-place_of-requires g c =
+pub index_of-requires : goal.index_of-requires
+index_of-requires g c =
     let there = rw (← c.self.view_is, length-held _ _ _ c.self.invariant.0) at c.requires in
     rw c.as_slice.ensures.value (omega (arith, there, c.self.invariant.0.as_many))
 
@@ -18,12 +18,12 @@ returns-clause-value g c =
     let tied = c.self.invariant.0 in
     rw (
       ← c.self.view_is,
-      position-entries-after _ _ _ c.args.key (c.args.place + 1) tied.as_many tied.held,
+      position-entries-after _ _ _ c.args.key (c.args.index + 1) tied.as_many tied.held,
       ← c.as_slice.ensures.value,
-    ) c.place_of.ensures.value
+    ) c.index_of.ensures.value
 
 pub returns-clause-within : goal.returns-clause-within
 returns-clause-within g c =
     let tied = c.self.invariant.0 in
     rw (← c.self.view_is, length-held _ _ _ tied, ← tied.as_many, ← c.as_slice.ensures.value)
-    c.place_of.ensures.within
+    c.index_of.ensures.within

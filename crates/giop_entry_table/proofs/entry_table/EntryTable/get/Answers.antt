@@ -7,10 +7,10 @@ pub returns-in-Some : goal.returns-in-Some
 returns-in-Some g c =
     let at = rw c.deref.ensures.value at c.in-Some.ensures.lookup in
     rw (← c.self.view_is) (c.get-in-Some.ensures
-    ∙ sym (value-at _ _ _ c.args.place _ c.self.invariant.0 at.3.0 (at.3.1 0)))
+    ∙ sym (value-at _ _ _ c.args.index _ c.self.invariant.0 at.3.0 (at.3.1 0)))
 
 pub returns-in-None : goal.returns-in-None
 returns-in-None g c =
     let at = rw c.deref.ensures.value at c.in-None.ensures.lookup in
     rw (← c.self.view_is) (ap (option_map (λ e. e.value))
-    (sym (none-at _ _ _ c.args.place c.self.invariant.0 at.3)))
+    (sym (none-at _ _ _ c.args.index c.self.invariant.0 at.3)))

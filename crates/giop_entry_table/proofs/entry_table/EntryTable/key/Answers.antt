@@ -8,12 +8,12 @@ returns-in-Some g c =
     let at = rw c.deref.ensures.value at c.in-Some.ensures.lookup in
     rw (
       ← c.self.view_is,
-      keys-held _ _ _ c.args.place c.self.invariant.0,
-      slice_get-get_or _ c.args.place 0 at.3.0,
+      keys-held _ _ _ c.args.index c.self.invariant.0,
+      slice_get-get_or _ c.args.index 0 at.3.0,
     ) (ap Some (at.3.1 0))
 
 pub returns-in-None : goal.returns-in-None
 returns-in-None g c =
     let at = rw c.deref.ensures.value at c.in-None.ensures.lookup in
-    rw (← c.self.view_is, keys-held _ _ _ c.args.place c.self.invariant.0)
-    (sym (slice_get_past _ c.args.place at.3))
+    rw (← c.self.view_is, keys-held _ _ _ c.args.index c.self.invariant.0)
+    (sym (slice_get_past _ c.args.index at.3))

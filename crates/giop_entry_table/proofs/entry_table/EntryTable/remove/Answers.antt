@@ -18,7 +18,7 @@ remove-number-requires g c =
 pub remove-requires-2 : goal.remove-requires-2
 remove-requires-2 g c =
     let within = rw (← c.self.view_is, length-held _ _ _ c.self.invariant.0) at c.requires in
-    held-number _ _ _ c.args.place _ c.self.invariant.0 within
+    held-number _ _ _ c.args.index _ c.self.invariant.0 within
     (read-at _ _ _ within c.remove-number.ensures.value)
 
 pub invariant_of-self : goal.invariant_of-self
@@ -29,7 +29,7 @@ invariant_of-self g c =
     let number = read-at _ _ _ within c.remove-number.ensures.value in
     let gone = c.remove-2.ensures in
     rw (c.remove.ensures.items, c.remove-number.ensures.items) (
-      IsTied-remove _ _ _ _ c.args.place tied within (rw number at gone.updates) gone.len,
+      IsTied-remove _ _ _ _ c.args.index tied within (rw number at gone.updates) gone.len,
       record {
         keys_fit = omega (arith, c.remove.ensures.capacity, room.keys_fit);
         numbers_fit = omega (arith, c.remove-number.ensures.capacity, room.numbers_fit);
@@ -37,7 +37,7 @@ invariant_of-self g c =
       },
       omega (
         arith,
-        length-remove c.self.inside.numbers.items c.args.place within,
+        length-remove c.self.inside.numbers.items c.args.index within,
         c.self.invariant.2,
       ),
     )
@@ -48,7 +48,7 @@ returns-clause-value g c =
     let within = rw (← c.self.view_is, length-held _ _ _ tied) at c.requires in
     let number = read-at _ _ _ within c.remove-number.ensures.value in
     rw (← c.self.view_is) (ap (option_map (λ e. e.value))
-    (entry-of _ _ _ c.args.place _ _ tied within number c.remove-2.ensures.value))
+    (entry-of _ _ _ c.args.index _ _ tied within number c.remove-2.ensures.value))
 
 pub returns-clause-entries : goal.returns-clause-entries
 returns-clause-entries g c =
@@ -56,8 +56,8 @@ returns-clause-entries g c =
     let within = rw (← c.self.view_is, length-held _ _ _ tied) at c.requires in
     let number = read-at _ _ _ within c.remove-number.ensures.value in
     rw (← c.self.view_is, c.remove.ensures.items, c.remove-number.ensures.items)
-    (entries-taken _ _ _ _ c.args.place tied within (rw number at c.remove-2.ensures.updates))
+    (entries-taken _ _ _ _ c.args.index tied within (rw number at c.remove-2.ensures.updates))
 
 pub returns-clause-len : goal.returns-clause-len
 returns-clause-len g c =
-    rw (returns-clause-entries g c) (length-remove _ c.args.place c.requires)
+    rw (returns-clause-entries g c) (length-remove _ c.args.index c.requires)

@@ -6,4 +6,4 @@ pub returns-clause-value : goal.returns-clause-value
 returns-clause-value c =
     let skips = position-behind (λ k. k == c.args.key) c.args.self.now.keys.items c.start.result
     c.start.ensures.within c.start.ensures.before in
-    rw (skips, ← c.as_slice.ensures.value) c.place_of.ensures.value
+    rw (skips, ← c.as_slice.ensures.value) c.index_of.ensures.value

@@ -14,7 +14,7 @@ overflow_sub-index_mut c =
     omega (
       arith,
       read-at _ _ _ r.ensures.within c.index_mut.ensures.value,
-      some_counted _ _ _ _ _ ids.indexed c.args.place r.result c.requires is r.ensures.within,
+      some_counted _ _ _ _ _ ids.indexed c.args.index r.result c.requires is r.ensures.within,
     )
 
 pub invariant_of-self : goal.invariant_of-self
@@ -36,6 +36,6 @@ invariant_of-self-2 c =
     (read-at _ _ _ c.requires c.index.ensures) in
     let count = read-at _ _ _ r.ensures.within c.index_mut.ensures.value in
     rw (length-set ids.counts.items r.result _, count, c.remove-2.ensures.items) (record {
-      indexed = indexed_remove _ _ _ _ _ ids.indexed c.args.place r.result _ c.requires is
+      indexed = indexed_remove _ _ _ _ _ ids.indexed c.args.index r.result _ c.requires is
           r.ensures.within c.saturating_add-self.ensures;
     })

@@ -4,10 +4,10 @@ use Rattle.giop_entry_table.proofs.optional_ids.OptionalIdTable.find.Goals as go
 
 pub returns-then-is_at-clause-value : goal.returns-then-is_at-clause-value
 returns-then-is_at-clause-value g c =
-    let place = sym c.find.ensures.value ∙ c.in-Some.is in
+    let index = sym c.find.ensures.value ∙ c.in-Some.is in
     let same = sym c.is_at.ensures ∙ c.if-is_at.true in
     rw (← c.self.view_is) (c.find_after.ensures.value
-    ∙ sym (found_past c.self.inside.without_id c.args.key c.self.inside.table.entries _ place same))
+    ∙ sym (found_past c.self.inside.without_id c.args.key c.self.inside.table.entries _ index same))
 
 pub returns-then-is_at-clause-within : goal.returns-then-is_at-clause-within
 returns-then-is_at-clause-within g c =
@@ -15,10 +15,10 @@ returns-then-is_at-clause-within g c =
 
 pub returns-else-is_at-clause-value : goal.returns-else-is_at-clause-value
 returns-else-is_at-clause-value g c =
-    let place = sym c.find.ensures.value ∙ c.in-Some.is in
+    let index = sym c.find.ensures.value ∙ c.in-Some.is in
     let apart = sym c.is_at.ensures ∙ c.if-is_at.false in
     rw (← c.self.view_is)
-    (sym (found_at c.self.inside.without_id c.args.key c.self.inside.table.entries _ place apart))
+    (sym (found_at c.self.inside.without_id c.args.key c.self.inside.table.entries _ index apart))
 
 pub returns-else-is_at-clause-within : goal.returns-else-is_at-clause-within
 returns-else-is_at-clause-within g c =

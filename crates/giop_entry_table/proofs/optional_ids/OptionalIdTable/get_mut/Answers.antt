@@ -8,30 +8,30 @@ use Rattle.giop_entry_table.proofs.optional_ids.OptionalIdTable.get_mut.Goals as
 
 pub invariant_of-self-lent : goal.invariant_of-self-lent
 invariant_of-self-lent g c o = (
-  λ w. rw (length-revalued c.self.inside.table.entries c.args.place w) c.self.invariant,
+  λ w. rw (length-revalued c.self.inside.table.entries c.args.index w) c.self.invariant,
   c.self.invariant,
 )
 
 pub returns : goal.returns
 returns g c =
     let table = c.self.inside.table in
-    let place = c.self.inside.without_id in
+    let index = c.self.inside.without_id in
     let lent : g.row.V.Denot → OptionalIdEntries g.row.V.Denot =
     λ w. record {
       most = table.most;
-      entries = with_optional_ids place (by_ids.revalued table.entries c.args.place w);
+      entries = with_optional_ids index (by_ids.revalued table.entries c.args.index w);
     } in
     let written : g.row.V.Denot → OptionalIdEntries g.row.V.Denot =
     λ w. record {
       most = table.most;
-      entries = revalued (with_optional_ids place table.entries) c.args.place w;
+      entries = revalued (with_optional_ids index table.entries) c.args.index w;
     } in
     let same : lent ≡ written = fun_ext (λ w. ap (λ es. record { most = table.most; entries = es })
-    (optional-revalued place table.entries c.args.place w)) in (
+    (optional-revalued index table.entries c.args.index w)) in (
       rw (← c.self.view_is, same) refl,
       record {
         writes_back = tt;
         value = rw (← c.self.view_is)
-            (c.get_mut.ensures.value ∙ sym (value-optional place table.entries c.args.place));
+            (c.get_mut.ensures.value ∙ sym (value-optional index table.entries c.args.index));
       },
     )

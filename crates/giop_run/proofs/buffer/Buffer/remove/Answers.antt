@@ -4,8 +4,8 @@ use Rattle.std.proofs.lemmas.List.Edits.{take-paste}
 use lib.Seq.{paste}
 use Rattle.giop_run.proofs.buffer.Buffer.remove.Goals as goal
 
-pub returns : goal.returns
-returns c =
+pub returns-clause-octets : goal.returns-clause-octets
+returns-clause-octets c =
     let count = c.args.count in
     let kept = c.args.self.now.kept in
     let items = c.args.self.now.octets.items in
@@ -15,7 +15,7 @@ returns c =
     let few : length (take kept items) ≡ kept =
     length-take-le kept items (omega (arith, room, within)) in
     let behind : length (drop count items) ≡ length items - count = length-drop count items in
-    let whole : count + left ≡ kept = omega (arith, c.requires, few) in
+    let whole : count + left ≡ kept = omega (arith, c.requires.within, few) in
     let base : left ≡ 0 + left = omega arith in
     ap (take left) c.copy_within.ensures.items
     ∙ ap (λ n. take n (paste items 0 (drop count items) left)) base

@@ -9,16 +9,16 @@ returns-then-name-gt128-clause-is c =
     no_operation_long c.args.self.now c.args.interface c.args.name.now
     (subst IsTable c.self.view_is c.self.invariant) c.if-name-gt128.true
 
-pub returns-in_err-place-clause-is : goal.returns-in_err-place-clause-is
-returns-in_err-place-clause-is c =
+pub returns-in_err-index-clause-is : goal.returns-in_err-index-clause-is
+returns-in_err-index-clause-is c =
     c.from_residual.ensures ∙ operation_found c.self.inside.operations.entries
     c.args.self.now c.call_key.result.items (operation_key c.args.interface c.args.name.now) _
     (ap (λ (t : Table). t.operations) c.self.view_is) c.call_key.ensures
-    (sym c.in_err-place.was ∙ c.get_index_of.ensures.index)
+    (sym c.in_err-index.was ∙ c.get_index_of.ensures.index)
 
 pub returns-clause-is : goal.returns-clause-is
 returns-clause-is c =
     operation_found c.self.inside.operations.entries c.args.self.now c.call_key.result.items
     (operation_key c.args.interface c.args.name.now) _
     (ap (λ (t : Table). t.operations) c.self.view_is) c.call_key.ensures
-    (sym c.in_ok-place.was ∙ c.get_index_of.ensures.index)
+    (sym c.in_ok-index.was ∙ c.get_index_of.ensures.index)

@@ -7,7 +7,7 @@ pub returns-in-Some : goal.returns-in-Some
 returns-in-Some c =
     let key = rw c.unwrap-key.ensures at c.try_from.ensures in
     name_numbered c.args.self.now c.self.inside.names.keys c.unwrap-key.result c.args.id.now
-    c.in-Some.place (ap (λ (i : Interfaces). i.names) c.self.view_is) key.0 c.in-Some.ensures.index
+    c.in-Some.index (ap (λ (i : Interfaces). i.names) c.self.view_is) key.0 c.in-Some.ensures.index
 
 pub returns-in-None : goal.returns-in-None
 returns-in-None c =

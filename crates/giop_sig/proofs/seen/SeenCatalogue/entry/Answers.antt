@@ -1,12 +1,12 @@
 use Rattle.std.proofs.Common.{◌∙◌, ap, subst, sym}
 use Rattle.giop_sig.specs.Views.{IsSized, node_view}
 use Rattle.giop_sig.specs.declared.entries.EntryWithDepth.{EntryWithDepth}
-use Rattle.giop_sig.proofs.Tables.{seen_node, seen_place, seen_sized}
+use Rattle.giop_sig.proofs.Tables.{seen_node, seen_index, seen_sized}
 use Rattle.giop_sig.proofs.seen.SeenCatalogue.entry.Goals as goal
 
 pub bounds-self-inside-t : goal.bounds-self-inside-t
 bounds-self-inside-t c =
-    seen_place _ c.args.self.now c.self.inside.entries.now c.args.t.0 c.self.invariant
+    seen_index _ c.args.self.now c.self.inside.entries.now c.args.t.0 c.self.invariant
     c.self.view_is c.requires
 
 pub returns-clause-node : goal.returns-clause-node

@@ -23,7 +23,7 @@ returns-in_err-faults-clause-does g c =
     continuation_does C a most s r m h c.args.octets.now c.args.found asks.running asks.limit
     asks.is _ _ _ _
     (writes_failed c.from_residual.result (g.O.Out.log c.args.out.now)
-    (g.O.Out.log c.continues.new.out) _ failed
+    (g.O.Out.log c.join_fragment.new.out) _ failed
     (c.in_err-faults.ensures.does a _ _ _ before).text)
     (on_err _ c.from_residual.result failed)
 

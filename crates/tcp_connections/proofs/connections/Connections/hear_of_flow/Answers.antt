@@ -4,7 +4,7 @@ use Rattle.tcp_waiting.specs.Payload.{blocks_of}
 use Rattle.tcp_flow.specs.State.{state}
 use Rattle.tcp_connections.specs.Connections.{State, flow_at, heard}
 use Rattle.tcp_connections.specs.State.{state_of}
-use Rattle.tcp_connections.proofs.Cases.{arrived_none, arrived_some}
+use Rattle.tcp_connections.proofs.Cases.{arrived_none, arrived_some, kept_heard}
 use Rattle.tcp_connections.proofs.Living.{step_turn}
 use Rattle.tcp_connections.proofs.States.{makes_by, moved, flow_start, flow_turned, set_rest}
 use Rattle.tcp_connections.proofs.connections.Connections.hear_of_flow.Goals as goal
@@ -17,6 +17,16 @@ returns-in_default-clause-does g c w h =
     let S = state_of c.args.self.now es in
     moved _ _ _ _ _ (arrived_none g.L.Listener.reader S c.args.id _
     (sym c.flow.ensures ∙ c.in_default.is)) h0) w h
+
+pub returns-then-not-is_lost-clause-does : goal.returns-then-not-is_lost-clause-does
+unfolding heard
+returns-then-not-is_lost-clause-does g c w h =
+    makes_by _ _ _ _ _ _ (λ w. heard g.L.Listener.reader w c.args.id c.args.acknowledged
+    c.args.answers) (λ es h0.
+    let S = state_of c.args.self.now es in
+    moved _ _ _ _ _ (kept_heard g.L.Listener.reader S c.args.id _ c.in-Some.flow
+    (sym c.flow.ensures ∙ c.in-Some.is)
+    (sym (c.is_lost.ensures es) ∙ c.if-not-is_lost.true)) h0) w h
 
 pub returns-clause-does : goal.returns-clause-does
 unfolding heard

@@ -9,12 +9,12 @@ unfolding syn_kept
 returns-clause-kept c events =
     let w : State = state_of c.args.self.now events in
     ap (λ (u : State). record u { syns = c.set.new.self.kept.items }) (c.note.ensures.noted events)
-    ∙ ap (λ (ss : List (Option KeptSyn)). record (with_segment w c.args.room c.args.flow) {
+    ∙ ap (λ (ss : List (Option KeptSyn)). record (with_segment w c.args.slot c.args.flow) {
       syns = ss;
     }) (c.set.ensures
-    ∙ ap (λ (ss : List (Option KeptSyn)). set ss c.args.room (Some (record {
+    ∙ ap (λ (ss : List (Option KeptSyn)). set ss c.args.slot (Some (record {
       flow = c.args.flow;
       number = c.onward-number.result;
     }))) (ap (λ (u : State). u.syns) (c.note.ensures.noted events))
-    ∙ ap (λ (n : ℕ). set c.args.self.now.syns.kept.items c.args.room
+    ∙ ap (λ (n : ℕ). set c.args.self.now.syns.kept.items c.args.slot
     (Some (record { flow = c.args.flow; number = n }))) c.onward-number.ensures)

@@ -20,8 +20,9 @@ pub clear-requires-clause-state : goal.clear-requires-clause-state
 clear-requires-clause-state g c =
     let h = c.requires.state in (
       h.0,
-      kept _ _ c.args.self.now c.eldest-place.new.self h.0 c.eldest-place.ensures.same
-          c.eldest-place.ensures.free c.eldest-place.ensures.room c.eldest-place.ensures.givers h.1,
+      kept _ _ c.args.self.now c.find_eldest-index.new.self h.0 c.find_eldest-index.ensures.same
+          c.find_eldest-index.ensures.free c.find_eldest-index.ensures.room
+          c.find_eldest-index.ensures.givers h.1,
     )
 
 pub returns-clause-does : goal.returns-clause-does
@@ -29,14 +30,15 @@ returns-clause-does g c w h =
     let F = g.L.Listener.reader in
     let known = known_of _ _ _ _ h in
     let full = leb-true _ _ (sym c.is_full.ensures ∙ c.if-not-is_full.false) in
-    let n : c.eldest-place.result ≡ eldest w (length w.known) =
-    c.eldest-place.ensures.place ∙ ap (eldest (state_of c.args.self.now []))
+    let n : c.find_eldest-index.result ≡ eldest w (length w.known) =
+    c.find_eldest-index.ensures.index ∙ ap (eldest (state_of c.args.self.now []))
     (ap length known)
     ∙ eldest_any c.args.self.now [] w.events (length w.known)
     ∙ ap (λ (u : State). eldest u (length w.known)) h.same in
     moved_ok c.clear.result _ _ _ _ _
     (room_made F w (omega (arith, full, h.room, ap length known))
     ∙ ap (cleared F w) (sym n))
-    (c.clear.ensures.does w (kept _ _ c.args.self.now c.eldest-place.new.self w
-    c.eldest-place.ensures.same c.eldest-place.ensures.free c.eldest-place.ensures.room
-    c.eldest-place.ensures.givers h))
+    (c.clear.ensures.does w (kept _ _ c.args.self.now c.find_eldest-index.new.self w
+    c.find_eldest-index.ensures.same c.find_eldest-index.ensures.free
+    c.find_eldest-index.ensures.room
+    c.find_eldest-index.ensures.givers h))

@@ -9,9 +9,9 @@ use Rattle.tcp_connections.proofs.connections.Connections.pass.Goals as goal
 pub returns-then-is_looked_through : goal.returns-then-is_looked_through
 returns-then-is_looked_through g c w h =
     let V = segment_view c.args.segment in
-    let d = c.passes.ensures w.events (h.observed, h.live) in
+    let d = c.on_pass.ensures w.events (h.observed, h.live) in
     let t = told_capture (g.L.Listener.observed c.args.to.now.listener)
-    (g.L.Listener.observed c.passes.new.self.listener) _ c.args.self.now w (Passes V.payload) h d.0
+    (g.L.Listener.observed c.on_pass.new.self.listener) _ c.args.self.now w (Passes V.payload) h d.0
     in
     moved _ _ _ _ _ (looked_passes w V
     (sym (ap (λ (u : State). is_looked_through u.ports V) h.same)

@@ -13,10 +13,10 @@ pub returns-clause-does : goal.returns-clause-does
 unfolding shown
 returns-clause-does g c w h =
     let F = g.L.Listener.reader in
-    let own : c.flow_id.result ≡ flow_id c.args.room c.args.side = c.flow_id.ensures.id in
-    let other : c.flow_id-2.result ≡ flow_id c.args.room (opposite c.args.side) =
-    c.flow_id-2.ensures.id ∙ ap (flow_id c.args.room) c.other.ensures in
+    let own : c.flow_id.result ≡ flow_id c.args.slot c.args.side = c.flow_id.ensures.id in
+    let other : c.flow_id-2.result ≡ flow_id c.args.slot (opposite c.args.side) =
+    c.flow_id-2.ensures.id ∙ ap (flow_id c.args.slot) c.other.ensures in
     moved_ok c.empty-2.result _ _ _ _ _
     (sym (ap (λ (i : ℕ). emptied F (emptied F w i) c.flow_id-2.result) own
-    ∙ ap (emptied F (emptied F w (flow_id c.args.room c.args.side))) other))
+    ∙ ap (emptied F (emptied F w (flow_id c.args.slot c.args.side))) other))
     (c.empty-2.ensures.does _ (c.in_ok-empty.ensures.does w h))

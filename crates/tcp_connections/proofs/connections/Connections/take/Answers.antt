@@ -2,17 +2,17 @@ use Rattle.std.proofs.Common.{◌≡◌, ◌+◌, ◌/◌, ℕ, [], true, false,
 use Rattle.tcp_segment.specs.Segments.{segment_view}
 use Rattle.tcp_flow.specs.declared.flow.CloseCause.TheVariants.{Syn}
 use Rattle.tcp_streams.specs.Pairs.{pair_of, flow_id}
-use Rattle.tcp_connections.specs.Connections.{State, place_of, flow_at, flow_of_side, syn_at, room_at, is_kept, is_anew, ended_by, unknown_taken, syn_kept, step}
+use Rattle.tcp_connections.specs.Connections.{State, index_of, flow_at, flow_of_side, syn_at, slot_at, is_kept, is_anew, ended_by, unknown_taken, syn_kept, step}
 use Rattle.tcp_connections.specs.State.{state_of}
 use Rattle.tcp_connections.proofs.Cases.{step_unknown, step_kept, step_anew, step_known}
 use Rattle.tcp_connections.proofs.Changes.{counted, syn_noted}
 use Rattle.tcp_connections.proofs.Counted.{step_segments}
 use Rattle.tcp_connections.proofs.Search.{forgotten_unknown}
 use Rattle.tcp_connections.proofs.Shown.{shown_known}
-use Rattle.tcp_connections.proofs.Sound.{room_below}
+use Rattle.tcp_connections.proofs.Sound.{slot_below}
 use Rattle.tcp_connections.proofs.Kept.{half}
-use Rattle.tcp_connections.proofs.Rooms.{same_place}
-use Rattle.tcp_connections.proofs.States.{small_room, sound_of, known_of, moved, moved_ok, segments_of}
+use Rattle.tcp_connections.proofs.Slots.{same_index}
+use Rattle.tcp_connections.proofs.States.{small_slot, sound_of, known_of, moved, moved_ok, segments_of}
 use Rattle.tcp_connections.proofs.connections.Connections.take.Goals as goal
 
 pub take_unknown-requires-clause-state : goal.take_unknown-requires-clause-state
@@ -29,9 +29,9 @@ returns-in_default-clause-does g c w h =
     let V = segment_view c.args.segment in
     let pair = c.pair_of-side.result.0 in
     let known = known_of _ _ _ _ h in
-    let none : place_of (pair_of V.flow).0 w.known ≡ None =
-    ap (λ q. place_of q.0 w.known) (sym c.pair_of-side.ensures) ∙ ap (place_of pair) (sym known)
-    ∙ c.room_of.ensures.none c.in_default.is in
+    let none : index_of (pair_of V.flow).0 w.known ≡ None =
+    ap (λ q. index_of q.0 w.known) (sym c.pair_of-side.ensures) ∙ ap (index_of pair) (sym known)
+    ∙ c.slot_of.ensures.none c.in_default.is in
     moved_ok c.take_unknown.result _ _ _ _ _ (step_unknown F w V none)
     (c.take_unknown.ensures.does _ (counted (g.L.Listener.observed c.args.to.now.listener)
     c.args.to.now.live.items c.args.self.now
@@ -48,22 +48,22 @@ returns-in_default-clause-count g c =
 pub note-requires : goal.note-requires
 note-requires g c =
     let k = c.in-Some.ensures.some in
-    let b = small_room _ _ _ _ k.0 c.requires.state.1 k.1.within in omega (arith, k.1.room_is, b)
+    let b = small_slot _ _ _ _ k.0 c.requires.state.1 k.1.within in omega (arith, k.1.slot_is, b)
 
 pub flow_id-id-requires : goal.flow_id-id-requires
 flow_id-id-requires g c =
     let k = c.in-Some.ensures.some in
-    let b = small_room _ _ _ _ k.0 c.requires.state.1 k.1.within in omega (arith, k.1.room_is, b)
+    let b = small_slot _ _ _ _ k.0 c.requires.state.1 k.1.within in omega (arith, k.1.slot_is, b)
 
 pub keep_syn-requires : goal.keep_syn-requires
 keep_syn-requires g c =
     let sound = sound_of _ _ _ _ c.requires.state.1 in
     let k = c.in-Some.ensures.some in
-    let b = room_below (state_of c.args.self.now []) k.0 sound k.1.within in
+    let b = slot_below (state_of c.args.self.now []) k.0 sound k.1.within in
     record {
-      room = omega (arith, b, k.1.room_is, c.args.self.now.flows.stamps.last.ok.0);
+      slot = omega (arith, b, k.1.slot_is, c.args.self.now.flows.stamps.last.ok.0);
       own = ap (λ (n : ℕ). n / 2) c.flow_id-id.ensures.id
-          ∙ half c.in-Some.room c.pair_of-side.result.1;
+          ∙ half c.in-Some.slot c.pair_of-side.result.1;
     }
 
 pub returns-then-is_kept-clause-does : goal.returns-then-is_kept-clause-does
@@ -73,29 +73,29 @@ returns-then-is_kept-clause-does g c w h =
     let pair = c.pair_of-side.result.0 in
     let known = known_of _ _ _ _ h in
     let k = c.in-Some.ensures.some in
-    let place : ℕ = k.0 in
-    let some : place_of (pair_of V.flow).0 w.known ≡ Some place =
-    ap (λ q. place_of q.0 w.known) (sym c.pair_of-side.ensures) ∙ ap (place_of pair) (sym known)
+    let index : ℕ = k.0 in
+    let some : index_of (pair_of V.flow).0 w.known ≡ Some index =
+    ap (λ q. index_of q.0 w.known) (sym c.pair_of-side.ensures) ∙ ap (index_of pair) (sym known)
     ∙ k.1.found in
-    let at = sym k.1.room_is ∙ ap (λ (u : State). get_or u.rooms place 0) h.same in
-    let id : c.flow_id-id.result ≡ flow_id (room_at w place) (pair_of V.flow).1 =
+    let at = sym k.1.slot_is ∙ ap (λ (u : State). get_or u.slots index 0) h.same in
+    let id : c.flow_id-id.result ≡ flow_id (slot_at w index) (pair_of V.flow).1 =
     c.flow_id-id.ensures.id ∙ ap (λ (r : ℕ). flow_id r c.pair_of-side.result.1) at
-    ∙ ap (λ q. flow_id (room_at w place) q.1) c.pair_of-side.ensures in
+    ∙ ap (λ q. flow_id (slot_at w index) q.1) c.pair_of-side.ensures in
     let flow = ap (λ (u : State). flow_at u c.flow_id-id.result) h.same ∙ ap (flow_at w) id in
-    let kept : is_kept (flow_of_side w place (pair_of V.flow).1) V ≡ true =
+    let kept : is_kept (flow_of_side w index (pair_of V.flow).1) V ≡ true =
     ap (λ o. is_kept o V) (sym flow) ∙ sym c.is_kept.ensures ∙ c.if-is_kept.true in
     let v : State = record w { segments = w.segments + 1 } in
     moved (g.L.Listener.observed c.args.to.now.listener) c.args.to.now.live.items
-    c.keep_syn.new.self (step F w V) (syn_kept v c.in-Some.room c.flow_id-id.result V)
-    (step_kept F w V place some kept
-    ∙ ap (λ (r : ℕ). syn_kept v r (flow_id (room_at w place) (pair_of V.flow).1) V) (sym at)
-    ∙ ap (λ (i : ℕ). syn_kept v c.in-Some.room i V) (sym id))
+    c.keep_syn.new.self (step F w V) (syn_kept v c.in-Some.slot c.flow_id-id.result V)
+    (step_kept F w V index some kept
+    ∙ ap (λ (r : ℕ). syn_kept v r (flow_id (slot_at w index) (pair_of V.flow).1) V) (sym at)
+    ∙ ap (λ (i : ℕ). syn_kept v c.in-Some.slot i V) (sym id))
     (syn_noted (g.L.Listener.observed c.args.to.now.listener) c.args.to.now.live.items
     (record c.args.self.now {
       segments = c.args.self.now.segments + 1;
       guesses = c.note.new.self;
     }) c.keep_syn.new.self v
-    c.in-Some.room c.flow_id-id.result V
+    c.in-Some.slot c.flow_id-id.result V
     (counted (g.L.Listener.observed c.args.to.now.listener)
     c.args.to.now.live.items c.args.self.now
     (record c.args.self.now {
@@ -110,8 +110,8 @@ unfolding syn_kept
 returns-then-is_kept-clause-count g c =
     ap (λ (u : State). u.segments) (c.keep_syn.ensures.kept [])
 
-pub place_of-requires : goal.place_of-requires
-place_of-requires g c =
+pub index_of-requires : goal.index_of-requires
+index_of-requires g c =
     let k = c.in-Some.ensures.some in
     record {
       sound = sound_of _ _ _ _ (counted (g.L.Listener.observed c.args.to.now.listener)
@@ -163,12 +163,12 @@ take_unknown-requires-then-is_anew-clause-new g c =
       guesses = c.note.new.self;
     }) c.requires.state.0
     c.requires.state.1 (λ e. refl) refl refl refl) in
-    let some : place_of pair w.known ≡ Some c.place_of.result =
-    ap (place_of pair) (sym (known_of _ _ _ _ h)) ∙ c.place_of.ensures.place in
-    ap (place_of pair) (known_of _ _ _ _ n
-    ∙ shown_known g.L.Listener.reader v c.place_of.result (room_at v c.place_of.result)
+    let some : index_of pair w.known ≡ Some c.index_of.result =
+    ap (index_of pair) (sym (known_of _ _ _ _ h)) ∙ c.index_of.ensures.index in
+    ap (index_of pair) (known_of _ _ _ _ n
+    ∙ shown_known g.L.Listener.reader v c.index_of.result (slot_at v c.index_of.result)
     c.pair_of-side.result.1 c.pair_of-side.result.1 Syn)
-    ∙ forgotten_unknown pair w.known c.place_of.result h.sound.order some
+    ∙ forgotten_unknown pair w.known c.index_of.result h.sound.order some
 
 pub returns-then-is_anew-clause-does : goal.returns-then-is_anew-clause-does
 returns-then-is_anew-clause-does g c w h =
@@ -177,29 +177,29 @@ returns-then-is_anew-clause-does g c w h =
     let pair = c.pair_of-side.result.0 in
     let known = known_of _ _ _ _ h in
     let k = c.in-Some.ensures.some in
-    let place : ℕ = c.place_of.result in
-    let some : place_of (pair_of V.flow).0 w.known ≡ Some place =
-    ap (λ q. place_of q.0 w.known) (sym c.pair_of-side.ensures) ∙ ap (place_of pair) (sym known)
-    ∙ c.place_of.ensures.place in
-    let own : k.0 ≡ place =
-    same_place k.0 place (sym k.1.found ∙ c.place_of.ensures.place) in
-    let at = sym k.1.room_is ∙ ap (λ (n : ℕ). get_or c.args.self.now.table.rooms n 0) own
-    ∙ ap (λ (u : State). get_or u.rooms place 0) h.same in
-    let id : c.flow_id-id.result ≡ flow_id (room_at w place) (pair_of V.flow).1 =
+    let index : ℕ = c.index_of.result in
+    let some : index_of (pair_of V.flow).0 w.known ≡ Some index =
+    ap (λ q. index_of q.0 w.known) (sym c.pair_of-side.ensures) ∙ ap (index_of pair) (sym known)
+    ∙ c.index_of.ensures.index in
+    let own : k.0 ≡ index =
+    same_index k.0 index (sym k.1.found ∙ c.index_of.ensures.index) in
+    let at = sym k.1.slot_is ∙ ap (λ (n : ℕ). get_or c.args.self.now.table.slots n 0) own
+    ∙ ap (λ (u : State). get_or u.slots index 0) h.same in
+    let id : c.flow_id-id.result ≡ flow_id (slot_at w index) (pair_of V.flow).1 =
     c.flow_id-id.ensures.id ∙ ap (λ (r : ℕ). flow_id r c.pair_of-side.result.1) at
-    ∙ ap (λ q. flow_id (room_at w place) q.1) c.pair_of-side.ensures in
+    ∙ ap (λ q. flow_id (slot_at w index) q.1) c.pair_of-side.ensures in
     let flow = ap (λ (u : State). flow_at u c.flow_id-id.result) h.same ∙ ap (flow_at w) id in
-    let syn = ap (λ (u : State). syn_at u c.in-Some.room) h.same ∙ ap (syn_at w) at in
-    let not_kept : is_kept (flow_of_side w place (pair_of V.flow).1) V ≡ false =
+    let syn = ap (λ (u : State). syn_at u c.in-Some.slot) h.same ∙ ap (syn_at w) at in
+    let not_kept : is_kept (flow_of_side w index (pair_of V.flow).1) V ≡ false =
     ap (λ o. is_kept o V) (sym flow) ∙ sym c.is_kept.ensures ∙ c.if-is_kept.false in
-    let anew : is_anew (syn_at w (room_at w place)) (flow_id (room_at w place)
+    let anew : is_anew (syn_at w (slot_at w index)) (flow_id (slot_at w index)
     (pair_of V.flow).1) V ≡ true =
-    ap (λ o. is_anew o (flow_id (room_at w place) (pair_of V.flow).1) V) (sym syn)
-    ∙ ap (λ i. is_anew (syn_at (state_of c.args.self.now w.events) c.in-Some.room) i V) (sym id)
+    ap (λ o. is_anew o (flow_id (slot_at w index) (pair_of V.flow).1) V) (sym syn)
+    ∙ ap (λ i. is_anew (syn_at (state_of c.args.self.now w.events) c.in-Some.slot) i V) (sym id)
     ∙ sym c.is_anew.ensures ∙ c.if-is_anew.true in
     moved_ok c.take_unknown-then-is_anew.result _ _ _ _ _
-    (step_anew F w V place some not_kept anew ∙ ap (λ q.
-    unknown_taken F (ended_by F (record w { segments = w.segments + 1 }) place q.1 Syn) V)
+    (step_anew F w V index some not_kept anew ∙ ap (λ q.
+    unknown_taken F (ended_by F (record w { segments = w.segments + 1 }) index q.1 Syn) V)
     (sym c.pair_of-side.ensures))
     (c.take_unknown-then-is_anew.ensures.does _
     (c.in_ok-end_by.ensures.does _ (counted (g.L.Listener.observed c.args.to.now.listener)
@@ -235,25 +235,25 @@ returns-clause-does g c w h =
     let pair = c.pair_of-side.result.0 in
     let known = known_of _ _ _ _ h in
     let k = c.in-Some.ensures.some in
-    let place : ℕ = k.0 in
-    let some : place_of (pair_of V.flow).0 w.known ≡ Some place =
-    ap (λ q. place_of q.0 w.known) (sym c.pair_of-side.ensures) ∙ ap (place_of pair) (sym known)
+    let index : ℕ = k.0 in
+    let some : index_of (pair_of V.flow).0 w.known ≡ Some index =
+    ap (λ q. index_of q.0 w.known) (sym c.pair_of-side.ensures) ∙ ap (index_of pair) (sym known)
     ∙ k.1.found in
-    let at = sym k.1.room_is ∙ ap (λ (u : State). get_or u.rooms place 0) h.same in
-    let id : c.flow_id-id.result ≡ flow_id (room_at w place) (pair_of V.flow).1 =
+    let at = sym k.1.slot_is ∙ ap (λ (u : State). get_or u.slots index 0) h.same in
+    let id : c.flow_id-id.result ≡ flow_id (slot_at w index) (pair_of V.flow).1 =
     c.flow_id-id.ensures.id ∙ ap (λ (r : ℕ). flow_id r c.pair_of-side.result.1) at
-    ∙ ap (λ q. flow_id (room_at w place) q.1) c.pair_of-side.ensures in
+    ∙ ap (λ q. flow_id (slot_at w index) q.1) c.pair_of-side.ensures in
     let flow = ap (λ (u : State). flow_at u c.flow_id-id.result) h.same ∙ ap (flow_at w) id in
-    let syn = ap (λ (u : State). syn_at u c.in-Some.room) h.same ∙ ap (syn_at w) at in
-    let not_kept : is_kept (flow_of_side w place (pair_of V.flow).1) V ≡ false =
+    let syn = ap (λ (u : State). syn_at u c.in-Some.slot) h.same ∙ ap (syn_at w) at in
+    let not_kept : is_kept (flow_of_side w index (pair_of V.flow).1) V ≡ false =
     ap (λ o. is_kept o V) (sym flow) ∙ sym c.is_kept.ensures ∙ c.if-is_kept.false in
-    let known : is_anew (syn_at w (room_at w place)) (flow_id (room_at w place)
+    let known : is_anew (syn_at w (slot_at w index)) (flow_id (slot_at w index)
     (pair_of V.flow).1) V ≡ false =
-    ap (λ o. is_anew o (flow_id (room_at w place) (pair_of V.flow).1) V) (sym syn)
-    ∙ ap (λ i. is_anew (syn_at (state_of c.args.self.now w.events) c.in-Some.room) i V) (sym id)
+    ap (λ o. is_anew o (flow_id (slot_at w index) (pair_of V.flow).1) V) (sym syn)
+    ∙ ap (λ i. is_anew (syn_at (state_of c.args.self.now w.events) c.in-Some.slot) i V) (sym id)
     ∙ sym c.is_anew.ensures ∙ c.if-is_anew.false in
-    moved_ok c.take_known.result _ _ _ _ _ (step_known F w V place some not_kept known)
-    (c.take_known.ensures.does place k.1 _ (counted (g.L.Listener.observed c.args.to.now.listener)
+    moved_ok c.take_known.result _ _ _ _ _ (step_known F w V index some not_kept known)
+    (c.take_known.ensures.does index k.1 _ (counted (g.L.Listener.observed c.args.to.now.listener)
     c.args.to.now.live.items c.args.self.now
     (record c.args.self.now {
       segments = c.args.self.now.segments + 1;

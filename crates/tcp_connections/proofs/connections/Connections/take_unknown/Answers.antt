@@ -1,7 +1,7 @@
 use Rattle.std.proofs.Common.{◌/◌, ◌<◌, ℕ, List, length, sym, ap, subst, ◌∙◌, arith}
 use Rattle.tcp_segment.specs.Segments.{segment_view}
 use Rattle.tcp_streams.specs.Pairs.{flow_id}
-use Rattle.tcp_connections.specs.Connections.{State, flow_at, with_room, made_known, next_room, place_of, is_first, began, fin_taken, first_number}
+use Rattle.tcp_connections.specs.Connections.{State, flow_at, with_room, made_known, next_slot, index_of, is_first, began, fin_taken, first_number}
 use Rattle.tcp_connections.specs.State.{times}
 use Rattle.tcp_connections.proofs.Cases.{unknown_nothing, unknown_first}
 use Rattle.tcp_connections.proofs.Kept.{half}
@@ -26,9 +26,9 @@ make_known-requires-clause-new g c =
     let w = c.requires.state.0 in
     let h = c.requires.state.1 in
     let n = c.in_ok-make_room.ensures.does w h in
-    ap (place_of c.args.pair) (known_of _ _ _ _ n)
+    ap (index_of c.args.pair) (known_of _ _ _ _ n)
     ∙ (room_enough g.L.Listener.reader w c.args.pair h.sound
-    (sym (ap (place_of c.args.pair) (known_of _ _ _ _ h)) ∙ c.requires.new)).0
+    (sym (ap (index_of c.args.pair) (known_of _ _ _ _ h)) ∙ c.requires.new)).0
 
 pub make_known-requires-clause-room : goal.make_known-requires-clause-room
 make_known-requires-clause-room g c =
@@ -36,7 +36,7 @@ make_known-requires-clause-room g c =
     let h = c.requires.state.1 in
     let n = c.in_ok-make_room.ensures.does w h in
     let less = (room_enough g.L.Listener.reader w c.args.pair h.sound
-    (sym (ap (place_of c.args.pair) (known_of _ _ _ _ h)) ∙ c.requires.new)).1 in
+    (sym (ap (index_of c.args.pair) (known_of _ _ _ _ h)) ∙ c.requires.new)).1 in
     omega (
       arith,
       less,
@@ -50,14 +50,14 @@ flow_id-id-requires g c =
     let h = c.requires.state.1 in
     let n = c.in_ok-make_room.ensures.does w h in
     let less = (room_enough g.L.Listener.reader w c.args.pair h.sound
-    (sym (ap (place_of c.args.pair) (known_of _ _ _ _ h)) ∙ c.requires.new)).1 in
-    let room = c.in_ok-room.ensures.room ∙ ap next_room (ap (λ (u : State). u.free) n.same) in
-    omega (arith, room, next_below (with_room g.L.Listener.reader w) n.sound less, n.sound.most)
+    (sym (ap (index_of c.args.pair) (known_of _ _ _ _ h)) ∙ c.requires.new)).1 in
+    let slot = c.in_ok-slot.ensures.slot ∙ ap next_slot (ap (λ (u : State). u.free) n.same) in
+    omega (arith, slot, next_below (with_room g.L.Listener.reader w) n.sound less, n.sound.most)
 
 pub begin-requires-clause-state : goal.begin-requires-clause-state
 begin-requires-clause-state g c = (
   _,
-  c.in_ok-room.ensures.does _
+  c.in_ok-slot.ensures.does _
       (c.in_ok-make_room.ensures.does c.requires.state.0 c.requires.state.1),
 )
 
@@ -67,12 +67,12 @@ begin-requires-clause-within g c =
     let h = c.requires.state.1 in
     let n = c.in_ok-make_room.ensures.does w h in
     let less = (room_enough g.L.Listener.reader w c.args.pair h.sound
-    (sym (ap (place_of c.args.pair) (known_of _ _ _ _ h)) ∙ c.requires.new)).1 in
-    let room = c.in_ok-room.ensures.room ∙ ap next_room (ap (λ (u : State). u.free) n.same) in
-    let m = c.in_ok-room.ensures.does _ n in
+    (sym (ap (index_of c.args.pair) (known_of _ _ _ _ h)) ∙ c.requires.new)).1 in
+    let slot = c.in_ok-slot.ensures.slot ∙ ap next_slot (ap (λ (u : State). u.free) n.same) in
+    let m = c.in_ok-slot.ensures.does _ n in
     omega (
       arith,
-      room,
+      slot,
       next_below (with_room g.L.Listener.reader w) n.sound less,
       n.sound.flows,
       c.flow_id-id.ensures.bound,
@@ -87,14 +87,14 @@ begin-requires-clause-taken g c =
     let h = c.requires.state.1 in
     let n = c.in_ok-make_room.ensures.does w h in
     let less = (room_enough g.L.Listener.reader w c.args.pair h.sound
-    (sym (ap (place_of c.args.pair) (known_of _ _ _ _ h)) ∙ c.requires.new)).1 in
-    let room = c.in_ok-room.ensures.room ∙ ap next_room (ap (λ (u : State). u.free) n.same) in
-    let m = c.in_ok-room.ensures.does _ n in
-    let id = ap (λ (k : ℕ). k / 2) c.flow_id-id.ensures.id ∙ half _ c.args.side ∙ room in
+    (sym (ap (index_of c.args.pair) (known_of _ _ _ _ h)) ∙ c.requires.new)).1 in
+    let slot = c.in_ok-slot.ensures.slot ∙ ap next_slot (ap (λ (u : State). u.free) n.same) in
+    let m = c.in_ok-slot.ensures.does _ n in
+    let id = ap (λ (k : ℕ). k / 2) c.flow_id-id.ensures.id ∙ half _ c.args.side ∙ slot in
     subst (λ (rs : List ℕ). 0 < times (c.flow_id-id.result / 2) rs)
-    (sym (ap (λ (u : State). u.rooms) m.same))
+    (sym (ap (λ (u : State). u.slots) m.same))
     (subst (λ (k : ℕ).
-    0 < times k (made_known (with_room g.L.Listener.reader w) c.args.pair).rooms) (sym id)
+    0 < times k (made_known (with_room g.L.Listener.reader w) c.args.pair).slots) (sym id)
     (next_taken (with_room g.L.Listener.reader w) c.args.pair))
 
 pub begin-requires-clause-vacant : goal.begin-requires-clause-vacant
@@ -103,10 +103,10 @@ begin-requires-clause-vacant g c =
     let h = c.requires.state.1 in
     let n = c.in_ok-make_room.ensures.does w h in
     let less = (room_enough g.L.Listener.reader w c.args.pair h.sound
-    (sym (ap (place_of c.args.pair) (known_of _ _ _ _ h)) ∙ c.requires.new)).1 in
-    let room = c.in_ok-room.ensures.room ∙ ap next_room (ap (λ (u : State). u.free) n.same) in
-    let m = c.in_ok-room.ensures.does _ n in
-    let id = c.flow_id-id.ensures.id ∙ ap (λ (r : ℕ). flow_id r c.args.side) room in
+    (sym (ap (index_of c.args.pair) (known_of _ _ _ _ h)) ∙ c.requires.new)).1 in
+    let slot = c.in_ok-slot.ensures.slot ∙ ap next_slot (ap (λ (u : State). u.free) n.same) in
+    let m = c.in_ok-slot.ensures.does _ n in
+    let id = c.flow_id-id.ensures.id ∙ ap (λ (r : ℕ). flow_id r c.args.side) slot in
     ap (λ (u : State). flow_at u c.flow_id-id.result) m.same
     ∙ ap (flow_at (made_known (with_room g.L.Listener.reader w) c.args.pair)) id
     ∙ next_vacant (with_room g.L.Listener.reader w) c.args.pair c.args.side n.sound less
@@ -117,7 +117,7 @@ fin-requires g c =
       state = (
         _,
         c.in_ok-begin.ensures.does _
-            (c.in_ok-room.ensures.does _ (c.in_ok-make_room.ensures.does c.requires.state.0
+            (c.in_ok-slot.ensures.does _ (c.in_ok-make_room.ensures.does c.requires.state.0
             c.requires.state.1)),
       );
     }
@@ -128,14 +128,14 @@ returns-clause-does g c w h =
     let V = segment_view c.args.segment in
     let v : State = with_room F w in
     let n = c.in_ok-make_room.ensures.does w h in
-    let room = c.in_ok-room.ensures.room ∙ ap next_room (ap (λ (u : State). u.free) n.same) in
-    let id = c.flow_id-id.ensures.id ∙ ap (λ (r : ℕ). flow_id r c.args.side) room in
+    let slot = c.in_ok-slot.ensures.slot ∙ ap next_slot (ap (λ (u : State). u.free) n.same) in
+    let id = c.flow_id-id.ensures.id ∙ ap (λ (r : ℕ). flow_id r c.args.side) slot in
     let first = sym (ap (λ (u : State). is_first u.ports V) h.same) ∙ sym c.is_first.ensures
     ∙ c.if-not-is_first.false in
     moved_ok c.fin.result _ _ _ _ _
     (unknown_first F w V first
-    ∙ ap (λ q. fin_taken F (began F (made_known v q.0) (flow_id (next_room v.free) q.1)
-    (first_number V) V.payload) (flow_id (next_room v.free) q.1) V) c.requires.flow
+    ∙ ap (λ q. fin_taken F (began F (made_known v q.0) (flow_id (next_slot v.free) q.1)
+    (first_number V) V.payload) (flow_id (next_slot v.free) q.1) V) c.requires.flow
     ∙ ap (λ (i : ℕ). fin_taken F (began F (made_known v c.args.pair) i (first_number V) V.payload) i
     V) (sym id))
-    (c.fin.ensures.does _ (c.in_ok-begin.ensures.does _ (c.in_ok-room.ensures.does _ n)))
+    (c.fin.ensures.does _ (c.in_ok-begin.ensures.does _ (c.in_ok-slot.ensures.does _ n)))

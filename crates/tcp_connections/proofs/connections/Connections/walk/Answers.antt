@@ -4,20 +4,20 @@ use Rattle.tcp_connections.specs.State.{state_of}
 use Rattle.tcp_connections.proofs.Cases.{eldest_more}
 use Rattle.tcp_connections.proofs.connections.Connections.walk.Goals as goal
 
-pub loop-place-init : goal.loop-place-init
+pub loop-index-init : goal.loop-index-init
 unfolding eldest
-loop-place-init c = (
+loop-index-init c = (
   omega arith,
   omega (arith, c.requires.some),
   refl,
 )
 
-pub loop-place-preserved : goal.loop-place-preserved
-loop-place-preserved c =
+pub loop-index-preserved : goal.loop-index-preserved
+loop-index-preserved c =
     let w = state_of c.args.self.now [] in
-    let n = c.loop-place.place in (
-      omega (arith, c.loop-place-test.true, c.len.ensures),
+    let n = c.loop-index.index in (
+      omega (arith, c.loop-index-test.true, c.len.ensures),
       omega (arith, c.elder-best.ensures.within),
-      c.elder-best.ensures.place ∙ ap (λ (b : ℕ). cond (goes_before w n b) n b)
-          c.loop-place.invariant.2 ∙ sym (eldest_more w n),
+      c.elder-best.ensures.index ∙ ap (λ (b : ℕ). cond (goes_before w n b) n b)
+          c.loop-index.invariant.2 ∙ sym (eldest_more w n),
     )

@@ -6,7 +6,7 @@ use Rattle.tcp_connections.proofs.flows.Flows.goes_before.Goals as goal
 pub returns : goal.returns
 returns c =
     let f = c.args.self.now in
-    let a : ℕ = c.args.room in
+    let a : ℕ = c.args.slot in
     let b : ℕ = c.args.other in
     let rank = rank_among f.states.items f.came.ids.items f.stamps.last.items in
     let own : c.rank_of.result ≡ rank a = search rules in

@@ -6,16 +6,16 @@ use Rattle.tcp_flow.proofs.States.{by_state}
 use Rattle.tcp_flow.proofs.Truth.{true_keeps}
 use Rattle.tcp_flow.proofs.flow.FlowState.close.Goals as goal
 
-pub returns-in_ok-closes-clause-does : goal.returns-in_ok-closes-clause-does
+pub returns-in_ok-on_close-clause-does : goal.returns-in_ok-on_close-clause-does
 unfolding closed with_event
-returns-in_ok-closes-clause-does g c held f h =
-    let G = IsState (g.T.Listener.observed c.closes.new.self) _ held in
+returns-in_ok-on_close-clause-does g c held f h =
+    let G = IsState (g.T.Listener.observed c.on_close.new.self) _ held in
     by_state (λ f. G (closed f c.args.cause)) _ c.args.self.now held f h (λ events o.
     let s = state c.args.self.now held events in
     subst G (sym (cond-true (lives s.live s.waits) (stopped s s.next c.args.cause)
     (out_of_step s)
     (sym c.is_live-is_live.ensures ∙ c.if-is_live.true)))
-    (record { observed = c.in_ok-closes.ensures.does events o; same = refl }))
+    (record { observed = c.in_ok-on_close.ensures.does events o; same = refl }))
 
 pub returns-else-is_live-clause-does : goal.returns-else-is_live-clause-does
 unfolding closed with_event
@@ -28,8 +28,8 @@ returns-else-is_live-clause-does g c held f h =
     (sym c.is_live-is_live.ensures ∙ c.if-is_live.false)))
     (record { observed = o; same = refl }))
 
-pub returns-in_ok-closes-clause-gapless : goal.returns-in_ok-closes-clause-gapless
-returns-in_ok-closes-clause-gapless g c payloads held f h t =
+pub returns-in_ok-on_close-clause-gapless : goal.returns-in_ok-on_close-clause-gapless
+returns-in_ok-on_close-clause-gapless g c payloads held f h t =
     (true_keeps g.T.Listener.reader payloads).closes f c.args.cause t
 
 pub returns-else-is_live-clause-gapless : goal.returns-else-is_live-clause-gapless

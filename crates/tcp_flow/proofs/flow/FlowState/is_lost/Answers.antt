@@ -1,8 +1,9 @@
 use Rattle.std.proofs.Common.{◌<◌, ℕ, false, get_or, length, sym, ◌∙◌, ap}
 use Rattle.std.specs.Prelude.{Option, Some, None}
-use Rattle.tcp_waiting.specs.Payload.{no_payload}
+use Rattle.tcp_waiting.specs.Payload.{first, no_payload}
 use Rattle.tcp_waiting.proofs.Order.{first_within}
 use Rattle.tcp_flow.specs.Flow.{at, first_of, gives_up, is_lost}
+use Rattle.tcp_flow.proofs.Early.{first_kept}
 use Rattle.tcp_flow.proofs.flow.FlowState.is_lost.Goals as goal
 
 pub arrival-requires : goal.arrival-requires
@@ -11,6 +12,14 @@ arrival-requires c =
     rw (sym c.first.ensures ∙ c.in-Some.is) at
     (first_within c.args.self.now.id c.args.self.now.next c.args.pool.now.held) in
     within
+
+pub returns-then-comes_early : goal.returns-then-comes_early
+unfolding at first_of is_lost
+returns-then-comes_early c events =
+    let held = c.args.pool.now.held in
+    sym (first_kept c.args.packet c.args.self.now.next (first c.args.self.now.id
+    c.args.self.now.next held) held (first_within c.args.self.now.id c.args.self.now.next held)
+    (c.comes_early.ensures c.if-comes_early.true))
 
 pub returns-in-Some : goal.returns-in-Some
 unfolding at first_of is_lost

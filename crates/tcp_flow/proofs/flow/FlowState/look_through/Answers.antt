@@ -58,14 +58,14 @@ returns-then-is_beginning-clause-does g c held f arrival h =
     let n = c.args.number in
     let xs = c.args.octets.now in
     let p = payload s.id n xs arrival in
-    let G = IsState (g.T.Listener.observed c.passes.new.self) _ held in
+    let G = IsState (g.T.Listener.observed c.on_pass.new.self) _ held in
     by_state (λ f. G (looked_through F f p (tail_before f.tail n xs))) _ s held f h (λ events o.
     let S = state s held events in
     subst G (sym (looked_vain F S p (tail_before s.tail n xs) true
     (sym c.tail_before.ensures ∙ c.in_default.is)
     (sym c.stream_at.ensures.at ∙ c.in_default-stream_at.is)
     (sym c.is_beginning.ensures ∙ c.if-is_beginning.true)))
-    (record { observed = c.passes.ensures events o; same = rw c.new.ensures refl }))
+    (record { observed = c.on_pass.ensures events o; same = rw c.new.ensures refl }))
 
 pub returns-else-is_beginning-clause-does : goal.returns-else-is_beginning-clause-does
 unfolding with_event
@@ -75,11 +75,11 @@ returns-else-is_beginning-clause-does g c held f arrival h =
     let n = c.args.number in
     let xs = c.args.octets.now in
     let p = payload s.id n xs arrival in
-    let G = IsState (g.T.Listener.observed c.passes.new.self) s held in
+    let G = IsState (g.T.Listener.observed c.on_pass.new.self) s held in
     by_state (λ f. G (looked_through F f p (tail_before f.tail n xs))) _ s held f h (λ events o.
     let S = state s held events in
     subst G (sym (looked_vain F S p (tail_before s.tail n xs) false
     (sym c.tail_before.ensures ∙ c.in_default.is)
     (sym c.stream_at.ensures.at ∙ c.in_default-stream_at.is)
     (sym c.is_beginning.ensures ∙ c.if-is_beginning.false)))
-    (record { observed = c.passes.ensures events o; same = refl }))
+    (record { observed = c.on_pass.ensures events o; same = refl }))

@@ -16,7 +16,7 @@ returns-then-count-lt6-clause-does g c held f arrival h =
     let t = c.args.tail in
     let xs = c.args.octets.now in
     let p = payload s.id c.args.number xs arrival in
-    let O = g.T.Listener.observed c.passes.new.self in
+    let O = g.T.Listener.observed c.on_pass.new.self in
     let G = IsState O _ held in
     let few : nat_lt (t.octets + length xs) 6 ≡ true =
     lt-ltb (t.octets + length xs) 6 c.if-count-lt6.true in
@@ -26,7 +26,7 @@ returns-then-count-lt6-clause-does g c held f arrival h =
     subst G (sym (rejoined_vain F S p t few))
     (record {
       observed = subst (λ (ys : List ℕ). O (events ++ OfCapture (Passes ys) ∷ [])) (sym both)
-          (c.passes.ensures events o);
+          (c.on_pass.ensures events o);
       same = rw c.lengthened.ensures refl;
     }))
 

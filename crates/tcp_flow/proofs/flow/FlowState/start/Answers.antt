@@ -10,11 +10,11 @@ unfolding with_event
 returns-clause-does g c held f h =
     let s = c.args.self.now in
     let n = c.args.number in
-    let O = g.T.Listener.observed c.begins.new.self in
+    let O = g.T.Listener.observed c.on_begin.new.self in
     let G = IsState O _ held in
     by_state (λ f. G (started f n)) _ s held f h (λ events o.
     record {
       observed = subst (λ (x : Start). O (events ++ Begins s.id x ∷ [])) c.start_at-start.ensures
-          (c.in_ok-begins.ensures.does events o);
+          (c.in_ok-on_begin.ensures.does events o);
       same = rw c.start_at-start.ensures refl;
     })

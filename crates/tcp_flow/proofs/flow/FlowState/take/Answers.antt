@@ -37,7 +37,7 @@ returns-then-is_in_step-clause-does g c held f h =
     (c.deliver.ensures.does held (resumed (told_from (state c.args.self.now held events) p))
     c.args.arrival
     (c.in_ok-resume.ensures.does held (told_from (state c.args.self.now held events) p)
-    (record { observed = c.comes_from.ensures events o; same = refl }))))
+    (record { observed = c.on_arrival.ensures events o; same = refl }))))
 
 pub returns-clause-does : goal.returns-clause-does
 unfolding told_from with_event
@@ -55,4 +55,4 @@ returns-clause-does g c held f h =
     (sym c.is_empty.ensures ∙ c.if-is_empty.false)
     (sym c.is_in_step.ensures ∙ c.if-is_in_step.false)))
     (c.look_through.ensures.does held (told_from (state c.args.self.now held events) p)
-    c.args.arrival (record { observed = c.comes_from.ensures events o; same = refl })))
+    c.args.arrival (record { observed = c.on_arrival.ensures events o; same = refl })))

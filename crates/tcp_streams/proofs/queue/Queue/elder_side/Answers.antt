@@ -9,7 +9,7 @@ pub returns : goal.returns
 returns c =
     let xs = c.self.inside.ids.items in
     let at = λ (n : ℕ). place_of n xs in
-    c.first_side.ensures ∙ sym (elder_is c.args.room xs _ _
+    c.first_side.ensures ∙ sym (elder_is c.args.slot xs _ _
     (ap at (sym c.flow_id-lesser.ensures.id) ∙ sym c.place_of.ensures)
     (ap at (sym c.flow_id-greater.ensures.id) ∙ sym c.place_of-2.ensures))
-    ∙ ap (λ (v : QueueView). elder_side c.args.room v.items) c.self.view_is
+    ∙ ap (λ (v : QueueView). elder_side c.args.slot v.items) c.self.view_is

@@ -17,7 +17,7 @@ taken c =
       ap (λ (v : PlacesView). length v.items) c.self.view_is,
       length-map a.order.items (waiting_under a.slots),
     ) in
-    let number = c.remove-number.ensures.room in
+    let number = c.remove-number.ensures.slot in
     let there : IsSome c.try_remove.result =
     rw (c.try_remove.ensures.value, number)
     (all_at (λ n. IsSome (get a.slots n)) a.order.items c.args.place 0

@@ -1,15 +1,15 @@
-use Rattle.std.proofs.Common.{◌≡◌, ◌<◌, ◌≤◌, ◌+◌, ◌/◌, ◌++◌, length, length-append, get_or, List, ℕ, Option, None, IfSome, false, arith, refl, sym, subst, ◌∙◌, ap, inl, inr}
+use Rattle.std.proofs.Common.{◌≡◌, ◌<◌, ◌≤◌, ◌+◌, ◌/◌, ◌++◌, length, length-append, get_or, List, ℕ, Option, Some, None, IfSome, false, arith, refl, sym, subst, ◌∙◌, ap, inl, inr}
 use Rattle.std.specs.List.{insert}
 use Rattle.tcp_waiting.specs.declared.pool.Near.{Near}
 use Rattle.tcp_waiting.specs.declared.pool.Waiting.{Waiting}
-use Rattle.tcp_waiting.specs.Payload.{payload, blocks_of, load_of, key_of, place_of, put}
+use Rattle.tcp_waiting.specs.Payload.{Payload, payload, blocks_of, load_of, key_of, place_of, put}
 use Rattle.tcp_waiting.specs.Layout.{held_in, IsSmall, is_far_but}
 use Rattle.tcp_waiting.specs.Pool.{PoolView}
 use Rattle.tcp_waiting.proofs.Held.{length_held, held_inserted, all_insert, within_more, ok_items}
 use Rattle.tcp_waiting.proofs.Counts.{load_insert, load_most}
 use Rattle.tcp_waiting.proofs.Ends.{far_insert, far_none_but, itself, another, set_cases}
 use Rattle.tcp_waiting.proofs.Order.{place_within, ordered_insert}
-use Rattle.tcp_waiting.proofs.Queries.{blocks_insert}
+use Rattle.tcp_waiting.proofs.Queries.{blocks_insert, since_before}
 use Rattle.tcp_waiting.proofs.Packing.{counts_blocks, length_blocks}
 use Rattle.tcp_waiting.proofs.pool.Pool.hold.Goals.{then-is_far, else-is_far}
 use Rattle.tcp_waiting.proofs.pool.Pool.hold.Goals as goal
@@ -191,6 +191,12 @@ invariant_of-self c =
                 (c.self.invariant.nears flow n e.1)
                 (another flow n.base n.number n.count p e.0)
           ]);
+      since =
+          (let e = c.earlier-self-inside in
+          rw h.held (all_insert (λ (q : Payload). (came : ℕ) → q.arrival.time ≡ Some came →
+          e.result ≤ came) before place p
+          (since_before a.since e.result before e.ensures.since c.self.invariant.since)
+          (λ came is. subst (λ (o : Option ℕ). IfSome o (λ t. e.result ≤ t)) is e.ensures.time)));
     }
 
 pub returns-clause-held : goal.returns-clause-held

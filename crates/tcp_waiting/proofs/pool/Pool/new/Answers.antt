@@ -24,4 +24,5 @@ invariant_of-result c = record {
       let few : flow < c.args.flows = omega (arith, l, c.in_ok-loads.ensures.len) in
       rw (zeros, c.in_ok-waiting.ensures.empty) (get_or-replicate c.args.flows flow 0 0 few));
   nears = λ flow n is. rw c.in_ok-waiting.ensures.empty refl;
+  since = rw c.in_ok-waiting.ensures.empty tt;
 }

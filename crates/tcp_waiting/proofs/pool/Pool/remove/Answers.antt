@@ -1,7 +1,9 @@
-use Rattle.std.proofs.Common.{◌≡◌, ◌<◌, ◌≤◌, ◌+◌, ◌/◌, length, arith, ap, List}
+use Rattle.std.proofs.Common.{◌≡◌, ℕ, ◌<◌, ◌≤◌, ◌+◌, ◌/◌, length, Some, arith, ap, List, inl, inr}
+use Rattle.std.proofs.lemmas.Bool.{cases_eq}
+use Rattle.std.proofs.lemmas.List.{nil_from_length}
 use Rattle.std.specs.List.{remove}
 use Rattle.tcp_waiting.specs.Layout.{IsSmall, held_in}
-use Rattle.tcp_waiting.specs.Payload.{blocks_of, load_of}
+use Rattle.tcp_waiting.specs.Payload.{Payload, blocks_of, load_of}
 use Rattle.tcp_waiting.proofs.Counts.{removed_loads, own_load}
 use Rattle.tcp_waiting.proofs.Ends.{far_remove}
 use Rattle.tcp_waiting.proofs.Held.{length_held, remove_held, all_remove}
@@ -94,6 +96,17 @@ invariant_of-self c =
           ));
       nears = λ flow n is. rw held (far_remove flow n.base n.number n.count before c.args.index
           (c.self.invariant.nears flow n is));
+      since = rw held (elim (cases_eq (length (remove before c.args.index)) 0) [
+        | inl e ↦ rw (nil_from_length (remove before c.args.index) e) tt
+        | inr ne ↦ rw (c.since_when-self-inside.ensures (omega (
+          arith,
+          ne,
+          c.len.ensures.items,
+          ap length held,
+          length_held a.octets.items c.remove.new.self.items,
+        ))) (all_remove (λ (p : Payload). (came : ℕ) → p.arrival.time ≡ Some came →
+            a.since ≤ came) before c.args.index c.self.invariant.since)
+      ]);
     }
 
 pub returns-clause-held : goal.returns-clause-held

@@ -1,0 +1,12 @@
+pub mod Streams
+pub mod Text
+pub mod Failures
+pub mod Hints
+pub mod Seen
+pub mod Steps
+pub mod Links
+pub mod Notices
+pub mod Packets
+pub mod Arrivals
+pub mod PacketState
+pub mod CaptureRun

@@ -1,2 +1,0 @@
-mod TellerLemmas
-mod Stopping

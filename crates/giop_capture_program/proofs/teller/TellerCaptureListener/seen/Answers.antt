@@ -1,5 +1,0 @@
--- What was seen is known for all events.
-use Rattle.giop_capture_program.proofs.teller.TellerCaptureListener.seen.Goals as goal
-
-pub returns : goal.returns
-returns g c = λ events h. h.2

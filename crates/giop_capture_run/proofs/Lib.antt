@@ -1,6 +1,0 @@
-mod Gapless
-mod Handing
-mod ReadingOn
-mod ShortPackets
-mod ShortSegments
-pub mod Arriving

@@ -1,9 +1,0 @@
--- The listener is told of the fault, and nothing else changes.
-use Rattle.tcp_connections.proofs.States.{told_capture}
-use Rattle.giop_capture_run.proofs.Arriving.{answered}
-use Rattle.giop_capture_run.proofs.packets.PacketReader.has_fault.Goals as goal
-
-pub returns-clause-does : goal.returns-clause-does
-returns-clause-does g c =
-    λ w h. answered _ _ c.heard.ensures (c.has_fault.ensures.does w.events h.observed)
-    (λ o. told_capture _ _ _ _ w _ h o)

@@ -1,0 +1,35 @@
+use Rattle.std.proofs.Common.{refl}
+use Rattle.giop_stream.proofs.SlotSteps.Performing.{does_nothing, performs_on}
+use Rattle.giop_stream.proofs.SlotSteps.Ending.{own_short, ends_short, ends_followed, ends_closed}
+use Rattle.giop_stream.proofs.SlotSteps.SlotLists.{room_then}
+use Rattle.giop_stream.proofs.dispatch.at_end.Goals as goal
+
+pub returns-then-is_short-clause-does : goal.returns-then-is_short-clause-does
+returns-then-is_short-clause-does g c =
+    λ l c' m h last.
+    let C = c.args.catalogue.now in
+    let keeps = rw (own_short c.args.catalogue.now l c.args.slots.now c' m c.args.now h
+    c.if-is_short.ensures last) at h.keeps in
+    rw (ends_short c.args.catalogue.now l c.args.slots.now c' m c.args.now h c.if-is_short.ensures)
+    (performs_on c.fault_message-faulted.result _ _ refl
+    (λ k. c.set_no_owner.ensures.kept C l _ _ k)
+    (c.fault_message-faulted.ensures.does C l c' _ keeps h.current.number h.rising))
+
+pub returns-then-is_short-clause-room : goal.returns-then-is_short-clause-room
+returns-then-is_short-clause-room g c =
+    room_then c.fault_message-faulted.ensures.room c.set_no_owner.ensures.room
+
+pub returns-then-is_followed-clause-does : goal.returns-then-is_followed-clause-does
+returns-then-is_followed-clause-does g c =
+    λ l c' m h last.
+    rw (ends_followed c.args.catalogue.now l c.args.slots.now c' m c.args.now h
+    c.if-is_short.ensures c.if-is_followed.ensures)
+    (does_nothing _ _ refl (c.set_no_owner-then-is_followed.ensures.kept c.args.catalogue.now l _ _
+    h.keeps))
+
+pub returns-clause-does : goal.returns-clause-does
+returns-clause-does g c =
+    λ l c' m h last.
+    rw (ends_closed c.args.catalogue.now l c.args.slots.now c' m c.args.now h c.if-is_short.ensures
+    c.if-is_followed.ensures last)
+    (c.close.ensures.does l c' _ h.keeps h.rising)

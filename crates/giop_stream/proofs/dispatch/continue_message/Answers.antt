@@ -1,0 +1,52 @@
+use Rattle.std.proofs.Common.{[], sym, ◌∙◌}
+use Rattle.giop_stream.proofs.SlotSteps.Performing.{no_faults, wrote_line, line_then, line_failed}
+use Rattle.giop_stream.proofs.SlotSteps.AtRequestId.{opener_slot}
+use Rattle.giop_stream.proofs.SlotSteps.Continuing.{in_order, out_of_order, goes_text, goes_faults, goes_first, orders}
+use Rattle.giop_stream.proofs.SlotSteps.SlotLists.{room_then}
+use Rattle.giop_stream.proofs.dispatch.continue_message.Goals as goal
+
+pub returns-in_err-continues_line-clause-does : goal.returns-in_err-continues_line-clause-does
+returns-in_err-continues_line-clause-does g c =
+    λ C l c' owner m o h f e here.
+    let number =
+    sym (opener_slot C l c.args.slots.now c' owner h.keeps c.args.k o _ here c.at-opener.ensures).0
+    in
+    line_failed c.from_residual.result _ _ _
+    (goes_first C l c.args.slots.now c' owner m c.args.now h o f e)
+    (goes_text C l c.args.slots.now c' owner m c.args.now h o _ number) c.from_residual.ensures.0
+    c.in_err-continues_line.ensures
+
+pub returns-then-same_order-clause-does : goal.returns-then-same_order-clause-does
+returns-then-same_order-clause-does g c =
+    λ C l c' owner m o h f e here.
+    let number =
+    sym (opener_slot C l c.args.slots.now c' owner h.keeps c.args.k o _ here c.at-opener.ensures).0
+    in
+    let header =
+    (opener_slot C l c.args.slots.now c' owner h.keeps c.args.k o _ here c.at-opener.ensures).1 in
+    let order = orders C l c.args.slots.now c' owner m c.args.now h o _ _ _ _ c.order_of.ensures
+    c.order_of-order.ensures header (sym c.if-same_order.ensures) in
+    rw (in_order C l c.args.slots.now c' owner m c.args.now h o f e order)
+    (wrote_line _ _ _ _ (goes_text C l c.args.slots.now c' owner m c.args.now h o _ number)
+    (goes_faults m o [] ∙ no_faults) c.in_ok-continues_line.ensures
+    (c.set_open_owner.ensures.kept C l c' _ o h.keeps here))
+
+pub returns-clause-does : goal.returns-clause-does
+returns-clause-does g c =
+    λ C l c' owner m o h f e here.
+    let number =
+    sym (opener_slot C l c.args.slots.now c' owner h.keeps c.args.k o _ here c.at-opener.ensures).0
+    in
+    let header =
+    (opener_slot C l c.args.slots.now c' owner h.keeps c.args.k o _ here c.at-opener.ensures).1 in
+    let order = orders C l c.args.slots.now c' owner m c.args.now h o _ _ _ _ c.order_of.ensures
+    c.order_of-order.ensures header (sym c.if-same_order.ensures) in
+    let passed = c.set_open_owner.ensures.kept C l c' _ o h.keeps here in
+    rw (out_of_order C l c.args.slots.now c' owner m c.args.now h o f e order)
+    (line_then c.fault_message.result _ _ _ _
+    (goes_text C l c.args.slots.now c' owner m c.args.now h o _ number)
+    (goes_faults m o _) c.in_ok-continues_line.ensures
+    (c.fault_message.ensures.does C l c' _ passed number h.rising))
+
+pub returns-clause-room : goal.returns-clause-room
+returns-clause-room g c = room_then c.set_open_owner.ensures.room c.fault_message.ensures.room

@@ -1,4 +1,0 @@
-pub mod Order
-pub mod Ranks
-pub mod Rooms
-pub mod Table

@@ -1,5 +1,0 @@
-//! Tests of the ranks of rooms, and of the places of their keys.
-#![tactic(auto)]
-
-#[cfg(test)]
-mod tests;

@@ -1,0 +1,4 @@
+pub mod Order
+pub mod Ranks
+pub mod Slots
+pub mod Table
