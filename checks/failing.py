@@ -21,7 +21,7 @@ EXAMPLES = TOP / "examples"
 CALLS = ("memory", "open", "read", "write", "sync", "rename", "late")
 
 CHECKPOINT = "checkpoint"
-THIRD_LAYOUT = 8  # of checkpoints with a signature file of version 3; of the others 2 may be gone on from too
+THIRD_LAYOUT = 9  # of checkpoints with a signature file of version 3; of the others 2 may be gone on from too
 SECONDS = 10
 
 

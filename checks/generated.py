@@ -1,6 +1,6 @@
 """Streams made by seeds from the examples, from messages with encapsulations, anys and numbers that have names, and from
 requests to objects whose keys have interfaces, by signature files that are made by seeds too: messages are taken in any order,
-and octets of them changed, left out, put in and repeated. Of each the program writes the text that the reference reads in the
+those of 1.1 in fragments too, and octets of them changed, left out, put in and repeated. Of each the program writes the text that the reference reads in the
 whole stream, and the same text however its reads are cut, and in parts, each gone on from where the one before it was saved;
 and a front of it when the stream ends early. It ends with status 0 or 1, its total line is right, and it makes as many requests
 for memory as ever. From a checkpoint that is changed so it goes on, or refuses it."""
@@ -27,7 +27,7 @@ from failing import CHECKPOINT, EXAMPLES, PROGRAM, SECONDS, Case, Differences, E
 from keyed import keyed
 from rows import FOLDER, TOUR, TOUR_TYPES, TOUR_WORDS
 
-from reference.encoding import ORDERS  # on the path by encapsulated
+from reference.encoding import FRAGMENT, HEADER, ORDERS, REPLY, REQUEST  # on the path by encapsulated
 from reference.signatures import Table, requests_of, table_of
 from reference.stream import MOST_OPEN, Known, dump
 
@@ -116,10 +116,27 @@ def changed(draw: random.Random, octets: bytes, sorts: Sequence[int] = range(6))
     return octets[:at]
 
 
+def in_fragments(draw: random.Random, message: bytes) -> List[bytes]:
+    """A Request or Reply of 1.1 and its Fragments, mostly cut where padding is as in the whole; another message as it is."""
+    if len(message) < HEADER or message[5] != 1 or message[7] not in (REQUEST, REPLY):
+        return [message]
+    payload = message[HEADER:]
+    cuts = sorted(
+        draw.randrange(len(payload) + 1) & draw.choice((-8, -8, -1)) for _ in range(draw.choice((1, 1, 2, 3)))
+    )
+    ends, made = [0, *cuts, len(payload)], []
+    for place, (start, end) in enumerate(zip(ends, ends[1:])):
+        flags, kind = message[6] & 1 | 2 * (place < len(cuts)), FRAGMENT if place else message[7]
+        size = (end - start).to_bytes(4, ORDERS[flags & 1])
+        made.append(message[:6] + bytes((flags, kind)) + size + payload[start:end])
+    return made[: len(made) - (draw.random() < 0.2)]  # the last one may be missing
+
+
 def stream_of(seed: int, known: List[Sort]) -> Case:
     draw = random.Random(seed)
     sort = draw.choice(known[: len(TYPES)] if draw.random() < 0.6 else known)
     made = [draw.choice(sort.messages) for _ in range(draw.choice((1, 2, 5, 20)))]
+    made = [part for message in made for part in (in_fragments(draw, message) if draw.random() < 0.5 else [message])]
     for _ in range(draw.choice((0, 1, 1, 2, 5))):
         place = draw.randrange(len(made))
         made[place] = changed(draw, made[place])

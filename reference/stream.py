@@ -91,6 +91,12 @@ class Message:
         # From which octet on the octets come together, and how many of the stream stand before them that aren't its own.
         self._parts = [(HEADER, end_of_header - HEADER)]
         self.is_over = False  # whether its lines are made
+        self.seams: List[int] = []  # at which of its octets the payloads of Fragments of 1.1 begin
+
+    def join(self, octets: bytes, begin: int) -> None:
+        """The payload of a Fragment of 1.1, which comes after so many octets of the stream."""
+        self.seams.append(len(self.octets))
+        self.add(octets, begin)
 
     def add(self, octets: bytes, begin: int) -> None:
         """Octets that come after so many of the stream."""
@@ -132,6 +138,8 @@ class Dump:
         self._known = known
         self._unfinished: List[int] = []
         self._open: Dict[int, Message] = {}
+        self._pending: Optional[Message] = None  # the one of 1.1, which is open without an id
+        self._is_mixed = False  # whether nobody can tell whose the Fragments of 1.1 are
         self.lines: List[Tuple[int, int, str]] = []
         self.closing: List[str] = []
         self.begun: List[int] = []  # with which octet each message's first header is complete
@@ -155,7 +163,7 @@ class Dump:
             else:
                 stop = self._message(place)
                 place += HEADER + size_of(header)
-        for message in self._open.values():
+        for message in [*self._open.values(), *([self._pending] if self._pending else [])]:
             self._read(message, None)
         if stop:
             word, self.octets = stop
@@ -192,7 +200,12 @@ class Dump:
         if kind >= len(KINDS) or kind == FRAGMENT and minor == 0:
             self._fault(header.number, "message-type", begin)
         elif minor == 1 and (kind == FRAGMENT or header.more and kind in MAY_HAVE_FRAGMENTS):
-            self._fault(header.number, "fragment-1.1", begin)
+            if self._known.table.version < 3 or kind in (LOCATE_REQUEST, LOCATE_REPLY):
+                self._fault(header.number, "fragment-1.1", begin)
+            elif kind == FRAGMENT:
+                self._old_fragment(header, payload, begin, closed)
+            else:
+                self._old_first(header, payload, begin)
         elif kind == FRAGMENT:
             self._fragment(header, payload, begin, closed)
         else:
@@ -211,20 +224,69 @@ class Dump:
             self._read(message, closed)
         elif not has_id:
             self._read(message, closed)
-        elif request_id in self._open or len(self._open) >= self._known.most:
+        elif request_id in self._open or self._open_count() >= self._known.most:
             word = "id-open" if request_id in self._open else "too-many-open"
             self._say(begin + 4, VALUE, f"m{header.number} header.request_id ulong {request_id}")
             self._fault(header.number, word, begin + 4)
         else:
             self._open[request_id] = message
 
+    def _open_count(self) -> int:
+        return len(self._open) + (self._pending is not None)
+
+    def _old_first(self, header: Header, payload: bytes, begin: int) -> None:
+        """A Request or Reply of 1.1 that Fragments continue."""
+        if self._is_mixed or self._pending:
+            self._is_mixed = True
+            self._fault(header.number, "fragment-1.1", begin)
+        elif self._open_count() >= self._known.most:
+            self._is_mixed = True
+            self._fault(header.number, "too-many-open", begin)
+        else:
+            self._pending = Message(header, begin)
+            self._pending.add(payload, begin)
+
+    def _old_fragment(self, header: Header, payload: bytes, begin: int, closed: Optional[int]) -> None:
+        """A Fragment of 1.1."""
+        message = self._pending
+        if self._is_mixed or message is None:
+            self._fault(header.number, "fragment-1.1" if self._is_mixed else "no-open", begin)
+            return
+        self._say(begin, CONTINUES, f"m{header.number} continues m{message.header.number}")
+        if message.header.order != header.order:
+            if self._goes_on(message):
+                self._fault(message.header.number, "fragment-order", begin)
+        else:
+            message.join(payload, begin)
+        if closed is not None and not header.more:
+            self._pending = None
+            self._read(message, closed)
+
     def _cancel(self, header: Header, request_id: int, place: int) -> None:
         """Takes an open message that is cancelled from those that are open."""
         message = self._open.get(request_id)
-        if message is None or message.header.kind not in (REQUEST, LOCATE_REQUEST):
+        if message is None:
+            self._cancel_pending(header, request_id, place)
+        elif message.header.kind in (REQUEST, LOCATE_REQUEST):
+            del self._open[request_id]
+            if self._goes_on(message):
+                self._say(place, CANCELLED, f"m{message.header.number} cancelled by m{header.number}")
+
+    def _cancel_pending(self, header: Header, request_id: int, place: int) -> None:
+        """The same for the message of 1.1, if its header has given this id, and it isn't over."""
+        message = self._pending
+        if self._is_mixed or message is None or message.is_over or message.header.kind != REQUEST:
             return
-        del self._open[request_id]
-        if self._goes_on(message):
+        reading = Reading(message, self._known, None)
+        try:
+            reading.read()
+        except Fault:
+            return
+        except Over:
+            pass
+        if f"m{message.header.number} header.request_id ulong {request_id}" in [line for _, _, line in reading.lines]:
+            self._pending = None
+            self._goes_on(message)
             self._say(place, CANCELLED, f"m{message.header.number} cancelled by m{header.number}")
 
     def _fragment(self, header: Header, payload: bytes, begin: int, closed: Optional[int]) -> None:
@@ -291,7 +353,7 @@ class Reading:
         self._known = known
         self._closed = closed
         narrow, naming = message.header.minor < 2, known.table.version == 3
-        self._reader = Reader(bytes(message.octets), message.header.order, narrow, naming, self._tell)
+        self._reader = Reader(bytes(message.octets), message.header.order, narrow, naming, self._tell, message.seams)
         self.lines: List[Tuple[int, int, str]] = []
         self.header_ends: List[HeaderEnd] = []
         self.raised: List[Raised] = []

@@ -47,9 +47,16 @@ class Reader:
     room; numbers that have names are told with them if it is `naming`."""
 
     def __init__(
-        self, octets: bytes, order: Order, narrow: bool, naming: bool, tell: Callable[[int, str], None]
+        self,
+        octets: bytes,
+        order: Order,
+        narrow: bool,
+        naming: bool,
+        tell: Callable[[int, str], None],
+        seams: Sequence[int] = (),
     ) -> None:
         self.octets = octets
+        self._seams = seams  # at which octets the payloads of Fragments of 1.1 begin
         self.order = order
         self.narrow = narrow
         self.naming = naming
@@ -67,9 +74,18 @@ class Reader:
             raise Over
         return end <= len(self.octets)
 
+    def _aligned(self, at: int) -> int:
+        """What alignment counts an octet by: by the innermost encapsulation; else by the Fragment of 1.1 that it came in,
+        whose header has 12 octets; else by the joined message."""
+        if self._aligned_from:
+            return at - self._aligned_from
+        return 12 + at - max((seam for seam in self._seams if seam <= at), default=12)
+
     def take(self, count: int, size: int = 1) -> bytes:
         """So many octets, the first at a multiple of size."""
-        begin = self.at + -(self.at - self._aligned_from) % size
+        begin = self.at
+        while self._aligned(begin) % size:
+            begin += 1
         if not self.reaches(begin + count):
             raise Over
         self.at = begin + count

@@ -71,6 +71,7 @@ fn fixed_of(most_open: u32, octets: u64, faults: u64, place: NextOctet) -> Fixed
         faults,
         place,
         owner: None,
+        is_mixed: false,
     }
 }
 
@@ -137,17 +138,42 @@ fn with_a_file_of_version_3_the_layout_is_the_latest(rt: HostRuntime) -> Result<
         let octets = octets_of(third)?;
         assert!(rt; fixed_part(&octets, counts).is_err_and(|why| why == LoadFault::Version));
         let mut latest = octets;
-        latest[11] = 7;
-        assert!(rt; fixed_part(&latest, counts).is_err_and(|why| why == LoadFault::Version));
         latest[11] = 8;
+        assert!(rt; fixed_part(&latest, counts).is_err_and(|why| why == LoadFault::Version));
+        latest[11] = 9;
         assert!(rt; fixed_part(&latest, BUILT_IN).is_err_and(|why| why == LoadFault::Version));
         let Ok((fixed, _)) = fixed_part(&latest, counts) else {
-            return Err(Fail::from("layout 8 is read"));
+            return Err(Fail::from("layout 9 is read"));
         };
         let mut out: ArrayVec<u8, 96> = ArrayVec::new();
         fixed.write(&mut out);
         assert!(rt; out.as_slice() == latest.as_slice(), "{third}");
     }
+    Ok(())
+}
+
+#[test]
+fn a_mixed_stream_is_told_in_the_latest_layout(rt: HostRuntime) -> Result<(), Fail> {
+    let counts = Counts {
+        version: 3,
+        ..BUILT_IN
+    };
+    let mixed = Fixed {
+        counts,
+        is_mixed: true,
+        ..fixed_of(16, 5, 0, NextOctet::Header(header_of(b"GIOP\x01")))
+    };
+    let mut out: ArrayVec<u8, 96> = ArrayVec::new();
+    mixed.write(&mut out);
+    let mut octets = octets_of(IN_HEADER)?;
+    octets[11] = 9;
+    octets[88] = 1;
+    assert!(rt; out.as_slice() == octets.as_slice());
+    assert!(rt; fixed_part(&octets, counts).is_ok_and(|(fixed, _)| fixed.is_mixed));
+    octets[88] = 0;
+    assert!(rt; fixed_part(&octets, counts).is_ok_and(|(fixed, _)| !fixed.is_mixed));
+    octets[88] = 2;
+    assert!(rt; fixed_part(&octets, counts).is_err_and(|why| why == LoadFault::State));
     Ok(())
 }
 

@@ -30,7 +30,7 @@ pub not_end : (into : List ℕ) (n before after : ℕ) → 0 < n
     → after ≡ before
 not_end into n before after some is = is ∙ rw (ne_eqb n 0 (λ none. omega arith)) refl
 
--- if a read gave none though there was room, the source is at its end
+-- if a read gave none though there was slot, the source is at its end
 pub is_end : (into : List ℕ) (n before after : ℕ) → n ≡ 0 → 0 < length into
     → after ≡ (if n == 0 && nat_lt 0 (length into) then counted before else before)
     → after ≡ counted before

@@ -198,6 +198,8 @@ impl<'a, O: Flush + Drop, B: Beginning> CaptureListener for Teller<'a, O, B> {
         }
     }
 
+    /// Writes the last line, and flushes. Returns whether a fault was counted, a stream was cut, or
+    /// the capture has a fault.
     fn finish(&mut self, packets: u64, octets: u64) -> Result<bool, ListenerError> {
         let Ok(is_faulty) = self.conversations.finish(packets, octets) else {
             return Err(ListenerError);

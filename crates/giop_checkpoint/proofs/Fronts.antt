@@ -1,11 +1,11 @@
 -- Octets that begin with the fixed part pass its checks.
-use Rattle.std.proofs.Common.{◌≡◌, true, false, IsTrue, ℕ, List, Option, ◌++◌, length, take, drop, replicate, refl, ap, ◌∙◌, append_assoc, arith}
+use Rattle.std.proofs.Common.{◌≡◌, Bool, true, false, IsTrue, ℕ, List, Option, ◌∷◌, ◌++◌, length, take, drop, replicate, refl, ap, ◌∙◌, append_assoc, arith}
 use Rattle.std.proofs.lemmas.List.{length-append, take_at}
 use Rattle.giop_octets.specs.Fields.{four, eight}
 use Rattle.giop_octets.proofs.FieldLaws.{four_long, eight_long, behind}
 use Rattle.giop_checkpoint.specs.declared.layout.Layout.{Layout}
 use Rattle.giop_checkpoint.specs.declared.layout.Layout.TheVariants.{Second, Third, Latest}
-use Rattle.giop_checkpoint.specs.Layouts.{version_of, reads, number_or, owner_octet, limit_octets}
+use Rattle.giop_checkpoint.specs.Layouts.{version_of, reads, number_or, owner_octet, mixed_octet, limit_octets}
 use Rattle.giop_checkpoint.specs.declared.fixed.Counts.{Counts}
 use Rattle.giop_checkpoint.specs.declared.fixed.Fixed.{Fixed}
 use Rattle.giop_checkpoint.specs.Fixed.{HasRange, magic, counts_octets, place_octets, state_octets, fixed_octets}
@@ -42,24 +42,25 @@ counts_long c =
       four_long c.ids,
     )
 
-later_long : (n : ℕ) (owner : Option ℕ) → length (limit_octets Third n owner) ≡ 16
-later_long n owner =
-    let zeros : List ℕ = replicate 8 0 in
-    let zeros_long : length zeros ≡ 8 = refl in
+later_long : (n : ℕ) (owner : Option ℕ) (mixed : ℕ) →
+    length (four n ++ four (number_or 4294967295 owner) ++ mixed ∷ replicate 7 0) ≡ 16
+later_long n owner mixed =
+    let rest : List ℕ = mixed ∷ replicate 7 0 in
+    let rest_long : length rest ≡ 8 = refl in
     omega (
       arith,
-      length-append (four n ++ four (number_or 4294967295 owner)) zeros,
+      length-append (four n ++ four (number_or 4294967295 owner)) rest,
       length-append (four n) (four (number_or 4294967295 owner)),
       four_long n,
       four_long (number_or 4294967295 owner),
-      zeros_long,
+      rest_long,
     )
 
-limits_long : (layout : Layout) (n : ℕ) (owner : Option ℕ) →
-    length (limit_octets layout n owner) ≡ 16
-limits_long Second n owner = refl
-limits_long Third n owner = later_long n owner
-limits_long Latest n owner = later_long n owner
+limits_long : (layout : Layout) (n : ℕ) (owner : Option ℕ) (is_mixed : Bool) →
+    length (limit_octets layout n owner is_mixed) ≡ 16
+limits_long Second n owner is_mixed = refl
+limits_long Third n owner is_mixed = later_long n owner 0
+limits_long Latest n owner is_mixed = later_long n owner (mixed_octet Latest is_mixed)
 
 pub state_long : (layout : Layout) (f : Fixed) → HasRange layout f →
     length (state_octets layout f) ≡ 68
@@ -71,7 +72,7 @@ state_long layout f h =
     let e = eight f.faults in
     let owner = owner_octet layout f.owner in
     let p = place_octets f.place owner in
-    let l = limit_octets layout f.most_open f.owner in
+    let l = limit_octets layout f.most_open f.owner f.is_mixed in
     omega (
       arith,
       length-append (a ++ b ++ d ++ e ++ p) l,
@@ -84,7 +85,7 @@ state_long layout f h =
       eight_long f.messages,
       eight_long f.faults,
       place_long f.place owner h.place,
-      limits_long layout f.most_open f.owner,
+      limits_long layout f.most_open f.owner f.is_mixed,
     )
 
 five : (a b c d e : List ℕ) → a ++ b ++ c ++ d ++ e ≡ a ++ (b ++ (c ++ (d ++ e)))

@@ -6,7 +6,7 @@ use Rattle.giop_octets.proofs.FieldLaws.{four_long, eight_long, behind}
 use Rattle.giop_checkpoint.specs.declared.record.Record.{Record}
 use Rattle.giop_checkpoint.specs.declared.sizes.TheConstants.{FRAME_SIZE}
 use Rattle.giop_checkpoint.specs.declared.record.RecordKind.{RecordKind}
-use Rattle.giop_checkpoint.specs.declared.record.RecordKind.TheVariants.{Current, Open, Over}
+use Rattle.giop_checkpoint.specs.declared.record.RecordKind.TheVariants.{Current, Open, Over, OpenWithoutId, OverWithoutId}
 use Rattle.giop_checkpoint.specs.Records.{Entry, EntryHasRange, RecordHasRange, RecordKindHasRange, record_kind_octet, id_of, kind_octets, own_octets, entry_octets}
 
 five : (a b c d e : List ℕ) → a ++ b ++ c ++ d ++ e ≡ a ++ (b ++ (c ++ (d ++ e)))
@@ -76,6 +76,8 @@ pub id_small : (s : RecordKind) → RecordKindHasRange s → id_of s < 2 ^ 32
 id_small Current h = omega arith
 id_small (Open id) h = h
 id_small (Over id) h = h
+id_small OpenWithoutId h = omega arith
+id_small OverWithoutId h = omega arith
 
 pub record_same : (r : Record) (s : Record) → r.frames ≡ s.frames → r.record_kind ≡ s.record_kind →
     r.number ≡ s.number → r.header ≡ s.header → r ≡ s

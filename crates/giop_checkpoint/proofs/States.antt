@@ -1,6 +1,6 @@
 -- At which offsets the fields after the counts are in their octets, and that these octets determine
 -- the fixed part.
-use Rattle.std.proofs.Common.{◌≡◌, ℕ, ◌^◌, ◌<◌, ◌≤◌, List, ◌∷◌, ◌++◌, drop, replicate, Option, Some, None, refl, sym, ap, ◌∙◌, append_assoc, arith}
+use Rattle.std.proofs.Common.{◌≡◌, ◌==◌, ℕ, ◌^◌, ◌<◌, ◌≤◌, Bool, true, false, List, ◌∷◌, ◌++◌, drop, replicate, Option, Some, None, refl, sym, ap, ◌∙◌, append_assoc, arith}
 use Rattle.std.proofs.lemmas.List.{drop-drop}
 use Rattle.giop_octets.specs.Fields.{four, eight}
 use Rattle.giop_octets.proofs.FieldLaws.{four_long, eight_long, behind}
@@ -8,7 +8,7 @@ use Rattle.giop_checkpoint.specs.declared.fixed.Counts.{Counts}
 use Rattle.giop_checkpoint.specs.declared.fixed.Fixed.{Fixed}
 use Rattle.giop_checkpoint.specs.declared.fixed.NextOctet.{NextOctet}
 use Rattle.giop_checkpoint.specs.Fixed.{HasRange, place_octets, state_octets}
-use Rattle.giop_checkpoint.specs.Layouts.{OpenHasRange, IsAmong, number_or, owner_octet, limit_octets}
+use Rattle.giop_checkpoint.specs.Layouts.{OpenHasRange, IsAmong, MixedFits, number_or, owner_octet, mixed_octet, limit_octets}
 use Rattle.giop_checkpoint.specs.declared.layout.Layout.{Layout}
 use Rattle.giop_checkpoint.specs.declared.layout.Layout.TheVariants.{Second, Third, Latest}
 use Rattle.giop_checkpoint.proofs.Places.{parts_of, place_long}
@@ -25,14 +25,14 @@ pub record Fields (layout : Layout) (f : Fixed) (octets : List ℕ) : Type 0 whe
   pub faults : drop 20 octets ≡ eight f.faults ++ drop 28 octets
   pub place : drop 28 octets ≡ place_octets f.place (owner_octet layout f.owner) ++ drop 52 octets
   pub owner_is : drop 31 octets ≡ owner_octet layout f.owner ∷ drop 4 (drop 28 octets)
-  pub limits : drop 52 octets ≡ limit_octets layout f.most_open f.owner
+  pub limits : drop 52 octets ≡ limit_octets layout f.most_open f.owner f.is_mixed
 
 pub fields_of : (layout : Layout) (f : Fixed) (octets : List ℕ) → HasRange layout f →
     octets ≡ state_octets layout f → Fields layout f octets
 unfolding state_octets
 fields_of layout f octets h e =
     let place = place_octets f.place (owner_octet layout f.owner) in
-    let limits = limit_octets layout f.most_open f.owner in
+    let limits = limit_octets layout f.most_open f.owner f.is_mixed in
     let whole : drop 0 octets ≡ four f.records
     ++ (eight f.octets ++ (eight f.messages ++ (eight f.faults ++ (place ++ limits)))) =
     e ∙ six (four f.records) (eight f.octets) (eight f.messages) (eight f.faults) place limits in
@@ -68,12 +68,38 @@ among_more records most (Some k) few h = omega (arith, few, h)
 
 -- ---- the fields after the place, which layout 3 introduced
 
-pub number_is : (n : ℕ) (owner : Option ℕ) (s : List ℕ) → s ≡ limit_octets Third n owner →
-    drop 4 s ≡ four (number_or 4294967295 owner) ++ replicate 8 0
-number_is n owner s e =
-    behind 0 4 s (four n) (four (number_or 4294967295 owner) ++ replicate 8 0)
-    (e ∙ append_assoc (four n) (four (number_or 4294967295 owner)) (replicate 8 0))
+abbrev mixed_zeros : ℕ → List ℕ
+mixed_zeros mixed = mixed ∷ replicate 7 0
+
+pub number_is : (n : ℕ) (owner : Option ℕ) (mixed : ℕ) (s : List ℕ) →
+    s ≡ four n ++ four (number_or 4294967295 owner) ++ mixed ∷ replicate 7 0 →
+    drop 4 s ≡ four (number_or 4294967295 owner) ++ mixed ∷ replicate 7 0
+number_is n owner mixed s e =
+    behind 0 4 s (four n) (four (number_or 4294967295 owner) ++ mixed_zeros mixed)
+    (e ∙ append_assoc (four n) (four (number_or 4294967295 owner)) (mixed_zeros mixed))
     (four_long n)
+
+-- the octet that tells whether messages of GIOP 1.1 are mixed, which the latest layout introduced
+mixed_after : (n : ℕ) (owner : Option ℕ) (mixed : ℕ) (s : List ℕ) →
+    s ≡ four n ++ four (number_or 4294967295 owner) ++ mixed ∷ replicate 7 0 →
+    drop 8 s ≡ mixed ∷ replicate 7 0
+mixed_after n owner mixed s e =
+    behind 4 4 s (four (number_or 4294967295 owner)) (mixed_zeros mixed)
+    (number_is n owner mixed s e) (four_long (number_or 4294967295 owner))
+
+pub mixed_is : (layout : Layout) (n : ℕ) (owner : Option ℕ) (is_mixed : Bool) (s : List ℕ) →
+    s ≡ limit_octets layout n owner is_mixed →
+    drop 8 s ≡ mixed_octet layout is_mixed ∷ replicate 7 0
+mixed_is Second n owner is_mixed s e = ap (drop 8) e
+mixed_is Third n owner is_mixed s e = mixed_after n owner 0 s e
+mixed_is Latest n owner is_mixed s e = mixed_after n owner (mixed_octet Latest is_mixed) s e
+
+pub mixed_told : (layout : Layout) (is_mixed : Bool) → MixedFits layout is_mixed →
+    (mixed_octet layout is_mixed == 1) ≡ is_mixed
+mixed_told Second is_mixed fits = rw fits refl
+mixed_told Third is_mixed fits = rw fits refl
+mixed_told Latest true fits = refl
+mixed_told Latest false fits = refl
 
 pub number_small : (most : ℕ) (owner : Option ℕ) → most ≤ 4097 → IsAmong most owner →
     number_or 4294967295 owner < 2 ^ 32
@@ -83,10 +109,10 @@ number_small most (Some k) few h = omega (arith, few, h)
 -- ---- all fields after the counts
 
 pub fixed_is : (f : Fixed) (counts : Counts) (most_open records octets messages faults : ℕ)
-    (place : NextOctet) (owner : Option ℕ)
+    (place : NextOctet) (owner : Option ℕ) (is_mixed : Bool)
     → counts ≡ f.counts → most_open ≡ f.most_open → records ≡ f.records → octets ≡ f.octets →
     messages ≡ f.messages → faults ≡ f.faults → place ≡ f.place
-    → owner ≡ f.owner
+    → owner ≡ f.owner → is_mixed ≡ f.is_mixed
     → record {
       counts = counts;
       most_open = most_open;
@@ -96,9 +122,11 @@ pub fixed_is : (f : Fixed) (counts : Counts) (most_open records octets messages 
       faults = faults;
       place = place;
       owner = owner;
+      is_mixed = is_mixed;
     } ≡ f
-fixed_is f counts most_open records octets messages faults place owner a m b c d e g h =
-    rw a (rw m (rw b (rw c (rw d (rw e (rw g (rw h refl)))))))
+fixed_is f counts most_open records octets messages faults place owner is_mixed
+    a m b c d e g h k =
+    rw a (rw m (rw b (rw c (rw d (rw e (rw g (rw h (rw k refl))))))))
 
 pub value_of : {A : Type 0} (r : Option A) (x y : A) → r ≡ Some y → r ≡ Some x → x ≡ y
 value_of r x y p q = cc

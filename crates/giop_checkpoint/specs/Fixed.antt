@@ -1,7 +1,7 @@
 -- The fixed part of a checkpoint, octet for octet (docs/FORMATS.md, Checkpoints; state).
 use Rattle.std.specs.Prelude.{◌≡◌, ℕ, ◌+◌, ◌-◌, ◌^◌, ◌<◌, ◌≤◌, List, [], ◌∷◌, ◌++◌, length, replicate, codes}
 use Rattle.giop_octets.specs.Fields.{four, eight}
-use Rattle.giop_checkpoint.specs.Layouts.{version_of, OpenHasRange, IsAmong, owner_octet, limit_octets}
+use Rattle.giop_checkpoint.specs.Layouts.{version_of, OpenHasRange, IsAmong, MixedFits, owner_octet, limit_octets}
 use Rattle.giop_checkpoint.specs.declared.layout.Layout.{Layout}
 use Rattle.giop_checkpoint.specs.declared.fault.StreamFault.{StreamFault}
 use Rattle.giop_checkpoint.specs.declared.fault.StreamFault.TheVariants as faults
@@ -26,6 +26,7 @@ pub record HasRange (layout : Layout) (f : Fixed) : Type 0 where
   pub faults : f.faults ≤ 2 ^ 45 + 1
   pub place : PlaceHasRange f.place
   pub owner : IsAmong f.records f.owner
+  pub mixed : MixedFits layout f.is_mixed
 
 -- ---- layout
 
@@ -82,7 +83,8 @@ left_in (Stopped fault) = 0
 unfoldable pub state_octets : Layout → Fixed → List ℕ
 state_octets layout f =
     four f.records ++ eight f.octets ++ eight f.messages ++ eight f.faults
-    ++ place_octets f.place (owner_octet layout f.owner) ++ limit_octets layout f.most_open f.owner
+    ++ place_octets f.place (owner_octet layout f.owner)
+    ++ limit_octets layout f.most_open f.owner f.is_mixed
 
 unfoldable pub fixed_octets : Layout → Fixed → List ℕ
 fixed_octets layout f =

@@ -1,5 +1,5 @@
 -- In which fields the layouts of a checkpoint differ (docs/FORMATS.md, Checkpoints; state).
-use Rattle.std.specs.Prelude.{◌≡◌, ℕ, ◌<◌, ◌≤◌, Bool, List, ◌++◌, replicate, Option, Some, None, nat_le, nat_lt, if◌then◌else◌}
+use Rattle.std.specs.Prelude.{◌≡◌, ℕ, ◌<◌, ◌≤◌, Bool, true, false, List, ◌∷◌, ◌++◌, replicate, Option, Some, None, nat_le, nat_lt, if◌then◌else◌}
 use Rattle.giop_octets.specs.Fields.{four}
 use Rattle.giop_checkpoint.specs.declared.sizes.TheConstants.{MOST_OPEN, LAYOUT_2_MOST_OPEN}
 use Rattle.giop_checkpoint.specs.declared.layout.Layout.{Layout}
@@ -8,7 +8,7 @@ use Rattle.giop_checkpoint.specs.declared.layout.Layout.TheVariants.{Second, Thi
 abbrev pub version_of : Layout → ℕ
 version_of Second = 2
 version_of Third = 3
-version_of Latest = 8
+version_of Latest = 9
 
 -- ---- the layout is chosen by the version of the signature file of a stream, 1 if there is none
 
@@ -39,6 +39,11 @@ abbrev pub OwnerFits : Layout → Option ℕ → Type 0
 OwnerFits Second owner = IsAmong 255 owner
 OwnerFits layout owner = Unit {0}
 
+-- messages of GIOP 1.1 are mixed in the latest layout only
+abbrev pub MixedFits : Layout → Bool → Type 0
+MixedFits Latest is_mixed = Unit {0}
+MixedFits layout is_mixed = is_mixed ≡ false
+
 -- ---- octets
 
 -- the number of the payload's record, or `nobody` if there is none
@@ -51,8 +56,14 @@ abbrev pub owner_octet : Layout → Option ℕ → ℕ
 owner_octet Second owner = number_or 255 owner
 owner_octet layout owner = 0
 
--- the octets after the place, in layout 3 and later: how many messages may be open at once, and the
--- payload's record
-abbrev pub limit_octets : Layout → ℕ → Option ℕ → List ℕ
-limit_octets Second n owner = replicate 16 0
-limit_octets layout n owner = four n ++ four (number_or 4294967295 owner) ++ replicate 8 0
+-- the octet that tells in the latest layout whether messages of GIOP 1.1 are mixed
+abbrev pub mixed_octet : Layout → Bool → ℕ
+mixed_octet Latest true = 1
+mixed_octet layout is_mixed = 0
+
+-- the octets after the place, in layout 3 and later: how many messages may be open at once, the
+-- payload's record, and whether messages of GIOP 1.1 are mixed
+abbrev pub limit_octets : Layout → ℕ → Option ℕ → Bool → List ℕ
+limit_octets Second n owner is_mixed = replicate 16 0
+limit_octets layout n owner is_mixed =
+    four n ++ four (number_or 4294967295 owner) ++ mixed_octet layout is_mixed ∷ replicate 7 0

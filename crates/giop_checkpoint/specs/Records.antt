@@ -4,7 +4,7 @@ use Rattle.giop_octets.specs.Fields.{four, eight}
 use Rattle.giop_checkpoint.specs.declared.sizes.TheConstants.{RECORD_SIZE, MESSAGE_SIZE, FRAME_SIZE, MOST_FRAMES}
 use Rattle.giop_checkpoint.specs.declared.record.Record.{Record}
 use Rattle.giop_checkpoint.specs.declared.record.RecordKind.{RecordKind}
-use Rattle.giop_checkpoint.specs.declared.record.RecordKind.TheVariants.{Current, Open, Over}
+use Rattle.giop_checkpoint.specs.declared.record.RecordKind.TheVariants.{Current, Open, Over, OpenWithoutId, OverWithoutId}
 
 -- ---- ranges
 
@@ -12,6 +12,8 @@ abbrev pub RecordKindHasRange : RecordKind → Type 0
 RecordKindHasRange Current = Unit {0}
 RecordKindHasRange (Open id) = id < 2 ^ 32
 RecordKindHasRange (Over id) = id < 2 ^ 32
+RecordKindHasRange OpenWithoutId = Unit {0}
+RecordKindHasRange OverWithoutId = Unit {0}
 
 -- the ranges that the types of the code give the fields of each record
 pub record IsTyped (r : Record) : Type 0 where
@@ -29,11 +31,15 @@ abbrev pub record_kind_octet : RecordKind → ℕ
 record_kind_octet Current = 0
 record_kind_octet (Open id) = 1
 record_kind_octet (Over id) = 2
+record_kind_octet OpenWithoutId = 3
+record_kind_octet OverWithoutId = 4
 
 abbrev pub id_of : RecordKind → ℕ
 id_of Current = 0
 id_of (Open id) = id
 id_of (Over id) = id
+id_of OpenWithoutId = 0
+id_of OverWithoutId = 0
 
 -- the first two octets: how many frames the record has, and its kind
 unfoldable pub kind_octets : Record → List ℕ

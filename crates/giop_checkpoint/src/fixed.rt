@@ -51,6 +51,8 @@ pub struct Fixed {
     pub place: NextOctet,
     /// The record of the message to which the payload belongs, counted from 0.
     pub owner: Option<u32>,
+    /// Whether messages of GIOP 1.1 are mixed; false with a signature file below version 3.
+    pub is_mixed: bool,
 }
 
 impl Fixed {
@@ -80,7 +82,7 @@ impl Fixed {
         put_eight(out, self.messages);
         put_eight(out, self.faults);
         self.place.write(layout.owner_octet(self.owner), out);
-        layout.write_limits(self.most_open, self.owner, out);
+        layout.write_limits(self.most_open, self.owner, self.is_mixed, out);
     }
 }
 

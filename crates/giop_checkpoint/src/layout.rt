@@ -3,13 +3,13 @@
 ghost use Rattle.std.specs.Prelude.{◌≡◌, ◌↔◌, ◌+◌, ◌≤◌, ◌++◌, ℕ, true, Option, Some, IsTrue};
 ghost use Rattle.arrayvec.specs.ArrayVec.{array_vec_len};
 ghost use Rattle.giop_octets.specs.Fields.{four};
-ghost use Rattle.giop_checkpoint.specs.Layouts.{OpenHasRange, OwnerFits, version_of, layout_of, reads, owner_octet, limit_octets};
+ghost use Rattle.giop_checkpoint.specs.Layouts.{OpenHasRange, OwnerFits, MixedFits, version_of, layout_of, reads, owner_octet, mixed_octet, limit_octets};
 ghost use Rattle.giop_checkpoint.specs.declared.layout.Layout.{Layout as LayoutOf};
 
 use crate::sizes::{LAYOUT_2_MOST_OPEN, MOST_OPEN};
 use crate::state::same;
 use arrayvec::ArrayVec;
-use giop_octets::{put_four, put_zeros};
+use giop_octets::{put_four, put_octets, put_zeros};
 
 /// How the octets of a checkpoint are arranged. All layouts are read; the third and the latest are
 /// written.
@@ -19,9 +19,10 @@ pub enum Layout {
     Second = 2,
     /// The layout stores how many messages may be open at once.
     Third = 3,
-    /// The same layout as the third, for a stream that is read with a signature file of version 3.
-    /// Its version goes up if such files gain types, or if the numbers of their types change.
-    Latest = 8,
+    /// The layout for a stream that is read with a signature file of version 3. It is the third, and
+    /// stores also whether messages of GIOP 1.1 are mixed. Its version goes up if such files gain
+    /// types, or if the numbers of their types change.
+    Latest = 9,
 }
 
 impl Layout {
@@ -33,7 +34,7 @@ impl Layout {
         match self {
             Layout::Second => [0, 0, 0, 2],
             Layout::Third => [0, 0, 0, 3],
-            Layout::Latest => [0, 0, 0, 8],
+            Layout::Latest => [0, 0, 0, 9],
         }
     }
 
@@ -114,15 +115,38 @@ impl Layout {
         }
     }
 
+    /// Whether messages of GIOP 1.1 may be mixed in this layout, if they are.
+    pub(crate) fn allows_mixed(self, is_mixed: bool) -> bool
+        ensures { IsTrue result ↔ MixedFits self is_mixed }
+    {
+        match self {
+            Layout::Second | Layout::Third => !is_mixed,
+            Layout::Latest => true,
+        }
+    }
+
+    /// The octet that tells whether messages of GIOP 1.1 are mixed. It is zero before the latest
+    /// layout.
+    fn mixed_octet(self, is_mixed: bool) -> u8
+        ensures { result ≡ mixed_octet self is_mixed }
+    {
+        match self {
+            Layout::Second | Layout::Third => 0,
+            Layout::Latest => u8::from(is_mixed),
+        }
+    }
+
     /// Writes the fields after the place.
     pub(crate) fn write_limits<const N: usize>(
         self,
         most_open: u32,
         owner: Option<u32>,
+        is_mixed: bool,
         out: &mut ArrayVec<u8, N>,
     )
         requires room { array_vec_len out.old + 16 ≤ N }
-        ensures put { out.new.items ≡ out.old.items ++ limit_octets self most_open owner }
+        ensures put { out.new.items
+            ≡ out.old.items ++ limit_octets self most_open owner is_mixed }
         ensures len { array_vec_len out.new ≡ array_vec_len out.old + 16 }
     {
         match self {
@@ -130,7 +154,8 @@ impl Layout {
             Layout::Third | Layout::Latest => {
                 put_four(out, most_open);
                 put_four(out, owner.unwrap_or(4_294_967_295));
-                put_zeros(out, 8);
+                put_octets(out, &[self.mixed_octet(is_mixed)]);
+                put_zeros(out, 7);
             }
         }
     }

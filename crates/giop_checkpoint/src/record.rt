@@ -22,6 +22,10 @@ pub enum RecordKind {
     Open(u32),
     /// The message is open under this request id, and over.
     Over(u32),
+    /// The message is of GIOP 1.1 and open, without a request id.
+    OpenWithoutId,
+    /// The message is of GIOP 1.1 and open, without a request id, and over.
+    OverWithoutId,
 }
 
 /// A record's own octets.
@@ -44,15 +48,17 @@ impl RecordKind {
             RecordKind::Current => 0,
             RecordKind::Open(_) => 1,
             RecordKind::Over(_) => 2,
+            RecordKind::OpenWithoutId => 3,
+            RecordKind::OverWithoutId => 4,
         }
     }
 
-    /// The request id, or 0 if the message isn't open.
+    /// The request id, or 0 if the message isn't open under one.
     fn id(self) -> u32
         ensures { result ≡ id_of self }
     {
         match self {
-            RecordKind::Current => 0,
+            RecordKind::Current | RecordKind::OpenWithoutId | RecordKind::OverWithoutId => 0,
             RecordKind::Open(id) => id,
             RecordKind::Over(id) => id,
         }
@@ -186,6 +192,8 @@ fn record_kind_of(octet: u8, id: u32) -> Option<RecordKind>
         0 => Some(RecordKind::Current),
         1 => Some(RecordKind::Open(id)),
         2 => Some(RecordKind::Over(id)),
+        3 => Some(RecordKind::OpenWithoutId),
+        4 => Some(RecordKind::OverWithoutId),
         _ => None,
     }
 }

@@ -1,11 +1,12 @@
 //! Reads the fields of the fixed part that follow the counts.
 
-ghost use Rattle.std.specs.Prelude.{◌≡◌, ◌↔◌, ℕ, List, ◌+◌, ◌≤◌, ◌++◌, length, Option, Some, IfSome, IsTrue};
-ghost use Rattle.giop_checkpoint.specs.Layouts.{OpenHasRange, IsAmong, number_or, owner_octet, limit_octets};
+ghost use Rattle.std.specs.Prelude.{◌≡◌, ◌↔◌, ℕ, Bool, List, ◌+◌, ◌≤◌, ◌++◌, length, Option, Some, IfSome, IsTrue};
+ghost use Rattle.giop_checkpoint.specs.Layouts.{OpenHasRange, IsAmong, MixedFits, number_or, owner_octet, limit_octets};
 ghost use Rattle.giop_checkpoint.specs.Fixed.{HasRange, PlaceHasRange, fault_octet, place_octets, place_octet, fault_in, held_in, header_in, left_in, state_octets};
 ghost use Rattle.giop_checkpoint.specs.declared.fixed.Fixed.{Fixed as FixedPart};
 ghost use Rattle.giop_checkpoint.specs.declared.fixed.NextOctet.{NextOctet as PlaceOf};
 ghost use Rattle.giop_checkpoint.specs.declared.fault.StreamFault.{StreamFault as Fault};
+ghost use Rattle.giop_checkpoint.specs.declared.layout.Layout.{Layout as LayoutOf};
 
 use crate::fault::StreamFault;
 use crate::fixed::{Counts, Fixed, NextOctet};
@@ -60,6 +61,7 @@ fn parsed(layout: Layout, counts: Counts, octets: &[u8]) -> Option<Fixed>
         faults: eight_at(octets, 20),
         place,
         owner: owner_at(layout, octet_at(octets, 31), limits),
+        is_mixed: mixed_at(limits),
     })
 }
 
@@ -131,8 +133,8 @@ fn fault_of(number: u8) -> Option<StreamFault>
 /// How many messages may be open at once, from the octets after the place.
 fn open_at(layout: Layout, octets: &[u8]) -> u32
     requires long { length octets.now ≡ 16 }
-    ensures { (n : ℕ) (owner : Option ℕ) → OpenHasRange layout n →
-        octets.now ≡ limit_octets layout n owner → result ≡ n }
+    ensures { (n : ℕ) (owner : Option ℕ) (is_mixed : Bool) → OpenHasRange layout n →
+        octets.now ≡ limit_octets layout n owner is_mixed → result ≡ n }
 {
     match layout {
         Layout::Second => LAYOUT_2_MOST_OPEN,
@@ -143,14 +145,24 @@ fn open_at(layout: Layout, octets: &[u8]) -> u32
 /// The payload's record, from the octet of the place that names it and the octets after the place.
 fn owner_at(layout: Layout, octet: u8, octets: &[u8]) -> Option<u32>
     requires long { length octets.now ≡ 16 }
-    ensures { (n : ℕ) (owner : Option ℕ) → OpenHasRange layout n → IsAmong (n + 1) owner →
-        octet ≡ owner_octet layout owner → octets.now ≡ limit_octets layout n owner →
-        result ≡ owner }
+    ensures { (n : ℕ) (owner : Option ℕ) (is_mixed : Bool) → OpenHasRange layout n →
+        IsAmong (n + 1) owner → octet ≡ owner_octet layout owner →
+        octets.now ≡ limit_octets layout n owner is_mixed → result ≡ owner }
 {
     match layout {
         Layout::Second => owner_of(u32::from(octet), 255),
         Layout::Third | Layout::Latest => owner_of(four_at(octets, 4), 4_294_967_295),
     }
+}
+
+/// Whether messages of GIOP 1.1 are mixed, from the octets after the place.
+fn mixed_at(octets: &[u8]) -> bool
+    requires long { length octets.now ≡ 16 }
+    ensures { (layout : LayoutOf) (n : ℕ) (owner : Option ℕ) (is_mixed : Bool) →
+        MixedFits layout is_mixed → octets.now ≡ limit_octets layout n owner is_mixed →
+        result ≡ is_mixed }
+{
+    octet_at(octets, 8) == 1
 }
 
 /// The record that a number names. The number `nobody` names none.
@@ -180,6 +192,7 @@ impl Fixed {
             && self.messages <= 1 << 45
             && self.faults <= (1 << 45) + 1
             && is_among(self.records, self.owner)
+            && layout.allows_mixed(self.is_mixed)
     }
 }
 

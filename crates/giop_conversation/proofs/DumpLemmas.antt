@@ -146,10 +146,10 @@ pub record GoesOn (S : Setup) (k : Connection) (side : Side) (octets : List ℕ)
 pub goes_on_by : (S : Setup) (k : Connection) (side : Side) (octets : List ℕ)
     (arrival : Arrival) (d : DirectionView) (t : Exchanged)
     (a : Answers) → HoldsHalf S d (half side k) → HasCalls side t k →
-    (AnswersAgree d.engine.most (half side k).octets (half side k).answers a →
+    (AnswersAgree d.engine.table d.engine.most (half side k).octets (half side k).answers a →
     HoldsBy d.engine (half side k).answers (half side k).octets →
     HoldsBy d.engine a (half side k).octets) →
-    AnswersAgree S.messages (half side k).octets (half side k).answers a →
+    AnswersAgree S.table S.messages (half side k).octets (half side k).answers a →
     AgreesAtEnds answer_of notified S.table (calls_in S side arrival k) a
     (header_ends_from (rules_in S a) (half side k).octets octets) →
     GoesOn S k side octets arrival d t a

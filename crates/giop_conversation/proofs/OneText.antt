@@ -221,8 +221,8 @@ writes_alike S Odd c c' k = subst (λ (z : Connection). Writes S c.odd z.odd) (s
 -- if answers agree for what was read before, those of both dumps agree for the octets that come
 -- then
 agree_now : (S : Setup) (p q : List ℕ) (s x a b : Answers) (e : Exchanged) →
-    AgreeAtHeaders S.table S.messages p s x → AnswersAgree S.messages p s a →
-    AnswersAgree S.messages p x b →
+    AgreeAtHeaders S.table S.messages p s x → AnswersAgree S.table S.messages p s a →
+    AnswersAgree S.table S.messages p x b →
     AgreesAtEnds answer_of notified S.table e a (header_ends_from (rules_in S a) p q) →
     AgreesAtEnds answer_of notified S.table e b (header_ends_from (rules_in S b) p q) →
     AgreeAtHeaders S.table S.messages (p ++ q) a b

@@ -214,7 +214,7 @@ module _ (S : Setup) (h : History) (due behind : ℕ → Option ℕ) (k : AreNum
 -- ---- all events
 
 module _ (S : Setup) (written : List ℕ)
-    (agree : (a b : Answers) (p : List ℕ) → AnswersAgree S.messages p a b →
+    (agree : (a b : Answers) (p : List ℕ) → AnswersAgree S.table S.messages p a b →
     text (rules_in S a) p ≡ text (rules_in S b) p) where
   ends_on : (events : List Event) (h : History) (due : ℕ → Option ℕ) (d behind : Dump)
       (leads : Leads S d events behind) →

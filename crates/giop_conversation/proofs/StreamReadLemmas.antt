@@ -306,10 +306,10 @@ nothing_stopped w = append-nil w
 
 -- ---- the start
 
-pub agree_start : (most : ℕ) (a b : Answers) → AnswersAgree most [] a b
+pub agree_start : (C : Table) (most : ℕ) (a b : Answers) → AnswersAgree C most [] a b
 unfolding events events_from messages cut limited limit cut_from first_wrong_octet fronts
     first_wrong wrong
-agree_start most a b = tt
+agree_start C most a b = tt
 
 pub reading_starts : (e : EngineView) (stream : ℕ) (arrival : Arrival) (s0 s1 s2 : Exchanged)
     (C : Table) (number : ℕ) →

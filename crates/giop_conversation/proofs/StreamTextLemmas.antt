@@ -128,7 +128,7 @@ text_more C a most p q =
     ∙ (sym (added_both_by C a most [] p q) ∙ of (p ++ q))
 
 module _ (S : Setup) (written : List ℕ)
-    (agree : (a b : Answers) (p : List ℕ) → AnswersAgree S.messages p a b →
+    (agree : (a b : Answers) (p : List ℕ) → AnswersAgree S.table S.messages p a b →
     text (rules_in S a) p ≡ text (rules_in S b) p) where
   on_opened : (h : History) (d : Dump) (id : ℕ) (flow : Flow) (o : Option Connection) →
       slice_get d.connections (id / 2) ≡ o →

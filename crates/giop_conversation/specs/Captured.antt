@@ -141,7 +141,7 @@ delivered_lines S a side octets arrival c =
 -- of the call that it answers.
 pub record IsAnswered (S : Setup) (a : Answers) (side : Side) (octets : List ℕ)
     (arrival : Arrival) (c : Connection) : Type 0 where
-  pub before : AnswersAgree S.messages (half side c).octets (half side c).answers a
+  pub before : AnswersAgree S.table S.messages (half side c).octets (half side c).answers a
   pub now : AgreesAtEnds answer_of notified S.table (calls_in S side arrival c) a
       (header_ends_from (rules_in S a) (half side c).octets octets)
 

@@ -8,6 +8,7 @@ unfoldable pub ends_line : Bool → List ℕ → Bool
 ends_line first [] = first
 ends_line first (x ∷ xs) = ends_line (x == 10) xs
 
+-- whether a tag is due after a text: the text is empty, or it ends with a line
 abbrev pub is_due : List ℕ → Bool
 is_due text = ends_line true text
 

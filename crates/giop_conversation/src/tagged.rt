@@ -17,8 +17,8 @@ use std::marker::Model;
 use std::simd::prelude::*;
 
 /// An `Out` that puts a tag in front of each line, in whatever pieces the lines come. It fails only if the out below fails,
-/// or if it is full: more than 2^64 - 1 octets would have been written since the tag was set, or its owner refused what
-/// it should read.
+/// or if it is full: more than 2^64 - 1 octets would have been written since the tag was set, or `refuse` was called.
+/// That is done when octets come in a flow without a slot.
 #[derive(Drop)]
 pub struct Tagged<O: Out> {
     out: O,

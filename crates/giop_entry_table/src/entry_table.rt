@@ -151,6 +151,7 @@ impl<V> EntryTable<V> {
     }
 
     /// Adds a value under this id, after the other entries. There must be room for it.
+    #[inline(always)]
     pub fn add(&mut self, key: u32, value: V)
         requires { length self.old.entries < self.old.most }
         ensures entries { self.new.entries

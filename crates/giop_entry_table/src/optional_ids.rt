@@ -106,6 +106,7 @@ impl<V> OptionalIdTable<V> {
     }
 
     /// The index of the first entry with this id.
+    #[inline(always)]
     pub fn find(&self, key: u32) -> Option<usize>
         ensures value { result ≡ position_from (λ e. is_id key e.key) 0 self.now.entries }
         ensures within { IfSome result (λ index. index < length self.now.entries) }
@@ -164,6 +165,7 @@ impl<V> OptionalIdTable<V> {
     }
 
     /// Adds a value under this id, after the other entries. There must be room for it.
+    #[inline(always)]
     pub fn add(&mut self, key: u32, value: V)
         requires { length self.old.entries < self.old.most }
         ensures entries { self.new.entries
@@ -175,6 +177,7 @@ impl<V> OptionalIdTable<V> {
 
     /// Adds a value without an id, after the other entries. There must be room for it, and each other entry must have an
     /// id.
+    #[inline(always)]
     pub fn add_without_id(&mut self, value: V)
         requires room { length self.old.entries < self.old.most }
         requires only { position_from (λ e. is_none e.key) 0 self.old.entries ≡ None }

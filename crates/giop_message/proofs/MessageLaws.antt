@@ -35,8 +35,10 @@ pub use Rattle.giop_message.proofs.AtOctet.{octet_text, octet_over, close_short}
 pub use Rattle.giop_message.proofs.AtOctet.{close_is}
 -- at which octets headers and names end, and what is told of some of these ends and then of others
 pub use Rattle.giop_message.proofs.HeaderEndLaws.{header_ends_both, header_ends_none, one_octet, over_none, bodiless_ends, ends_over, told_both, answers_first, answers_then}
-pub use Rattle.giop_message.proofs.HeaderEndLaws.{header_noted_before, header_ended, alike_remarks, alike_closes}
+pub use Rattle.giop_message.proofs.HeaderEndLaws.{header_noted_before, header_ended, unended_agree, alike_remarks, alike_closes}
 pub use Rattle.giop_message.proofs.MessageAgreement.{follows_agree}
+-- it is the same by phases that agree before its end, and what ends in octets is so too
+pub use Rattle.giop_message.proofs.Phased.{message_phased, ends_phased, lines_phased}
 
 -- ---- the same for the table of a catalogue, and the operations that the ids of each message
 -- answer

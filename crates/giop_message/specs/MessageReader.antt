@@ -108,3 +108,4 @@ pub record IsStreamable (R : MessageReader) : Type 0 where
   pub named : HasOnlyValuesInId R
   pub ordered : IsOrdered R
   pub closing : IsClosing R
+  pub phased : IsPhased R

@@ -31,7 +31,7 @@ pub record HasFed (R : Rules) (p s : List ℕ) (e : EngineView) (x y : OutLog) :
   pub holds : Holds e (p ++ s)
   pub written : Wrote x y (added R p s)
 
--- what it did to feed the octets s to an engine that held p; the result is true if the stream goes
+-- what the feed of the octets s did to an engine that held p; the result is true if the stream goes
 -- on
 abbrev pub Fed : Rules → Result Bool RunFault → List ℕ → List ℕ → EngineView → OutLog → OutLog →
     Type 0
@@ -89,7 +89,7 @@ FailedBefore R fault.Turns p s before after x y = ReadsSpent R p s before after 
 FailedBefore R fault.Out p s before after x y = PutFailed R p s before after x y
 FailedBefore R fault.Failed p s before after x y = ⊥
 
--- what it did to feed all that the source gave to an engine that held p
+-- what the feed of all that the source gave did to an engine that held p
 abbrev pub FedAll : {A : Type 0} → Rules → Result A RunFault → List ℕ → List ℕ → EngineView →
     SourceLog → SourceLog → OutLog → OutLog → Type 0
 FedAll R (Ok done) p s e before after x y = ReadToEnd R p s e before after x y
@@ -100,7 +100,7 @@ pub record Ended (w : RunSetup) (report : Report) (p : List ℕ) (x y : OutLog) 
   pub written : Wrote x y (end_text w.ending (reads_by w) p)
   pub ended : EndsAs w.ending w report p
 
--- what it did to finish an engine that held p
+-- what the finish did to an engine that held p
 abbrev pub Completed : Rules → Result Totals RunFault → List ℕ → OutLog → OutLog → Type 0
 Completed R (Ok totals) p x y = Wrote x y (closing R p) × (totals ≡ final R p)
 Completed R (Err fault.Out) p x y = WroteFront x y (closing R p)

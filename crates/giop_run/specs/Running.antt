@@ -1,5 +1,5 @@
 -- What a run did (meaning). The stream that its engine held is p, the octets that its source gave
--- are s, and its setup is w.
+-- are s, and its setup is w. The logs of its out before and after are x and y.
 use Rattle.std.specs.Prelude.{◌≡◌, ℕ, ◌+◌, ◌^◌, ◌≤◌, ◌<◌, List, [], ◌++◌, length, Option, None, Some, IsSome, Result, Ok, Err, ◌⊎◌}
 use Rattle.std.specs.Io.KnownBytes.{Consumes, IsAtEnd}
 use Rattle.giop_cdr.specs.Numbers.{AreOctets}

@@ -86,7 +86,8 @@ impl Buffer {
         recent
     }
 
-    /// Removes the first octets, as many as `count` says. All puts must have been taken.
+    /// Removes the first octets, as many as `count` says. `take_recent` must have been called
+    /// after the last `add_put`.
     pub(crate) fn remove(&mut self, count: usize)
         requires within { count ≤ length (buffered self.old) }
         requires taken { self.old.recent ≡ 0 }

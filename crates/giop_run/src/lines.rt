@@ -47,7 +47,7 @@ impl<W: Write + Drop> Lines<W> {
         &self.writer
     }
 
-    /// Counts the puts that the buffer counts with those before them.
+    /// Adds the puts that the buffer has counted to the count of those before them.
     fn settle(&mut self)
         ensures log { lines_log W.contents self.new ≡ lines_log W.contents self.old }
         ensures kept { lines_kept self.new ≡ lines_kept self.old }
@@ -73,7 +73,7 @@ impl<W: Write + Drop> Lines<W> {
         if is_all { Ok(()) } else { Err(OutFault) }
     }
 
-    /// Puts octets for which there is no room, or none: first gives the octets that are kept back to the writer.
+    /// Puts octets for which there is no room, or an empty slice. First gives the writer what is kept back.
     #[cold]
     #[inline(never)]
     fn put_behind(&mut self, octets: &[u8]) -> Result<usize, OutFault>

@@ -39,7 +39,7 @@ pub(crate) struct Rights {
 }
 
 impl Rights {
-    /// The rights of the file that is known by this.
+    /// The rights of the file with this metadata.
     fn of(found: &Metadata) -> Rights {
         Rights {
             user: found.uid(),

@@ -46,7 +46,7 @@ impl FileId {
         }
     }
 
-    /// The identity of the plain file that is known by this.
+    /// The identity of the file with this metadata. None if it is no plain file.
     fn of_file(found: &Metadata) -> Option<FileId> {
         if !found.is_file() {
             return None;

@@ -1,5 +1,6 @@
 -- The fields of an engine compared with the stream: what an octet, a run of octets and the finish
 -- do to them.
+pub mod WhatStands
 pub mod OneOctet
 pub mod NextOctet
 pub mod EngineStep
@@ -18,5 +19,6 @@ pub mod FragmentSteps
 pub mod DueSteps
 pub mod StreamAgreement
 pub mod AnswersGoOn
+pub mod KeptOn
 pub mod AgreementAtHeaders
 pub mod Lacking

@@ -3,6 +3,7 @@ pub mod Cutting
 pub mod CutFrom
 pub mod Numbers
 pub mod Start
+pub mod OpenMessages
 pub mod OfOctets
 pub mod Stopped
 pub mod Counts

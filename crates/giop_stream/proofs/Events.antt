@@ -1,6 +1,7 @@
 -- The events of a stream's octets, and the open messages and the faults that follow from them.
 pub mod MessageKinds
 pub mod EventInduction
+pub mod KeptEvents
 pub mod EventsOfOctet
 pub mod EventsKeep
 pub mod UnfinishedKept

@@ -5,3 +5,5 @@ pub mod Loaded
 pub mod LoadedFields
 pub mod LoadRanges
 pub mod WholeRecords
+pub mod WithoutKey
+pub mod KeysOfStream

@@ -1,6 +1,7 @@
 -- The slots of the code compared with what is tracked of the messages: what the calls of the code
 -- do to the slots at each event.
 pub mod OneSlotChanges
+pub mod Alike
 pub mod EventsInSlots
 pub mod Performing
 pub mod SlotLists

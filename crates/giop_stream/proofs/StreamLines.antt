@@ -11,6 +11,7 @@ pub mod InClasses
 pub mod LineOrder
 pub mod OneOfEach
 pub mod IdBeforeEnd
+pub mod Ended
 pub mod FinishByFields
 pub mod ReadOn
 pub mod MoreOctets

@@ -2,22 +2,22 @@
 -- ends after the message is over. And answers that agree with a correspondent (meaning).
 use Rattle.std.specs.Prelude.{◌≡◌, ◌⊎◌, ℕ, List, [], None}
 use Rattle.std.specs.List.{AllByRecursion as Each}
-use Rattle.giop_message.specs.Phases.{unbroken}
 use Rattle.giop_message.specs.Signatures.{Answer, Answers}
 use Rattle.giop_message.specs.HeaderEnds.{CallEvent, HeaderEnd, Header_end, Exception_end, AgreesAtEnds, header_noted}
 use Rattle.giop_sig.specs.Table.{Table}
 use Rattle.giop_stream.specs.Rules.{rules_by}
 use Rattle.giop_stream.specs.EngineHolds.{rules_with}
 use Rattle.giop_stream.specs.EngineView.{EngineView}
-use Rattle.giop_stream.specs.Events.{events, joined}
+use Rattle.giop_stream.specs.Events.{events, joined, phase_of}
 use Rattle.giop_stream.specs.HeaderEndsOfStream.{header_ends_from}
 
 -- a and b give the same answer for each message of the stream p whose header has ended
-abbrev pub AnswersAgree : ℕ → List ℕ → Answers → Answers → Type 0
-AnswersAgree most p a b =
+abbrev pub AnswersAgree : Table → ℕ → List ℕ → Answers → Answers → Type 0
+AnswersAgree C most p a b =
+    let es = events (rules_by C a most) p in
     Each (λ e. (a e.subject.number ≡ b e.subject.number)
-    ⊎ (header_noted unbroken e.subject.header (joined e.subject.number (events most p)) ≡ None))
-    (events most p)
+    ⊎ (header_noted (phase_of e.subject.number es) e.subject.header
+    (joined e.subject.number es) ≡ None)) es
 
 -- a and b give the same answer at the end of a header
 abbrev pub AnswersAlike : Answers → Answers → HeaderEnd → Type 0

@@ -1,6 +1,6 @@
 -- The octets of a checkpoint: the fields of an engine that they store, and the streams that they
 -- are the checkpoint of (docs/FORMATS.md, Checkpoints; state).
-use Rattle.std.specs.Prelude.{◌≡◌, ◌≤◌, ◌⊎◌, ℕ, ◌+◌, ◌-◌, ◌*◌, List, [], ◌∷◌, ◌++◌, length, flat_map, replicate, nat_lt, Option, Some, None, Result, Ok, Err, IfOk, if◌then◌else◌, true}
+use Rattle.std.specs.Prelude.{◌≡◌, ◌≤◌, ◌⊎◌, ◌&&◌, ℕ, ◌+◌, ◌-◌, ◌*◌, List, [], ◌∷◌, ◌++◌, length, flat_map, replicate, nat_lt, Option, Some, None, Result, Ok, Err, IfOk, if◌then◌else◌, true}
 use Rattle.giop_cdr.specs.Numbers.{AreOctets}
 use Rattle.giop_print.specs.declared.sink.OutFault.{OutFault}
 use Rattle.giop_print.specs.Output.{OutLog, Writes}
@@ -10,7 +10,7 @@ use Rattle.giop_sig.specs.Trees.{catalogue_depth}
 use Rattle.giop_message.specs.declared.message.Message.{Message}
 use Rattle.giop_message.specs.MessageState.{Fits}
 use Rattle.giop_message.specs.Headers.{size}
-use Rattle.giop_stream.specs.Rules.{rules}
+use Rattle.giop_stream.specs.Rules.{joins_by, rules}
 use Rattle.giop_message.specs.Signatures.{RequestTable, by_list}
 use Rattle.giop_checkpoint.specs.declared.sizes.TheConstants.{FIXED_SIZE, RECORD_SIZE, MESSAGE_SIZE, FRAME_SIZE}
 use Rattle.giop_checkpoint.specs.declared.layout.Layout.{Layout}
@@ -65,6 +65,7 @@ owner_of (Some k) message many = if nat_lt k many then Some k else None
 owner_of None None many = None
 owner_of None (Some m) many = Some many
 
+-- how many records the current message has: one, if there is such a message
 abbrev pub count_own : Option Message → ℕ
 count_own None = 0
 count_own (Some m) = 1
@@ -80,13 +81,24 @@ fixed_of C l m = record {
   place = place_of m.stopped m.header m.payload_count;
   owner = owner_of (index_of m.slots.owner) (current_of m.slots.owner)
       (length m.slots.slots.entries);
+  is_mixed = m.slots.is_mixed && joins_by C;
 }
 
 -- ---- the records
 
-abbrev pub standing_of : Option Message → ℕ → RecordKind
-standing_of None id = record_kinds.Over id
-standing_of (Some m) id = record_kinds.Open id
+-- of an open message with this key, and of one that is over
+abbrev pub open_kind : Option ℕ → RecordKind
+open_kind None = record_kinds.OpenWithoutId
+open_kind (Some id) = record_kinds.Open id
+
+abbrev pub over_kind : Option ℕ → RecordKind
+over_kind None = record_kinds.OverWithoutId
+over_kind (Some id) = record_kinds.Over id
+
+-- the kind of an open message's record, by whether the message is over, and its request id
+abbrev pub standing_of : Option Message → Option ℕ → RecordKind
+standing_of None key = over_kind key
+standing_of (Some m) key = open_kind key
 
 -- the entry stores a message that isn't over; if the message fits the types of a catalogue, it has
 -- at most as many frames as the catalogue's depth
@@ -120,6 +132,7 @@ pub record IsMessageRecord (record_kind : RecordKind) (number : ℕ) (header : L
 abbrev pub IsCurrent : Message → Entry → Type 0
 IsCurrent m e = IsMessageRecord record_kinds.Current m.number m.header m e
 
+-- the entries that are left: only that of the current message, or none if there is no such message
 abbrev pub IsLast : Option Message → List Entry → Type 0
 IsLast None [] = Unit {0}
 IsLast None (e ∷ es) = ⊥

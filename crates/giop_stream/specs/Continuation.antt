@@ -1,26 +1,27 @@
 -- A Fragment of an open message, if the last octet of its header and its request id come together
 -- (state, steps). Only private clauses cite these.
-use Rattle.std.specs.Prelude.{◌≡◌, ◌==◌, ◌<◌, ◌≤◌, ℕ, true, List, [], ◌∷◌, ◌++◌, length, Option, Some, None}
+use Rattle.std.specs.Prelude.{◌≡◌, ◌<◌, ◌≤◌, ℕ, true, List, [], ◌∷◌, ◌++◌, length, Option, Some, None}
 use Rattle.std.specs.List.{position_from}
 use Rattle.giop_cdr.specs.Numbers.{num}
+use Rattle.giop_entry_table.specs.OptionalIds.{is_id}
 use Rattle.giop_sig.specs.Table.{Table}
 use Rattle.giop_message.specs.Headers.{order, size, is_fragment}
 use Rattle.giop_message.specs.Signatures.{Answers}
-use Rattle.giop_message.specs.ReaderOfTable.{message_reader}
 use Rattle.giop_stream.specs.declared.slots.Slots.{Slots}
 use Rattle.giop_stream.specs.declared.current.Current.{Current}
 use Rattle.giop_stream.specs.declared.fragment.Continuation.{Continuation}
 use Rattle.giop_stream.specs.Framing.{CutMessage, with_payload}
-use Rattle.giop_stream.specs.Events.{MessageKey, Rising, id, events_of_octet}
-use Rattle.giop_stream.specs.Effects.{Effect, effects, line_effect, starts, with_octet}
+use Rattle.giop_stream.specs.Events.{MessageKey, Rising, id}
+use Rattle.giop_stream.specs.Effects.{Effect, line_effect, starts, with_octet}
+use Rattle.giop_stream.specs.Lines.{Kept}
 use Rattle.giop_stream.specs.OpenSlots.{Tracked}
 use Rattle.giop_stream.specs.SlotsRepresent.{SlotsRepresent}
-use Rattle.giop_stream.specs.PayloadOwner.{IsCurrent, IsBeforeOctet}
+use Rattle.giop_stream.specs.PayloadOwner.{IsCurrent, IsBeforeOctet, octet_effect}
 
 -- The open message with this request id is at this index.
 pub record IsOpenAt (s : Slots) (found : Continuation) : Type 0 where
   pub within : found.index < length s.slots.entries
-  pub here : position_from (λ slot. slot.key == found.id) 0 s.slots.entries ≡ Some found.index
+  pub here : position_from (λ slot. is_id found.id slot.key) 0 s.slots.entries ≡ Some found.index
 
 -- These five octets, after the first eleven of a header, are the header's last one and the request
 -- id of a Fragment that continues this open message.
@@ -42,7 +43,7 @@ pub record IsContinuing (C : Table) (l : Answers) (s : Slots) (c : Tracked)
   pub keeps : SlotsRepresent C l s c owner
   pub rising : Rising c.still_open
   pub current : IsCurrent now m
-  pub alive : (xs : List ℕ) × (c.known m.number ≡ Some xs)
+  pub alive : (kept : Kept) × (c.known m.number ≡ Some kept)
 
 -- The slots represent what is tracked before the last octet x of a Fragment's request id, without
 -- the Fragment itself.
@@ -59,5 +60,4 @@ pub record IsBeforeContinuation (C : Table) (l : Answers) (s : Slots) (c : Track
 -- starts, and the last octet does what its events do
 abbrev pub continuation_effect : Table → Answers → ℕ → Tracked → CutMessage → ℕ → Effect
 continuation_effect C l most c m x =
-    line_effect (starts (with_payload m []))
-    (effects (message_reader C l) c (events_of_octet most c.still_open (with_octet m x)))
+    line_effect (starts (with_payload m [])) (octet_effect C l most c (with_octet m x))

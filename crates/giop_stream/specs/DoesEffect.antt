@@ -46,7 +46,7 @@ abbrev pub DoesPart : {A E : Type 0} → Table → Answers → (A → ℕ) → R
     Option CodeMessage → MessageKey → Part → Type 0
 DoesPart C l count result before after message w part =
     WritesAndLeaves count result before after part.lines
-    (RepresentsMessage C l message w part.octets)
+    (RepresentsMessage C l message w part.kept)
 
 -- The call writes only lines: nothing is kept.
 abbrev pub WritesLines : {A E : Type 0} → (A → ℕ) → Result A E → OutLog → OutLog → List StreamLine →

@@ -1,42 +1,51 @@
 -- What the events of an octet do, one after another: to the open messages, to what is kept of each
 -- message, and the lines that they give (steps).
-use Rattle.std.specs.Prelude.{Bool, true, ◌≡◌, ℕ, ◌<◌, ◌≤◌, false, List, [], ◌∷◌, ◌++◌, length, Option, Some, None, if◌then◌else◌, option_map}
+use Rattle.std.specs.Prelude.{Bool, true, ◌||◌, ◌≡◌, ◌==◌, ℕ, ◌<◌, ◌≤◌, false, List, [], ◌∷◌, ◌++◌, length, Option, Some, None, if◌then◌else◌, option_map}
 use Rattle.std.specs.List.{list_any}
 use Rattle.giop_sig.specs.Table.{Table}
 use Rattle.giop_message.specs.MessageReader.{MessageReader}
 use Rattle.giop_message.specs.ReaderOfTable.{message_reader}
 use Rattle.giop_message.specs.Signatures.{Answers}
-use Rattle.giop_stream.specs.Events.{EventKind, Begins, Takes, Opens, Continues, Cancelled, Faults, Closes, MessageKey, Event, Open, place, octet, changed, joined}
-use Rattle.giop_stream.specs.Lines.{StreamLine, Started, ContinuesMessage, lines_of_event, is_last_of, up_to_last_line}
+use Rattle.giop_stream.specs.Events.{EventKind, Begins, Takes, Opens, Continues, Seams, Cancelled, Faults, Closes, MessageKey, Event, Open, place, octet, phase_then, mixes, changed}
+use Rattle.giop_stream.specs.Lines.{StreamLine, Started, ContinuesMessage, Kept, lines_of_event, is_last_of, up_to_last_line}
 use Rattle.giop_stream.specs.Framing.{CutMessage, with_payload}
-use Rattle.giop_stream.specs.OpenSlots.{OctetsByNumber, Tracked}
+use Rattle.giop_stream.specs.OpenSlots.{KeptByNumber, Tracked}
 
 pub record Effect : Type 0 where
   pub tracked : Tracked
   pub lines : List StreamLine
 
+-- what is kept of a message after an event of it
+abbrev pub kept_then : EventKind → Kept → Kept
+kept_then what kept = record {
+  octets = kept.octets ++ octet what;
+  phase = phase_then kept.octets kept.phase what;
+}
+
 -- the lines of an event, by what is kept of its message
-unfoldable pub lines_for : MessageReader → Event → Option (List ℕ) → List StreamLine
+unfoldable pub lines_for : MessageReader → Event → Option Kept → List StreamLine
 lines_for R e None = []
-lines_for R e (Some xs) = lines_of_event R e xs (xs ++ joined e.subject.number (e ∷ [])) e.what
+lines_for R e (Some kept) = lines_of_event R e kept (kept_then e.what kept) e.what
 
--- what is kept of each message: with the octets of these events added, and without the messages
--- that these lines end
-unfoldable pub kept_with : OctetsByNumber → List Event → OctetsByNumber
-kept_with known es i = option_map (λ xs. xs ++ joined i es) (known i)
+-- what is kept of each message: with what this event adds, and without the messages that these
+-- lines end
+unfoldable pub kept_with : KeptByNumber → Event → KeptByNumber
+kept_with known e i = if e.subject.number == i then option_map (kept_then e.what) (known i) else
+    known i
 
-unfoldable pub kept_after : OctetsByNumber → List StreamLine → OctetsByNumber
+unfoldable pub kept_after : KeptByNumber → List StreamLine → KeptByNumber
 kept_after known ls i = if list_any (is_last_of i) ls then None else known i
 
 -- what one event does: its lines up to the message's last line, and what is kept after it
-unfoldable pub lines_at : MessageReader → OctetsByNumber → Event → List StreamLine
+unfoldable pub lines_at : MessageReader → KeptByNumber → Event → List StreamLine
 lines_at R known e = up_to_last_line (λ i. false) (lines_for R e (known e.subject.number))
 
 unfoldable pub tracked_at : MessageReader → Tracked → Event → Tracked
 tracked_at R c e = record {
   still_open = changed c.still_open e.subject e.what;
+  mixed = c.mixed || mixes e;
   known =
-      kept_after (kept_with c.known (e ∷ [])) (lines_at R c.known e);
+      kept_after (kept_with c.known e) (lines_at R c.known e);
 }
 
 unfoldable pub effects : MessageReader → Tracked → List Event → Effect
@@ -46,10 +55,10 @@ effects R c (e ∷ es) =
     record { tracked = more.tracked; lines = lines_at R c.known e ++ more.lines }
 
 -- While the request id of a message is read, fewer octets are kept of the message than its payload
--- has with this octet.
-abbrev pub IsBegun : OctetsByNumber → CutMessage → Type 0
-IsBegun known m = 0 < length m.payload → length m.payload ≤ 4 → (xs : List ℕ) →
-    known m.number ≡ Some xs → length xs < length m.payload
+-- has with this octet, and padding is counted from the message's header.
+abbrev pub IsBegun : KeptByNumber → CutMessage → Type 0
+IsBegun known m = 0 < length m.payload → length m.payload ≤ 4 → (kept : Kept) →
+    known m.number ≡ Some kept → (length kept.octets < length m.payload) × (kept.phase 12 ≡ 12)
 
 -- ---- An octet of a stream.
 
@@ -57,30 +66,31 @@ IsBegun known m = 0 < length m.payload → length m.payload ≤ 4 → (xs : List
 abbrev pub with_octet : CutMessage → ℕ → CutMessage
 with_octet m x = with_payload m (m.payload ++ x ∷ [])
 
--- ---- One message's part of an event: its lines, and its octets after it, unless it is over.
+-- ---- One message's part of an event: its lines, and what is kept of the message after the event,
+-- unless the message is over.
 
-unfoldable pub lines_of : MessageReader → Event → Option (List ℕ) → List StreamLine
+unfoldable pub lines_of : MessageReader → Event → Option Kept → List StreamLine
 lines_of R e o = up_to_last_line (λ i. false) (lines_for R e o)
 
-unfoldable pub octets_then : MessageReader → Event → Option (List ℕ) → Option (List ℕ)
-octets_then R e o = if list_any (is_last_of e.subject.number) (lines_of R e o) then None else
-    option_map (λ xs. xs ++ octet e.what) o
+unfoldable pub known_then : MessageReader → Event → Option Kept → Option Kept
+known_then R e o = if list_any (is_last_of e.subject.number) (lines_of R e o) then None else
+    option_map (kept_then e.what) o
 
--- the octets and the lines together
+-- what is kept and the lines together
 pub record Part : Type 0 where
-  pub octets : Option (List ℕ)
+  pub kept : Option Kept
   pub lines : List StreamLine
 
-unfoldable pub part_of : MessageReader → Event → Option (List ℕ) → Part
-part_of R e o = record { octets = octets_then R e o; lines = lines_of R e o }
+unfoldable pub part_of : MessageReader → Event → Option Kept → Part
+part_of R e o = record { kept = known_then R e o; lines = lines_of R e o }
 
 -- the part of no event
-abbrev pub no_part : Option (List ℕ) → Part
-no_part o = record { octets = o; lines = [] }
+abbrev pub no_part : Option Kept → Part
+no_part o = record { kept = o; lines = [] }
 
--- one part, and then what more events make of the octets that it leaves
+-- one part, and then what more events make of what it keeps
 abbrev pub then_part : Part → Part → Part
-then_part one more = record { octets = more.octets; lines = one.lines ++ more.lines }
+then_part one more = record { kept = more.kept; lines = one.lines ++ more.lines }
 
 -- ---- What an event does to the slots.
 
@@ -90,6 +100,7 @@ stays Begins = true
 stays (Takes x) = true
 stays (Opens key) = false
 stays (Continues i) = true
+stays Seams = true
 stays (Cancelled j) = false
 stays (Faults fault) = true
 stays Closes = false
@@ -100,6 +111,7 @@ goes Begins = false
 goes (Takes x) = false
 goes (Opens key) = false
 goes (Continues i) = false
+goes Seams = false
 goes (Cancelled j) = true
 goes (Faults fault) = false
 goes Closes = true

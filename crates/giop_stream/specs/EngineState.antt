@@ -7,7 +7,7 @@ use Rattle.giop_message.specs.Headers.{size}
 use Rattle.giop_checkpoint.specs.declared.fault.StreamFault.{StreamFault}
 use Rattle.giop_stream.specs.declared.status.Totals.{Totals}
 use Rattle.giop_stream.specs.Framing.{CutMessage, cut, fault_of}
-use Rattle.giop_stream.specs.Events.{MessageKey, Open, message_key, opener_of, has_named, open_after}
+use Rattle.giop_stream.specs.Events.{MessageKey, Before, Open, message_key, opener_of, has_named, events, before_by}
 use Rattle.giop_stream.specs.Stream.{tally}
 use Rattle.giop_stream.specs.OpenSlots.{Tracked, tracked_after}
 use Rattle.giop_stream.specs.Octet.{header_of}
@@ -27,15 +27,14 @@ abbrev pub opener_key : Option Open → Option MessageKey
 opener_key None = None
 opener_key (Some o) = Some o.opener
 
--- The owner of the next octet, if these messages are open. After a Fragment has its place among
--- them, it is the message that the Fragment continues.
-unfoldable pub owner_of_next : List Open → CutMessage → Option MessageKey
-owner_of_next still_open m = if has_named m then opener_key (opener_of still_open m) else Some
-    (message_key m)
+-- The owner of the next octet, if this stands before it. After a Fragment has its place among the
+-- open messages, it is the message that the Fragment continues.
+unfoldable pub owner_of_next : Before → CutMessage → Option MessageKey
+owner_of_next b m = if has_named m then opener_key (opener_of b m) else Some (message_key m)
 
-abbrev pub owner_of_next_in : List Open → Option CutMessage → Option MessageKey
-owner_of_next_in still_open None = None
-owner_of_next_in still_open (Some m) = owner_of_next still_open m
+abbrev pub owner_of_next_in : Before → Option CutMessage → Option MessageKey
+owner_of_next_in b None = None
+owner_of_next_in b (Some m) = owner_of_next b m
 
 -- ---- Of a stream.
 
@@ -54,5 +53,5 @@ state_of R p = record {
   held = unless (cut p).stop [] (header_of (cut p).current (cut p).held);
   left = unless (cut p).stop 0 (left_of (cut p).current);
   tracked = tracked_after R p;
-  owner = owner_of_next_in (open_after R.most p) (cut p).current;
+  owner = owner_of_next_in (before_by R (events R p)) (cut p).current;
 }

@@ -22,7 +22,7 @@ stop m fault place = record m {
   payload_count = 0;
 }
 
--- if the message's last octet has come, the next header begins
+-- if all octets of a payload of this size have come, the next header begins
 unfoldable pub end_message : FramingView → ℕ → FramingView
 end_message m size = if m.payload_count == size then
     record m { header = []; payload_count = 0 } else m

@@ -2,19 +2,20 @@
 -- which they end (meaning). At the end of a header the correspondent is asked; at the end of either
 -- it is told (giop_message, HeaderEnds).
 use Rattle.std.specs.Prelude.{ℕ, List, [], ◌∷◌, ◌++◌, length, Option, Some, None, is_none, ◌&&◌, nat_lt, if◌then◌else◌}
-use Rattle.giop_message.specs.Phases.{unbroken}
 use Rattle.giop_message.specs.HeaderEnds.{HeaderEnd, header_ends}
 use Rattle.giop_stream.specs.Rules.{Rules}
 use Rattle.giop_stream.specs.Framing.{CutMessage, limit, cut}
-use Rattle.giop_stream.specs.Events.{MessageKey, open_after}
+use Rattle.giop_stream.specs.Lines.{Kept}
+use Rattle.giop_stream.specs.Events.{MessageKey, events, before_by}
 use Rattle.giop_stream.specs.OpenSlots.{Tracked, tracked_after}
 use Rattle.giop_stream.specs.EngineState.{owner_of_next}
 
 -- the headers and names of a message that end in `octets`, after the octets of it that came before;
 -- none if the message is over
-abbrev pub run_header_ends : MessageKey → Option (List ℕ) → List ℕ → List HeaderEnd
+abbrev pub run_header_ends : MessageKey → Option Kept → List ℕ → List HeaderEnd
 run_header_ends w None octets = []
-run_header_ends w (Some s) octets = header_ends unbroken w.number w.header s octets
+run_header_ends w (Some kept) octets =
+    header_ends kept.phase w.number w.header kept.octets octets
 
 -- the same for the message that the octets belong to
 abbrev pub owner_header_ends : Tracked → Option MessageKey → List ℕ → List HeaderEnd
@@ -26,7 +27,7 @@ owner_header_ends c (Some w) octets = run_header_ends w (c.known w.number) octet
 abbrev pub current_header_ends : Rules → List ℕ → Option CutMessage → List ℕ → List HeaderEnd
 current_header_ends R p None octets = []
 current_header_ends R p (Some m) octets =
-    owner_header_ends (tracked_after R p) (owner_of_next (open_after R.most p) m) octets
+    owner_header_ends (tracked_after R p) (owner_of_next (before_by R (events R p)) m) octets
 
 -- the same for the octet x after the stream p
 unfoldable pub header_ends_at : Rules → List ℕ → ℕ → List HeaderEnd

@@ -3,9 +3,10 @@
 use Rattle.std.specs.Prelude.{ℕ, Bool, ◌&&◌, ◌||◌, List, Option, Some, None, nat_lt, ◌==◌, if◌then◌else◌}
 use Rattle.giop_stream.specs.declared.fault.FramingFault.{FramingFault}
 use Rattle.giop_stream.specs.declared.fault.FramingFault.TheVariants.{MessageType, OldFragment}
-use Rattle.giop_message.specs.Headers.{minor, kind, has_more, size, is_opener, is_fragment, is_cancel}
+use Rattle.giop_message.specs.Headers.{minor, kind, has_more, size, is_opener, is_fragment}
 
--- ---- Messages of 1.1. Their Fragments have no request id, and aren't joined.
+-- ---- Messages of 1.1. Their Fragments have no request id: each continues the message of its
+-- direction that was begun last.
 
 -- Fragments of 1.1 continue a Request or a Reply of 1.1 if more fragments follow it.
 unfoldable pub is_old_opener : List ℕ → Bool
@@ -29,10 +30,6 @@ has_fragments header = is_opener header || is_old_opener header
 unfoldable pub is_any_fragment : List ℕ → Bool
 is_any_fragment header = is_fragment header || is_old_fragment header
 
--- the message opens, continues or cancels one
-abbrev pub has_place : List ℕ → Bool
-has_place header = has_fragments header || is_any_fragment header || is_cancel header
-
 -- After how many octets of its payload a message is looked for among the open ones: after the four
 -- of its request id; but in 1.1 with the last octet of its header.
 unfoldable pub named_at : List ℕ → ℕ
@@ -43,7 +40,7 @@ unfoldable pub may_be_cancelled : List ℕ → Bool
 may_be_cancelled header = (kind header == 0) || (kind header == 3)
 
 -- The fault that a message has by its header alone, if it has one. Only GIOP 1.1 and 1.2 have
--- Fragments, and no LocateRequest and no LocateReply of 1.1 has any.
+-- Fragments, and those of 1.1 are joined to no LocateRequest and no LocateReply.
 unfoldable pub refused : List ℕ → Option FramingFault
 refused header =
     if nat_lt 7 (kind header) || ((kind header == 7) && (minor header == 0)) then Some MessageType

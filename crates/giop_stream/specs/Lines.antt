@@ -4,10 +4,10 @@ use Rattle.std.specs.Prelude.{ℕ, zero, suc, Bool, true, false, ◌&&◌, ◌||
 use Rattle.giop_checkpoint.specs.declared.fault.StreamFault.{StreamFault}
 use Rattle.giop_stream.specs.declared.fault.FramingFault.{FramingFault}
 use Rattle.giop_stream.specs.Framing.{cut}
-use Rattle.giop_message.specs.Phases.{unbroken}
+use Rattle.giop_message.specs.Phases.{Phase, unbroken}
 use Rattle.giop_message.specs.MessageReader.{LineClass, Value, Call, Rest, Fault, End, MessageReader, is_last}
 use Rattle.giop_stream.specs.Rules.{Rules}
-use Rattle.giop_stream.specs.Events.{Event, EventKind, Begins, Takes, Opens, Continues, Cancelled, Faults, Closes, events, joined}
+use Rattle.giop_stream.specs.Events.{Event, EventKind, Begins, Takes, Opens, Continues, Seams, Cancelled, Faults, Closes, events, joined, phase_of}
 
 -- The classes of lines. A framing fault has its class before the rest, so that the rest, the end
 -- and the other faults of its octet come after it.
@@ -67,21 +67,34 @@ has_class c l = is_of c (class_of l.content)
 unfoldable pub line : Event → Content → StreamLine
 line e content = record { place = e.place; number = e.subject.number; content = content }
 
--- The lines of one event. Its message has the octets `so_far` before the event, and the octets
--- `all` in the whole stream.
-unfoldable pub lines_of_event : MessageReader → Event → List ℕ → List ℕ → EventKind →
-    List StreamLine
+-- what is kept of a message: its octets after the header, and what padding is counted by in them
+pub record Kept : Type 0 where
+  pub octets : List ℕ
+  pub phase : Phase
+
+-- of a message that has begun
+abbrev pub nothing_kept : Kept
+nothing_kept = record { octets = []; phase = unbroken }
+
+-- what these events keep of the message of this number
+abbrev pub kept_of : ℕ → List Event → Kept
+kept_of i es = record { octets = joined i es; phase = phase_of i es }
+
+-- The lines of one event. Of its message `so_far` is kept before the event, and `all` of the whole
+-- stream.
+unfoldable pub lines_of_event : MessageReader → Event → Kept → Kept → EventKind → List StreamLine
 lines_of_event R e so_far all Begins = line e (Started e.subject.header) ∷ []
 lines_of_event R e so_far all (Takes x) =
     map (λ r. line e (Said r.line_class r.text))
-    (filter (λ r. r.at == suc (length so_far))
-    (R.reads unbroken e.subject.number e.subject.header all))
+    (filter (λ r. r.at == suc (length so_far.octets))
+    (R.reads all.phase e.subject.number e.subject.header all.octets))
 lines_of_event R e so_far all (Opens key) = []
 lines_of_event R e so_far all (Continues i) = line e (ContinuesMessage i) ∷ []
+lines_of_event R e so_far all Seams = []
 lines_of_event R e so_far all (Cancelled j) = line e (CancelledBy j) ∷ []
 lines_of_event R e so_far all (Faults fault) = line e (Faulted fault) ∷ []
 lines_of_event R e so_far all Closes = map (λ l. line e (Said l.0 l.1))
-    (R.closes unbroken e.subject.number e.subject.header so_far)
+    (R.closes so_far.phase e.subject.number e.subject.header so_far.octets)
 
 -- The lines of these events. The events before them are `past`, and those of the whole stream are
 -- `all`.
@@ -89,7 +102,7 @@ unfoldable pub lines_of_events : MessageReader → List Event → List Event →
     List StreamLine
 lines_of_events R all past [] = []
 lines_of_events R all past (e ∷ es) =
-    lines_of_event R e (joined e.subject.number past) (joined e.subject.number all) e.what
+    lines_of_event R e (kept_of e.subject.number past) (kept_of e.subject.number all) e.what
     ++ lines_of_events R all (past ++ e ∷ []) es
 
 -- Lines in the order of their classes; and lines up to this place in the order of places, and at
@@ -124,7 +137,7 @@ up_to_last_line is_over (l ∷ ls) =
 -- the lines of the messages
 unfoldable pub lines_of_messages : Rules → List ℕ → List StreamLine
 lines_of_messages R p =
-    let all = events R.most p in
+    let all = events R p in
     up_to_last_line (λ i. false) (in_order (length p) (lines_of_events R.reading all [] all))
 
 unfoldable pub stop_line : Option (ℕ × StreamFault) → List StreamLine

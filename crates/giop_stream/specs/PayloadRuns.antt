@@ -6,6 +6,7 @@ use Rattle.giop_message.specs.Signatures.{Answers}
 use Rattle.giop_message.specs.ReaderOfTable.{message_reader}
 use Rattle.giop_stream.specs.Events.{MessageKey, Takes}
 use Rattle.giop_stream.specs.Effects.{Effect, no_effect, then_effect, Part, no_part, then_part, part_of, event, effect_to}
+use Rattle.giop_stream.specs.Lines.{Kept}
 use Rattle.giop_stream.specs.OpenSlots.{Tracked}
 
 -- The octets come after `before` octets of the stream, and are contents of their owner.
@@ -15,9 +16,9 @@ run_effect C l before c owner_of_next (x ∷ xs) =
     let one = effect_to C l (suc before) c owner_of_next (Takes x) in
     then_effect one (run_effect C l (suc before) one.tracked owner_of_next xs)
 
--- the same for the owner alone, which has read the octets `o`, unless it is over
-unfoldable pub run_part : Table → Answers → ℕ → MessageKey → Option (List ℕ) → List ℕ → Part
+-- the same for the owner alone, of which `o` is kept, unless it is over
+unfoldable pub run_part : Table → Answers → ℕ → MessageKey → Option Kept → List ℕ → Part
 run_part C l before w o [] = no_part o
 run_part C l before w o (x ∷ xs) =
     let one = part_of (message_reader C l) (event (suc before) w (Takes x)) o in
-    then_part one (run_part C l (suc before) w one.octets xs)
+    then_part one (run_part C l (suc before) w one.kept xs)

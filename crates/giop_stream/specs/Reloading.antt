@@ -1,20 +1,24 @@
 -- The fields of an engine that the parts of a checkpoint give, and what is known of its records
 -- while they are read (state).
-use Rattle.std.specs.Prelude.{◌≡◌, ◌⊎◌, ℕ, ◌-◌, List, [], ◌∷◌, ◌++◌, length, flat_map, Option, Some, None, nat_lt, if◌then◌else◌}
+use Rattle.std.specs.Prelude.{◌≡◌, ◌≤◌, ◌⊎◌, ℕ, ◌+◌, ◌-◌, List, [], ◌∷◌, ◌++◌, length, flat_map, Option, Some, None, nat_lt, true, if◌then◌else◌}
 use Rattle.std.specs.List.{AllByRecursion as Each}
 use Rattle.giop_sig.specs.Table.{Table}
 use Rattle.giop_message.specs.Headers.{size}
+use Rattle.giop_message.specs.Phases.{Phase, unbroken}
 use Rattle.giop_message.specs.Signatures.{Answers}
 use Rattle.giop_message.specs.declared.message.Message.{Message}
 use Rattle.giop_checkpoint.specs.declared.fault.StreamFault.{StreamFault}
 use Rattle.giop_checkpoint.specs.declared.fixed.NextOctet.{NextOctet}
 use Rattle.giop_checkpoint.specs.declared.fixed.NextOctet.TheVariants.{Header, Payload, Stopped}
 use Rattle.giop_checkpoint.specs.declared.record.FirstRecord.{FirstRecord}
+use Rattle.giop_checkpoint.specs.declared.record.RecordKind.TheVariants as record_kinds
 use Rattle.giop_checkpoint.specs.Records.{Entry, entry_octets}
 use Rattle.giop_stream.specs.declared.slots.Slots.{Slots}
 use Rattle.giop_stream.specs.declared.slots.PayloadOwner.{PayloadOwner}
 use Rattle.giop_stream.specs.declared.slots.PayloadOwner.TheVariants.{Open}
+use Rattle.giop_stream.specs.Rules.{joins_by}
 use Rattle.giop_stream.specs.Events.{MessageKey}
+use Rattle.giop_stream.specs.Lines.{Kept}
 use Rattle.giop_stream.specs.OpenSlots.{Slot as Held}
 use Rattle.giop_stream.specs.SlotsRepresent.{OpenEntry, open_entry, RepresentsMessage, IsReady, IsSlot, AreSlots, index_of, current_of}
 use Rattle.giop_stream.specs.Checkpoint.{IsOpen, IsCurrent, AreEntries}
@@ -46,8 +50,36 @@ owner_by (Some k) many current = if nat_lt k many then Open (Some k) else curren
 
 -- The owner is the current message, which represents these octets of this message, or there is
 -- none.
-abbrev pub IsCurrentOwner : Table → Answers → PayloadOwner → MessageKey → Option (List ℕ) → Type 0
-IsCurrentOwner C l of w xs = (index_of of ≡ None) × RepresentsMessage C l (current_of of) w xs
+abbrev pub IsCurrentOwner : Table → Answers → PayloadOwner → MessageKey → Option Kept → Type 0
+IsCurrentOwner C l of w known = (index_of of ≡ None) × RepresentsMessage C l (current_of of) w known
+
+-- ---- what a message may be that is read again
+
+-- no Fragment of 1.1 was joined to the message
+abbrev pub IsUnbroken : Option Kept → Type 0
+IsUnbroken None = Unit {0}
+IsUnbroken (Some kept) = kept.phase ≡ unbroken
+
+-- only where Fragments of 1.1 are joined, a message is open without a key; they are joined to no
+-- other message
+abbrev pub MayBeOpen : Table → Option ℕ → Option Kept → Type 0
+MayBeOpen C None known = joins_by C ≡ true
+MayBeOpen C (Some id) known = IsUnbroken known
+
+-- how many of these have no key
+abbrev pub lacks_key : Option ℕ → ℕ
+lacks_key None = 1
+lacks_key (Some id) = 0
+
+abbrev pub without_key : {A : Type 0} → (A → Option ℕ) → List A → ℕ
+without_key key [] = 0
+without_key key (x ∷ xs) = lacks_key (key x) + without_key key xs
+
+-- There is room for these open messages, and with them at most one has no key.
+pub record HasRoomFor (s : Slots) (held : List Held) : Type 0 where
+  pub room : length s.slots.entries + length held ≤ s.slots.most
+  pub one : without_key (λ slot. slot.key) s.slots.entries
+      + without_key (λ slot. slot.open_as.key) held ≤ 1
 
 -- ---- a record
 
@@ -57,10 +89,16 @@ pub record IsEntry (first : FirstRecord) (e : Entry) : Type 0 where
   pub message : first.message ≡ e.message
   pub frames : first.frames.now ≡ e.frames
 
+-- the record may be that of a message by which padding is counted so: Fragments of 1.1 are joined
+-- only to an open message without a key
+abbrev pub MayHaveSeams : FirstRecord → Phase → Type 0
+MayHaveSeams first phase =
+    (first.«record».record_kind ≡ record_kinds.OpenWithoutId) ⊎ (phase ≡ unbroken)
+
 -- the open message that a record gives
-abbrev pub pushed : FirstRecord → ℕ → Option Message → OpenEntry
-pushed first id message =
-    open_entry id first.«record».number first.«record».header message
+abbrev pub pushed : FirstRecord → Option ℕ → Option Message → OpenEntry
+pushed first key message =
+    open_entry key first.«record».number first.«record».header message
 
 -- The record is the entry of an open message with these octets.
 pub record IsOpenEntry (C : Table) (l : Answers) (at : ℕ) (first : FirstRecord) (held : Held) : Type
@@ -70,16 +108,18 @@ pub record IsOpenEntry (C : Table) (l : Answers) (at : ℕ) (first : FirstRecord
   pub entry_is : IsOpen kept entry
   pub read : IsEntry first entry
   pub slot_is : IsSlot C l kept held
+  pub may : MayBeOpen C held.open_as.key held.kept
   pub ready : IsReady C at kept.value.message
 
 -- The record is the entry of the current message with these octets.
 pub record IsCurrentEntry (C : Table) (l : Answers) (at : ℕ) (first : FirstRecord) (w : MessageKey)
-    (xs : Option (List ℕ)) : Type 0 where
+    (known : Option Kept) : Type 0 where
   pub message : Message
   pub entry : Entry
   pub entry_is : IsCurrent message entry
   pub read : IsEntry first entry
-  pub own_is : RepresentsMessage C l (Some message) w xs
+  pub own_is : RepresentsMessage C l (Some message) w known
+  pub whole : IsUnbroken known
   pub ready : IsReady C at (Some message)
 
 -- ---- the records that are left
@@ -87,22 +127,24 @@ pub record IsCurrentEntry (C : Table) (l : Answers) (at : ℕ) (first : FirstRec
 -- These octets are this number of entries, of these open messages and this current one.
 pub record AreEntriesOf (C : Table) (l : Answers) (at count : ℕ) (octets : List ℕ)
     (kept : List OpenEntry) (held : List Held) (current : Option Message) (w : MessageKey)
-    (xs : Option (List ℕ)) (entries : List Entry) : Type 0 where
+    (known : Option Kept) (entries : List Entry) : Type 0 where
   pub entries_are : AreEntries kept current entries
   pub count_is : count ≡ length entries
   pub octets_are : octets ≡ flat_map entry_octets entries
   pub slots_are : AreSlots C l kept held
-  pub own_is : RepresentsMessage C l current w xs
+  pub each_may : Each (λ slot. MayBeOpen C slot.open_as.key slot.kept) held
+  pub own_is : RepresentsMessage C l current w known
+  pub own_whole : IsUnbroken known
   pub each_ready : Each (λ slot. IsReady C at slot.value.message) kept
   pub own_ready : IsReady C at current
 
 -- These octets are entries of open messages that represent these, and of a current one.
 pub record AreLeft (C : Table) (l : Answers) (at count : ℕ) (octets : List ℕ) (held : List Held)
-    (w : MessageKey) (xs : Option (List ℕ)) : Type 0 where
+    (w : MessageKey) (known : Option Kept) : Type 0 where
   pub kept : List OpenEntry
   pub current : Option Message
   pub entries : List Entry
-  pub are : AreEntriesOf C l at count octets kept held current w xs entries
+  pub are : AreEntriesOf C l at count octets kept held current w known entries
 
 -- These open messages were added.
 pub record HasAdded (C : Table) (l : Answers) (before after : Slots) (held : List Held) : Type 0
@@ -114,25 +156,25 @@ pub record HasAdded (C : Table) (l : Answers) (before after : Slots) (held : Lis
 -- The first of this number of records was added. It is the record of an open message, and `rest`
 -- are the others.
 pub record HasAddedOpen (C : Table) (l : Answers) (at count : ℕ) (before after : Slots)
-    (rest : List ℕ) (held : List Held) (w : MessageKey) (xs : Option (List ℕ)) : Type 0 where
+    (rest : List ℕ) (held : List Held) (w : MessageKey) (known : Option Kept) : Type 0 where
   pub here : Held
   pub others : List Held
   pub held_are : held ≡ here ∷ others
   pub added : HasAdded C l before after (here ∷ [])
   pub same_owner : after.owner ≡ before.owner
-  pub left : AreLeft C l at (count - 1) rest others w xs
+  pub left : AreLeft C l at (count - 1) rest others w known
 
 -- The first record was added. It is the record of the current message, which is the last one.
 pub record HasAddedOwn (C : Table) (l : Answers) (count : ℕ) (before after : Slots)
-    (held : List Held) (w : MessageKey) (xs : Option (List ℕ)) : Type 0 where
+    (held : List Held) (w : MessageKey) (known : Option Kept) : Type 0 where
   pub no_held : held ≡ []
   pub same : after.slots ≡ before.slots
-  pub is : IsCurrentOwner C l after.owner w xs
+  pub is : IsCurrentOwner C l after.owner w known
   pub last : count - 1 ≡ 0
 
 -- The first record was added: the record of an open message, or the record of the current one.
 abbrev pub HasAddedFirst : Table → Answers → ℕ → ℕ → Slots → Slots → List ℕ → List Held → MessageKey
-    → Option (List ℕ) → Type 0
-HasAddedFirst C l at count before after rest held w xs =
-    HasAddedOpen C l at count before after rest held w xs
-    ⊎ HasAddedOwn C l count before after held w xs
+    → Option Kept → Type 0
+HasAddedFirst C l at count before after rest held w known =
+    HasAddedOpen C l at count before after rest held w known
+    ⊎ HasAddedOwn C l count before after held w known

@@ -1,39 +1,41 @@
 -- When the code's slots represent what is tracked of the messages of a stream (state).
-use Rattle.std.specs.Prelude.{◌≡◌, ◌<◌, ℕ, cond, List, [], ◌∷◌, Option, Some, None, slice_get}
-use Rattle.std.specs.List.{AllByRecursion as Each}
+use Rattle.std.specs.Prelude.{◌≡◌, ◌<◌, ℕ, cond, List, [], ◌∷◌, Option, Some, None, is_none, slice_get, if◌then◌else◌}
+use Rattle.std.specs.List.{position_from, AllByRecursion as Each}
 use Rattle.giop_sig.specs.Table.{Table}
-use Rattle.giop_message.specs.Phases.{unbroken}
 use Rattle.giop_message.specs.declared.message.Message.{Message as CodeMessage}
 use Rattle.giop_message.specs.Signatures.{Answers}
 use Rattle.giop_message.specs.MessageState.{Follows, Fits, reach}
-use Rattle.giop_entry_table.specs.declared.entry_table.Entry.{Entry}
+use Rattle.giop_entry_table.specs.OptionalIds.{is_id}
+use Rattle.giop_entry_table.specs.declared.optional_ids.OptionalIdEntry.{OptionalIdEntry as Entry}
 use Rattle.giop_stream.specs.declared.slots.Slot.{Slot as Contents}
 use Rattle.giop_stream.specs.declared.slots.Slots.{Slots}
 use Rattle.giop_stream.specs.declared.slots.PayloadOwner.{PayloadOwner}
 use Rattle.giop_stream.specs.declared.slots.PayloadOwner.TheVariants.{Current, Open}
 use Rattle.giop_stream.specs.Events.{MessageKey}
 use Rattle.giop_stream.specs.Events as events
+use Rattle.giop_stream.specs.Lines.{Kept}
 use Rattle.giop_stream.specs.OpenSlots.{Slot, Tracked, slots_at, IsNotOpen}
 
--- An open message, under its request id.
+-- An open message, under its key.
 abbrev pub OpenEntry : Type 0
 OpenEntry = Entry Contents
 
-abbrev pub open_entry : ℕ → ℕ → List ℕ → Option CodeMessage → OpenEntry
-open_entry id number header message =
-    record { key = id; value = record { number = number; header = header; message = message } }
+abbrev pub open_entry : Option ℕ → ℕ → List ℕ → Option CodeMessage → OpenEntry
+open_entry key number header message =
+    record { key = key; value = record { number = number; header = header; message = message } }
 
 -- the same open message with another state of its reading
 abbrev pub with_message : OpenEntry → Option CodeMessage → OpenEntry
 with_message slot message = open_entry slot.key slot.value.number slot.value.header message
 
--- The code's message has read these octets. If the message is over, there is none.
-abbrev pub RepresentsMessage : Table → Answers → Option CodeMessage → MessageKey → Option (List ℕ) →
+-- The code's message has read the octets that are kept. If the message is over, there is none.
+abbrev pub RepresentsMessage : Table → Answers → Option CodeMessage → MessageKey → Option Kept →
     Type 0
-RepresentsMessage C l (Some m) w (Some xs) = Follows C l unbroken w.number w.header m xs
+RepresentsMessage C l (Some m) w (Some kept) =
+    Follows C l kept.phase w.number w.header m kept.octets
 RepresentsMessage C l None w None = Unit {0}
 RepresentsMessage C l (Some m) w None = ⊥
-RepresentsMessage C l None w (Some xs) = ⊥
+RepresentsMessage C l None w (Some kept) = ⊥
 
 -- A message can take the octet at this place: it fits the table, and has fewer octets than the
 -- stream has up to this place.
@@ -65,8 +67,8 @@ pub record KeepsRoom (old new : Slots) : Type 0 where
 pub record IsSlot (C : Table) (l : Answers) (kept : OpenEntry) (slot : Slot) : Type 0 where
   pub number : kept.value.number ≡ slot.open_as.opener.number
   pub header : kept.value.header ≡ slot.open_as.opener.header
-  pub key : slot.open_as.key ≡ Some kept.key
-  pub message : RepresentsMessage C l kept.value.message slot.open_as.opener slot.octets
+  pub key : kept.key ≡ slot.open_as.key
+  pub message : RepresentsMessage C l kept.value.message slot.open_as.opener slot.kept
 
 abbrev pub AreSlots : Table → Answers → List OpenEntry → List Slot → Type 0
 AreSlots C l [] [] = Unit {0}
@@ -85,12 +87,20 @@ PayloadBelongs C l None message c None = message ≡ None
 PayloadBelongs C l None message c (Some w) =
     IsNotOpen w.number c.still_open × RepresentsMessage C l message w (c.known w.number)
 
--- the slots are those of the open messages, with what is kept of each of them, and the owner is
--- this message
+-- the slots are those of the open messages, with what is kept of each of them; it is known whether
+-- Fragments of 1.1 may belong to several messages; and the owner is this message
 pub record SlotsRepresent (C : Table) (l : Answers) (s : Slots) (c : Tracked)
     (owner_of_next : Option MessageKey) : Type 0 where
   pub slots : AreSlots C l s.slots.entries (slots_at c)
+  pub mixed : s.is_mixed ≡ c.mixed
   pub owner : PayloadBelongs C l (index_of s.owner) (current_of s.owner) c owner_of_next
+
+-- the index of the open message under this key; of the one without a key there is none if
+-- Fragments of 1.1 aren't joined any more
+abbrev pub index_under : Slots → Option ℕ → Option ℕ
+index_under s (Some id) = position_from (λ slot. is_id id slot.key) 0 s.slots.entries
+index_under s None =
+    if s.is_mixed then None else position_from (λ slot. is_none slot.key) 0 s.slots.entries
 
 -- the slots hold no message
 pub record IsBare (s : Slots) : Type 0 where

@@ -1,23 +1,24 @@
 //! What an octet of a message does: it adds to a message, or opens, continues, cancels, faults or closes one.
 
-ghost use Rattle.std.specs.Prelude.{Option, List, [], ◌∷◌, ◌++◌, ◌≡◌, ◌==◌, ◌&&◌, not, ◌+◌, ◌-◌, ◌<◌, ◌≤◌, ◌^◌, ℕ, suc, length, take, true, false, Some, None, OnOk, IfOk, if◌then◌else◌, slice_get};
+ghost use Rattle.std.specs.Prelude.{Option, List, [], ◌∷◌, ◌++◌, ◌≡◌, ◌==◌, ◌&&◌, not, ◌+◌, ◌-◌, ◌<◌, ◌≤◌, ◌^◌, ℕ, suc, length, take, true, false, Some, None, is_none, IfNone, OnOk, IfOk, if◌then◌else◌, slice_get};
 ghost use Rattle.giop_sig.specs.Table.{Table};
 ghost use Rattle.giop_message.specs.Signatures.{Answers};
 ghost use Rattle.giop_message.specs.ReaderOfTable.{message_reader};
 ghost use Rattle.giop_message.specs.MessageState.{AreKnown};
-ghost use Rattle.giop_message.specs.Headers.{size, is_fragment, is_opener, is_cancel};
-ghost use Rattle.giop_stream.specs.Kinds.{is_old};
+ghost use Rattle.giop_message.specs.Headers.{size, is_cancel};
+ghost use Rattle.giop_stream.specs.Kinds.{is_old_fragment, is_old, has_fragments, is_any_fragment};
+ghost use Rattle.giop_stream.specs.declared.fault.FramingFault.TheVariants.{OldFragment, NoOpen};
 ghost use Rattle.giop_stream.specs.Rules.{most_open};
 ghost use Rattle.giop_stream.specs.Framing.{CutMessage, with_payload};
-ghost use Rattle.giop_stream.specs.Events.{MessageKey, Open, Rising, events_at_header, events_at_name, events_at_end, events_of_octet, message_key, opener_of};
-ghost use Rattle.giop_stream.specs.Effects.{effects, with_octet};
-ghost use Rattle.giop_stream.specs.OpenSlots.{Tracked};
-ghost use Rattle.giop_stream.specs.SlotsRepresent.{SlotsRepresent, AreReady, KeepsRoom};
+ghost use Rattle.giop_stream.specs.Events.{MessageKey, Open, Opens, Seams, Rising, events_at_header, events_at_name, events_at_end, message_key, now_of, taken, refusal, cancel_of, open_under, opener_of};
+ghost use Rattle.giop_stream.specs.Effects.{effects, effect_to, with_octet};
+ghost use Rattle.giop_stream.specs.OpenSlots.{Tracked, IsNotOpen};
+ghost use Rattle.giop_stream.specs.SlotsRepresent.{SlotsRepresent, index_under, AreReady, KeepsRoom};
 ghost use Rattle.giop_stream.specs.DoesEffect.{DoesEffect, one_if, never, all};
 ghost use Rattle.giop_stream.specs.HeaderEndsOfStream.{owner_header_ends};
 ghost use Rattle.giop_message.specs.HeaderEnds.{AgreesAtEnds, after_ends};
 ghost use Rattle.giop_message.specs.DueOctets.{TakesFront, StaysUndue};
-ghost use Rattle.giop_stream.specs.PayloadOwner.{IsAtRequestId, IsBeforeMessage, IsAtHeader, IsBeforeOctets, IsAfterTake, IsAtOctet, owner_after_name, owner_after, name_events, end_events, octets_effect};
+ghost use Rattle.giop_stream.specs.PayloadOwner.{IsAtName, IsBeforeMessage, IsAtHeader, IsBeforeOctets, IsAfterTake, IsAtOctet, before_with, owner_after_name, owner_after, name_events, end_events, octet_effect, octets_effect};
 ghost use Rattle.giop_stream.specs.EngineState.{opener_key, owner_of_next};
 ghost use Rattle.giop_stream.specs.Continuation.{IsContinuing};
 ghost use Rattle.giop_stream.specs.Further.{further};
@@ -26,8 +27,8 @@ use crate::current::Current;
 use crate::fault::FramingFault;
 use crate::header::size_of;
 use crate::kinds::{
-    is_cancel, is_followed, is_fragment, is_old, is_old_fragment, is_opener, is_short,
-    may_be_cancelled, refused, same_order,
+    is_cancel, is_followed, is_fragment, is_old, is_old_fragment, is_old_opener, is_opener,
+    is_short, may_be_cancelled, refused, same_order,
 };
 use crate::lines::start_line;
 use crate::slots::Slots;
@@ -35,29 +36,152 @@ use giop_message::{Correspondent, order_of};
 use giop_print::{Out, OutFault, continues_line};
 use giop_sig::Catalogue;
 
-/// Opens a message with fragments, at its request id, or faults it.
+/// Whether nobody can tell to which message the Fragments of this one would belong.
+fn is_doubtful(slots: &Slots, id: Option<u32>) -> bool
+    ensures { result ≡ (is_none id && slots.now.is_mixed) }
+{
+    id.is_none() && slots.is_mixed
+}
+
+/// The fault of a message with fragments if another one is open under its request id, or, as it, without one.
+fn taken(id: Option<u32>) -> FramingFault
+    ensures { result ≡ taken id }
+{
+    match id {
+        Some(_) => FramingFault::IdOpen,
+        None => FramingFault::OldFragment,
+    }
+}
+
+/// Why a message with fragments can't be opened under this request id, or without one.
+fn refusal(slots: &Slots, id: Option<u32>) -> Option<FramingFault>
+    ensures value { (C : Table) (l : Answers) (c : Tracked) (owner : Option MessageKey) →
+        SlotsRepresent C l slots.now c owner →
+        result ≡ refusal slots.now.slots.most (before_with C l c) id
+        (open_under (before_with C l c) id) }
+    ensures room { IfNone result (length slots.now.slots.entries < slots.now.slots.most) }
+    ensures only { IfNone result (index_under slots.now id ≡ None) }
+    ensures joined { IfNone result ((is_none id && slots.now.is_mixed) ≡ false) }
+{
+    if is_doubtful(slots, id) {
+        return Some(FramingFault::OldFragment);
+    }
+    if slots.find_by(id).is_some() {
+        return Some(taken(id));
+    }
+    if slots.is_full() {
+        return Some(FramingFault::TooManyOpen);
+    }
+    None
+}
+
+/// Faults a message with fragments that can't be opened. If its Fragments have no id, none is joined from now on.
+fn refuse<O: Out>(
+    slots: &mut Slots,
+    now: Current,
+    id: Option<u32>,
+    fault: FramingFault,
+    out: &mut O,
+) -> Result<bool, OutFault>
+    ensures does { (C : Table) (l : Answers) (c : Tracked) (m : CutMessage) →
+        IsAtName C l slots.old c m now id → has_fragments m.header ≡ true →
+        Some fault ≡ refusal slots.old.slots.most (before_with C l c) id
+        (open_under (before_with C l c) id) →
+        DoesEffect C l one_if result (O.log out.old) (O.log out.new) slots.new
+        (effects (message_reader C l) c (events_at_name slots.old.slots.most (before_with C l c) m))
+        (Some (message_key m)) }
+    ensures room { KeepsRoom slots.old slots.new }
+{
+    match id {
+        Some(_) => slots.fault_message(now.number, fault, now.place, out),
+        None => {
+            slots.mix();
+            slots.fault_message(now.number, fault, now.place, out)
+        }
+    }
+}
+
+/// Opens a message with fragments under its request id, or without one.
+#[inline(always)]
+fn open(slots: &mut Slots, now: Current, id: Option<u32>)
+    requires room { length slots.old.slots.entries < slots.old.slots.most }
+    requires only { index_under slots.old id ≡ None }
+    requires joined { (is_none id && slots.old.is_mixed) ≡ false }
+    ensures kept { (C : Table) (l : Answers) (c : Tracked) (w : MessageKey) (place : ℕ) →
+        SlotsRepresent C l slots.old c (Some w) → IsNotOpen w.number c.still_open →
+        w.number ≡ now.number → w.header ≡ now.header →
+        SlotsRepresent C l slots.new (effect_to C l place c (Some w) (Opens id)).tracked (Some w) }
+    ensures room { KeepsRoom slots.old slots.new }
+{
+    match id {
+        Some(id) => slots.open(now.number, now.header, id),
+        None => slots.open_without_id(now.number, now.header),
+    }
+}
+
+/// Opens a message with fragments, at its request id, or at its header if its Fragments have none; or faults it.
 fn open_message<O: Out>(
+    slots: &mut Slots,
+    now: Current,
+    id: Option<u32>,
+    out: &mut O,
+) -> Result<bool, OutFault>
+    ensures does { (C : Table) (l : Answers) (c : Tracked) (m : CutMessage) →
+        IsAtName C l slots.old c m now id → has_fragments m.header ≡ true →
+        DoesEffect C l one_if result (O.log out.old) (O.log out.new) slots.new
+        (effects (message_reader C l) c (events_at_name slots.old.slots.most (before_with C l c) m))
+        (Some (message_key m)) }
+    ensures room { KeepsRoom slots.old slots.new }
+{
+    match refusal(slots, id) {
+        Some(fault) => refuse(slots, now, id, fault, out),
+        None => {
+            open(slots, now, id);
+            Ok(false)
+        }
+    }
+}
+
+/// Closes the open message at this index, at the request id of a CancelRequest, if it is one that may be cancelled.
+fn cancel_at<O: Out>(slots: &mut Slots, k: usize, now: Current, out: &mut O) -> Result<(), OutFault>
+    requires { k < length slots.old.slots.entries }
+    ensures does { (C : Table) (l : Answers) (c : Tracked) (m : CutMessage) (i : Option ℕ)
+        (o : Open) →
+        IsAtName C l slots.old c m now i → is_cancel m.header ≡ true →
+        slice_get c.still_open k ≡ Some o →
+        DoesEffect C l never result (O.log out.old) (O.log out.new) slots.new
+        (effects (message_reader C l) c (cancel_of (now_of m) (Some o))) (Some (message_key m)) }
+    ensures room { KeepsRoom slots.old slots.new }
+{
+    if may_be_cancelled(&slots.at(k).header) {
+        return slots.cancel(k, now.number, now.place, out);
+    }
+    Ok(())
+}
+
+/// Closes the message that Fragments of GIOP 1.1 continue, at the request id of a CancelRequest, if this is its id.
+fn cancel_pending<O: Out>(
     slots: &mut Slots,
     now: Current,
     id: u32,
     out: &mut O,
-) -> Result<bool, OutFault>
+) -> Result<(), OutFault>
     ensures does { (C : Table) (l : Answers) (c : Tracked) (m : CutMessage) →
-        IsAtRequestId C l slots.old c m now id →
-        is_fragment m.header ≡ false → is_opener m.header ≡ true →
-        DoesEffect C l one_if result (O.log out.old) (O.log out.new) slots.new
-        (effects (message_reader C l) c (events_at_name slots.old.slots.most c.still_open m))
+        IsAtName C l slots.old c m now (Some id) →
+        is_any_fragment m.header ≡ false → has_fragments m.header ≡ false →
+        is_cancel m.header ≡ true → opener_of (before_with C l c) m ≡ None →
+        DoesEffect C l never result (O.log out.old) (O.log out.new) slots.new
+        (effects (message_reader C l) c (events_at_name slots.old.slots.most (before_with C l c) m))
         (Some (message_key m)) }
     ensures room { KeepsRoom slots.old slots.new }
 {
-    if slots.find(id).is_some() {
-        return slots.fault_message(now.number, FramingFault::IdOpen, now.place, out);
+    let Some(k) = slots.pending() else {
+        return Ok(());
+    };
+    if slots.asks(k, id) {
+        return cancel_at(slots, k, now, out);
     }
-    if slots.is_full() {
-        return slots.fault_message(now.number, FramingFault::TooManyOpen, now.place, out);
-    }
-    slots.open(now.number, now.header, id);
-    Ok(false)
+    Ok(())
 }
 
 /// Closes the open message with this request id, at the request id of a CancelRequest.
@@ -68,35 +192,61 @@ fn cancel_message<O: Out>(
     out: &mut O,
 ) -> Result<(), OutFault>
     ensures does { (C : Table) (l : Answers) (c : Tracked) (m : CutMessage) →
-        IsAtRequestId C l slots.old c m now id →
-        is_fragment m.header ≡ false → is_opener m.header ≡ false → is_cancel m.header ≡ true →
+        IsAtName C l slots.old c m now (Some id) →
+        is_any_fragment m.header ≡ false → has_fragments m.header ≡ false →
+        is_cancel m.header ≡ true →
         DoesEffect C l never result (O.log out.old) (O.log out.new) slots.new
-        (effects (message_reader C l) c (events_at_name slots.old.slots.most c.still_open m))
+        (effects (message_reader C l) c (events_at_name slots.old.slots.most (before_with C l c) m))
         (Some (message_key m)) }
     ensures room { KeepsRoom slots.old slots.new }
 {
-    let Some(k) = slots.find(id) else {
-        return Ok(());
-    };
-    if may_be_cancelled(&slots.at(k).header) {
-        return slots.cancel(k, now.number, now.place, out);
+    match slots.find(id) {
+        Some(k) => cancel_at(slots, k, now, out),
+        None => cancel_pending(slots, now, id, out),
     }
-    Ok(())
+}
+
+/// The fault of a Fragment that continues no open message.
+fn unopened(slots: &Slots, now: Current) -> FramingFault
+    ensures { result ≡ (if is_old_fragment now.header && slots.now.is_mixed then OldFragment
+        else NoOpen) }
+{
+    if is_old_fragment(&now.header) && slots.is_mixed {
+        FramingFault::OldFragment
+    } else {
+        FramingFault::NoOpen
+    }
 }
 
 /// Faults a Fragment that continues no open message. The rest of its payload belongs to no message.
 fn fault_unopened<O: Out>(slots: &mut Slots, now: Current, out: &mut O) -> Result<bool, OutFault>
-    ensures does { (C : Table) (l : Answers) (c : Tracked) (m : CutMessage) (id : ℕ) →
-        IsAtRequestId C l slots.old c m now id →
-        is_fragment m.header ≡ true → opener_of c.still_open m ≡ None →
+    ensures does { (C : Table) (l : Answers) (c : Tracked) (m : CutMessage) (id : Option ℕ) →
+        IsAtName C l slots.old c m now id →
+        is_any_fragment m.header ≡ true → opener_of (before_with C l c) m ≡ None →
         DoesEffect C l one_if result (O.log out.old) (O.log out.new) slots.new
-        (effects (message_reader C l) c (events_at_name slots.old.slots.most c.still_open m))
+        (effects (message_reader C l) c (events_at_name slots.old.slots.most (before_with C l c) m))
         None }
     ensures room { KeepsRoom slots.old slots.new }
 {
-    let faulted = slots.fault_message(now.number, FramingFault::NoOpen, now.place, out);
+    let fault = unopened(slots, now);
+    let faulted = slots.fault_message(now.number, fault, now.place, out);
     slots.set_no_owner();
     faulted
+}
+
+/// Notes that the payload of a Fragment of GIOP 1.1 begins at the next octet of its owner. Padding in a Fragment of GIOP
+/// 1.2 is counted on.
+fn seam_old(slots: &mut Slots, now: Current)
+    ensures kept { (C : Table) (l : Answers) (c : Tracked) (k : ℕ) (o : Open) →
+        SlotsRepresent C l slots.old c (Some o.opener) → slice_get c.still_open k ≡ Some o →
+        Rising c.still_open →
+        SlotsRepresent C l slots.new (if is_old now.header
+        then (effect_to C l now.place c (Some o.opener) Seams).tracked else c) (Some o.opener) }
+    ensures room { KeepsRoom slots.old slots.new }
+{
+    if is_old(&now.header) {
+        slots.seam();
+    }
 }
 
 /// Makes a Fragment continue the open message at this index.
@@ -112,10 +262,10 @@ pub fn continue_message<O: Out>(
         CutMessage)
         (o : Open) →
         IsContinuing C l slots.old c owner m now →
-        is_fragment m.header ≡ true → opener_of c.still_open m ≡ Some o →
+        is_any_fragment m.header ≡ true → opener_of (before_with C l c) m ≡ Some o →
         slice_get c.still_open k ≡ Some o →
         DoesEffect C l one_if result (O.log out.old) (O.log out.new) slots.new
-        (effects (message_reader C l) c (events_at_name slots.old.slots.most c.still_open m))
+        (effects (message_reader C l) c (events_at_name slots.old.slots.most (before_with C l c) m))
         (Some o.opener) }
     ensures room { KeepsRoom slots.old slots.new }
 {
@@ -123,27 +273,29 @@ pub fn continue_message<O: Out>(
     let (number, order) = (opener.number, order_of(&opener.header));
     slots.set_open_owner(k);
     continues_line(out, now.number, number)?;
+    seam_old(slots, now);
     if same_order(order_of(&now.header), order) {
         return Ok(false);
     }
     slots.fault_message(number, FramingFault::FragmentOrder, now.place, out)
 }
 
-/// Takes the request id of a Fragment: the rest of its payload belongs to the open message with this id.
+/// Takes the request id of a Fragment, or the header of one that has none: the rest of its payload belongs to the open
+/// message with this id.
 fn join_fragment<O: Out>(
     slots: &mut Slots,
     now: Current,
-    id: u32,
+    id: Option<u32>,
     out: &mut O,
 ) -> Result<bool, OutFault>
     ensures does { (C : Table) (l : Answers) (c : Tracked) (m : CutMessage) →
-        IsAtRequestId C l slots.old c m now id → is_fragment m.header ≡ true →
+        IsAtName C l slots.old c m now id → is_any_fragment m.header ≡ true →
         DoesEffect C l one_if result (O.log out.old) (O.log out.new) slots.new
-        (effects (message_reader C l) c (events_at_name slots.old.slots.most c.still_open m))
-        (opener_key (opener_of c.still_open m)) }
+        (effects (message_reader C l) c (events_at_name slots.old.slots.most (before_with C l c) m))
+        (opener_key (opener_of (before_with C l c) m)) }
     ensures room { KeepsRoom slots.old slots.new }
 {
-    match slots.find(id) {
+    match slots.find_by(id) {
         Some(k) => continue_message(slots, k, now, out),
         None => fault_unopened(slots, now, out),
     }
@@ -157,17 +309,17 @@ pub fn at_request_id<O: Out>(
     out: &mut O,
 ) -> Result<bool, OutFault>
     ensures does { (C : Table) (l : Answers) (c : Tracked) (m : CutMessage) →
-        IsAtRequestId C l slots.old c m now id →
+        IsAtName C l slots.old c m now (Some id) →
         DoesEffect C l one_if result (O.log out.old) (O.log out.new) slots.new
-        (effects (message_reader C l) c (events_at_name slots.old.slots.most c.still_open m))
-        (owner_after_name c.still_open m) }
+        (effects (message_reader C l) c (events_at_name slots.old.slots.most (before_with C l c) m))
+        (owner_after_name (before_with C l c) m) }
     ensures room { KeepsRoom slots.old slots.new }
 {
     if is_fragment(&now.header) {
-        return join_fragment(slots, now, id, out);
+        return join_fragment(slots, now, Some(id), out);
     }
     if is_opener(&now.header) {
-        return open_message(slots, now, id, out);
+        return open_message(slots, now, Some(id), out);
     }
     if !is_cancel(&now.header) {
         return Ok(false);
@@ -188,7 +340,8 @@ pub fn at_end<O: Out>(
     ensures does { (l : Answers) (c : Tracked) (m : CutMessage) →
         IsAtOctet catalogue.now l slots.old c m now → length m.payload ≡ size m.header →
         DoesEffect catalogue.now l one_if result (O.log out.old) (O.log out.new) slots.new
-        (effects (message_reader catalogue.now l) c (events_at_end c.still_open m)) None }
+        (effects (message_reader catalogue.now l) c
+        (events_at_end (before_with catalogue.now l c) m)) None }
     ensures room { KeepsRoom slots.old slots.new }
 {
     if is_short(&now.header) {
@@ -213,10 +366,10 @@ fn ends_request_id(now: Current) -> bool
 /// Does what an octet does if it is the last one of a request id. Returns whether a message is faulted.
 fn at_fourth_octet<O: Out>(slots: &mut Slots, now: Current, out: &mut O) -> Result<bool, OutFault>
     ensures does { (C : Table) (l : Answers) (c : Tracked) (m : CutMessage) →
-        IsAfterTake C l slots.old c m now →
+        IsAfterTake C l slots.old c m now → 0 < length m.payload →
         DoesEffect C l one_if result (O.log out.old) (O.log out.new) slots.new
-        (effects (message_reader C l) c (name_events slots.old.slots.most c.still_open m))
-        (owner_of_next c.still_open m) }
+        (effects (message_reader C l) c (name_events slots.old.slots.most (before_with C l c) m))
+        (owner_of_next (before_with C l c) m) }
     ensures room { KeepsRoom slots.old slots.new }
 {
     if ends_request_id(now) {
@@ -238,8 +391,9 @@ pub fn at_last_octet<O: Out>(
     ensures does { (l : Answers) (c : Tracked) (m : CutMessage) →
         IsAtOctet catalogue.now l slots.old c m now → length m.payload ≡ now.payload_count →
         DoesEffect catalogue.now l one_if result (O.log out.old) (O.log out.new) slots.new
-        (effects (message_reader catalogue.now l) c (end_events c.still_open m))
-        (owner_after c.still_open m) }
+        (effects (message_reader catalogue.now l) c
+        (end_events (before_with catalogue.now l c) m))
+        (owner_after (before_with catalogue.now l c) m) }
     ensures ready { AreReady catalogue.now (now.place + 1) slots.new }
     ensures most { slots.new.slots.most ≡ slots.old.slots.most }
 {
@@ -273,25 +427,29 @@ pub fn octets<O: Out, Q: Correspondent>(
     requires limit { before.place + length octets.now ≤ 2 ^ 48 }
     ensures known { AreKnown catalogue.now (Q.answer (Q.state correspondent.new)) }
     ensures does { (a : Answers) (c : Tracked) (m : CutMessage) →
-        SlotsRepresent catalogue.now a slots.old c (owner_of_next c.still_open m) →
+        SlotsRepresent catalogue.now a slots.old c
+        (owner_of_next (before_with catalogue.now a c) m) →
         Rising c.still_open →
         AgreesAtEnds Q.answer Q.notified catalogue.now (Q.state correspondent.old) a
-        (owner_header_ends c (owner_of_next c.still_open m) octets.now) →
+        (owner_header_ends c (owner_of_next (before_with catalogue.now a c) m) octets.now) →
         TakesFront (λ r. r.0) (StaysUndue Q.due Q.notified catalogue.now
-        (Q.state correspondent.old) (owner_header_ends c (owner_of_next c.still_open m)))
+        (Q.state correspondent.old)
+        (owner_header_ends c (owner_of_next (before_with catalogue.now a c) m)))
         (λ xs. (q : List ℕ) (x : ℕ) → xs ≡ q ++ x ∷ [] →
         (let now = further before (suc (length q)) in
         IsBeforeOctets catalogue.now a slots.old c m now q x →
         (let effect = octets_effect catalogue.now a slots.old.slots.most c m now q x in
         DoesEffect catalogue.now a (λ r. r.1) result (O.log out.old) (O.log out.new) slots.new
-        effect (owner_after effect.tracked.still_open
+        effect (owner_after (before_with catalogue.now a effect.tracked)
         (with_octet (with_payload m (m.payload ++ q)) x))))) result octets.now }
     ensures told { IfOk result (λ r. (a : Answers) (c : Tracked) (m : CutMessage) →
-        SlotsRepresent catalogue.now a slots.old c (owner_of_next c.still_open m) →
+        SlotsRepresent catalogue.now a slots.old c
+        (owner_of_next (before_with catalogue.now a c) m) →
         AgreesAtEnds Q.answer Q.notified catalogue.now (Q.state correspondent.old) a
-        (owner_header_ends c (owner_of_next c.still_open m) octets.now) →
+        (owner_header_ends c (owner_of_next (before_with catalogue.now a c) m) octets.now) →
         Q.state correspondent.new ≡ after_ends Q.notified catalogue.now
-        (Q.state correspondent.old) (owner_header_ends c (owner_of_next c.still_open m)
+        (Q.state correspondent.old)
+        (owner_header_ends c (owner_of_next (before_with catalogue.now a c) m)
         (take r.0 octets.now))) }
     ensures due { IfOk result (λ r. r.0 < length octets.now →
         Q.due (Q.state correspondent.new) ≡ true) }
@@ -332,23 +490,21 @@ fn begin_message<O: Out>(
     }
 }
 
-/// Refuses a message of GIOP 1.1 that has fragments, or is one, at the last octet of its header.
-/// Returns whether it does.
-fn refuses_old<O: Out>(slots: &mut Slots, now: Current, out: &mut O) -> Result<bool, OutFault>
+/// Does what the last octet of a header does to the open messages. Only messages of GIOP 1.1 with fragments, and their
+/// Fragments, have their place among them from there on. Returns whether a message is faulted.
+fn named_by_header<O: Out>(slots: &mut Slots, now: Current, out: &mut O) -> Result<bool, OutFault>
     ensures does { (C : Table) (l : Answers) (c : Tracked) (m : CutMessage) →
         IsAtHeader C l slots.old c m now →
         DoesEffect C l one_if result (O.log out.old) (O.log out.new) slots.new
-        (effects (message_reader C l) c (name_events slots.old.slots.most c.still_open m))
-        (owner_of_next c.still_open m) }
+        (effects (message_reader C l) c (name_events slots.old.slots.most (before_with C l c) m))
+        (owner_of_next (before_with C l c) m) }
     ensures room { KeepsRoom slots.old slots.new }
 {
-    if is_old_fragment(&now.header) {
-        let faulted = slots.fault_message(now.number, FramingFault::OldFragment, now.place, out);
-        slots.set_no_owner();
-        return faulted;
+    if is_old_opener(&now.header) {
+        return open_message(slots, now, None, out);
     }
-    if is_old(&now.header) {
-        return slots.fault_message(now.number, FramingFault::OldFragment, now.place, out);
+    if is_old_fragment(&now.header) {
+        return join_fragment(slots, now, None, out);
     }
     Ok(false)
 }
@@ -363,16 +519,15 @@ pub fn header<O: Out>(
     requires ready { AreReady catalogue.now now.place slots.old }
     ensures does { (l : Answers) (c : Tracked) (who : Option MessageKey) (m : CutMessage) →
         IsBeforeMessage catalogue.now l slots.old c who m now →
-        (let R = message_reader catalogue.now l in
-        let effect = effects R c (events_of_octet slots.old.slots.most c.still_open m) in
+        (let effect = octet_effect catalogue.now l slots.old.slots.most c m in
         DoesEffect catalogue.now l all result (O.log out.old) (O.log out.new) slots.new
-        effect (owner_after effect.tracked.still_open m)) }
+        effect (owner_after (before_with catalogue.now l effect.tracked) m)) }
     ensures few { IfOk result (λ faults. faults ≤ 3) }
     ensures ready { OnOk result (AreReady catalogue.now (now.place + 1) slots.new) }
     ensures most { slots.new.slots.most ≡ slots.old.slots.most }
 {
     let refused = begin_message(slots, catalogue, now, out)?;
-    let named = refuses_old(slots, now, out)?;
+    let named = named_by_header(slots, now, out)?;
     let ended = at_last_octet(slots, catalogue, now, out)?;
     Ok(fault_count(refused, named, ended))
 }

@@ -22,7 +22,7 @@ ghost use Rattle.giop_stream.specs.Pieces.{fed, remaining, whole_text};
 ghost use Rattle.giop_stream.specs.Checkpoint.{counts_of, checkpoint_limit, Allows, IsRefused, OrNoMemory, Saves, Spells};
 
 use crate::fault::{LoadFault, NewError, Stop};
-use crate::framing::Framing;
+use crate::framing::{Framing, joins};
 use crate::status::{Fed, Status, Totals};
 use crate::{loading, saving};
 use giop_message::Correspondent;
@@ -81,7 +81,7 @@ impl<'a> Engine<'a> {
         ensures request_table { IfOk result (λ e. e.request_table ≡ requests.now) }
         ensures most { IfOk result (λ e. e.most ≡ most) }
     {
-        let Ok(framing) = Framing::new(alloc, most as usize) else {
+        let Ok(framing) = Framing::new(alloc, most as usize, joins(catalogue)) else {
             return Err(NewError::OutOfMemory);
         };
         Ok(Engine {
@@ -207,7 +207,7 @@ impl<'a> Engine<'a> {
             }),
             Err(fault) => {
                 self.failed = true;
-                self.framing.clear(totals, stopped);
+                self.framing.clear(totals, stopped, joins(self.catalogue));
                 Err(Stop::Out(fault))
             }
         }
@@ -252,7 +252,7 @@ impl<'a> Engine<'a> {
             × (self.new.request_table ≡ self.old.request_table) }
         ensures most { self.new.most ≡ self.old.most }
     {
-        self.framing.restart();
+        self.framing.restart(joins(self.catalogue));
         self.failed = false;
     }
 

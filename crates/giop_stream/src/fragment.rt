@@ -10,7 +10,7 @@ ghost use Rattle.giop_stream.specs.Effects.{with_octet};
 ghost use Rattle.giop_stream.specs.OpenSlots.{Tracked};
 ghost use Rattle.giop_stream.specs.SlotsRepresent.{AreReady};
 ghost use Rattle.giop_stream.specs.DoesEffect.{DoesEffect, all};
-ghost use Rattle.giop_stream.specs.PayloadOwner.{owner_after};
+ghost use Rattle.giop_stream.specs.PayloadOwner.{before_with, owner_after};
 ghost use Rattle.giop_stream.specs.Continuation.{IsOpenAt, IsContinuation, IsBeforeContinuation, continuation_effect};
 
 use crate::current::Current;
@@ -46,7 +46,7 @@ fn join_fragment<O: Out>(
         IsBeforeContinuation catalogue.now l slots.old c m now x found →
         (let effect = continuation_effect catalogue.now l slots.old.slots.most c m x in
         DoesEffect catalogue.now l all result (O.log out.old) (O.log out.new) slots.new
-        effect (owner_after effect.tracked.still_open (with_octet m x))) }
+        effect (owner_after (before_with catalogue.now l effect.tracked) (with_octet m x))) }
     ensures few { IfOk result (λ faults. faults ≤ 3) }
     ensures ready { OnOk result (AreReady catalogue.now (now.place + 1) slots.new) }
     ensures most { slots.new.slots.most ≡ slots.old.slots.most }

@@ -1,8 +1,8 @@
 //! The state that is kept of a stream, and what an octet does to it, for headers, payloads and stream faults.
 
-ghost use Rattle.std.specs.Prelude.{◌≡◌, ◌+◌, ◌*◌, ◌++◌, ◌∷◌, ◌^◌, ◌≤◌, ◌<◌, ℕ, List, [], length, take, true, None, IfOk, OnOk, if◌then◌else◌};
+ghost use Rattle.std.specs.Prelude.{◌≡◌, ◌+◌, ◌*◌, ◌++◌, ◌∷◌, ◌^◌, ◌≤◌, ◌<◌, ℕ, List, [], length, take, true, not, None, IfOk, OnOk, if◌then◌else◌};
 ghost use Rattle.arrayvec.specs.ArrayVec.{array_vec_len};
-ghost use Rattle.giop_stream.specs.Rules.{most_open};
+ghost use Rattle.giop_stream.specs.Rules.{joins_by, most_open};
 
 use crate::current::Current;
 use crate::dispatch;
@@ -19,6 +19,13 @@ use std::alloc::{AllocError, Global};
 
 /// The greatest number of octets that are read of a stream.
 pub const LIMIT: u64 = 281_474_976_710_656;
+
+/// Whether Fragments of GIOP 1.1 are joined. It depends on the version of the signature file.
+pub fn joins(catalogue: &Catalogue) -> bool
+    ensures { result ≡ joins_by catalogue.now }
+{
+    catalogue.version() >= 3
+}
 
 /// The totals before the first octet.
 const NOTHING_READ: Totals = Totals {
@@ -67,13 +74,13 @@ impl Framing {
     ghost use Rattle.giop_message.specs.HeaderEnds.{AgreesAtEnds, after_ends};
     ghost use Rattle.giop_message.specs.DueOctets.{TakesFront, StaysUndue};
 
-    /// Makes the state before the first octet, for this number of open messages.
-    pub fn new(alloc: Global, most: usize) -> Result<Framing, AllocError>
+    /// Makes the state before the first octet, for this number of open messages. Fragments of GIOP 1.1 are joined or refused.
+    pub fn new(alloc: Global, most: usize, joins: bool) -> Result<Framing, AllocError>
         requires room { most ≤ most_open }
         requires some { 1 ≤ most }
         ensures most { IfOk result (λ f. f.slots.slots.most ≡ most) }
-        ensures shows { IfOk result (λ f. (C : Table) (l : Answers) →
-            Shows C l (framing_view f) one.fresh) }
+        ensures shows { IfOk result (λ f. (C : Table) (l : Answers) (n : ℕ) →
+            joins ≡ joins_by C → Shows C l (framing_view f) (one.fresh (rules_by C l n))) }
         ensures ready { IfOk result (λ f. (C : Table) →
             AreReady C (f.totals.octets + 1) f.slots) }
     {
@@ -82,21 +89,22 @@ impl Framing {
             stopped: None,
             header: ArrayVec::new(),
             payload_count: 0,
-            slots: Slots::new(alloc, most)?,
+            slots: Slots::new(alloc, most, joins)?,
         })
     }
 
     /// Goes back to the state before the first octet, and keeps the memory.
-    pub fn restart(&mut self)
-        ensures shows { (C : Table) (l : Answers) → Shows C l (framing_view self.new) one.fresh }
+    pub fn restart(&mut self, joins: bool)
+        ensures shows { (C : Table) (l : Answers) (n : ℕ) → joins ≡ joins_by C →
+            Shows C l (framing_view self.new) (one.fresh (rules_by C l n)) }
         ensures ready { (C : Table) → AreReady C (self.new.totals.octets + 1) self.new.slots }
         ensures most { self.new.slots.slots.most ≡ self.old.slots.slots.most }
     {
-        self.clear(NOTHING_READ, None);
+        self.clear(NOTHING_READ, None, joins);
     }
 
     /// Drops all messages and the octets of a header. Only these totals and this stream fault are kept.
-    pub fn clear(&mut self, totals: Totals, stopped: Option<StreamFault>)
+    pub fn clear(&mut self, totals: Totals, stopped: Option<StreamFault>, joins: bool)
         requires read { totals.octets ≤ 2 ^ 48 + 1 }
         requires running { stopped ≡ None → totals.octets ≤ 2 ^ 48 }
         requires few_messages { totals.messages ≤ totals.octets }
@@ -106,6 +114,7 @@ impl Framing {
         ensures header { self.new.header.items ≡ [] }
         ensures payload_count { self.new.payload_count ≡ 0 }
         ensures bare { IsBare self.new.slots }
+        ensures mixed { self.new.slots.is_mixed ≡ not joins }
         ensures most { self.new.slots.slots.most ≡ self.old.slots.slots.most }
         ensures ready { (C : Table) → AreReady C (self.new.totals.octets + 1) self.new.slots }
     {
@@ -113,7 +122,7 @@ impl Framing {
         self.stopped = stopped;
         self.header.clear();
         self.payload_count = 0;
-        self.slots.clear();
+        self.slots.clear(joins);
     }
 
     /// Ends the reading with a stream fault at the octet of this place. No header and no payload is held after that.

@@ -39,7 +39,7 @@ pub fn is_fragment(header: &[u8]) -> bool
     minor_of(header) == 2 && kind_of(header) == 7
 }
 
-/// Whether more fragments follow a Request or a Reply of GIOP 1.1.
+/// Whether Fragments of GIOP 1.1 follow a message.
 #[tactic(auto, unfolding(crate::specs::Kinds::is_old_opener))]
 pub fn is_old_opener(header: &[u8]) -> bool
     requires { length header.now ≡ 12 }

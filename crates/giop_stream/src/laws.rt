@@ -16,7 +16,7 @@ ghost use Rattle.giop_stream.specs.Shares.{shares};
 ghost use Rattle.giop_stream.specs.Lines.{Class, has_class, lines};
 ghost use Rattle.giop_stream.specs.Text.{lines_text};
 ghost use Rattle.giop_stream.specs.Stream.{text, tally, final, closing};
-ghost use Rattle.giop_stream.specs.Effects.{tracked_at, octets_then, stays, goes};
+ghost use Rattle.giop_stream.specs.Effects.{tracked_at, known_then, stays, goes};
 ghost use Rattle.giop_stream.specs.OpenSlots.{Tracked, IsNotOpen, slots_at};
 ghost use Rattle.giop_stream.specs.EngineState.{state_of};
 ghost use Rattle.giop_stream.specs.EngineView.{EngineView};
@@ -29,13 +29,13 @@ use giop_message::Correspondent;
 
 /// What an event does to the slots of the open messages, each slot at its index.
 pub fn each_slot()
-    // An octet or a fault changes the slot of its message.
+    // An octet, a seam or a fault changes the slot of its message.
     ensures stays { (R : MessageReader) (c : Tracked) (e : Event) (k : ℕ) (o : Open) →
         stays e.what ≡ true → Rising c.still_open → slice_get c.still_open k ≡ Some o →
         e.subject ≡ o.opener →
         slots_at (tracked_at R c e)
         ≡ slice_set (slots_at c) k
-        (record { open_as = o; octets = octets_then R e (c.known o.opener.number) }) }
+        (record { open_as = o; kept = known_then R e (c.known o.opener.number) }) }
     // If the message isn't open, no slot changes.
     ensures own { (R : MessageReader) (c : Tracked) (e : Event) →
         stays e.what ≡ true → IsNotOpen e.subject.number c.still_open →
@@ -54,37 +54,38 @@ pub fn each_slot()
         e.what ≡ Opens k → IsNotOpen e.subject.number c.still_open →
         (let o : Open = record { key = k; opener = e.subject } in
         slots_at (tracked_at R c e)
-        ≡ slots_at c ++ record { open_as = o; octets = c.known e.subject.number } ∷ []) }
+        ≡ slots_at c ++ record { open_as = o; kept = c.known e.subject.number } ∷ []) }
     // A Fragment that continues a message changes nothing.
     ensures continues { (R : MessageReader) (c : Tracked) (e : Event) (n : ℕ) →
         e.what ≡ Continues n → tracked_at R c e ≡ c }
-    // The octets that are kept of the event's message change as `octets_then` says. Those of other messages stay.
+    // What is kept of the event's message changes as `known_then` says. What is kept of other messages stays.
     ensures kept { (R : MessageReader) (c : Tracked) (e : Event) →
-        (tracked_at R c e).known e.subject.number ≡ octets_then R e (c.known e.subject.number) }
+        (tracked_at R c e).known e.subject.number ≡ known_then R e (c.known e.subject.number) }
     ensures others { (R : MessageReader) (c : Tracked) (e : Event) (i : ℕ) →
         (i ≡ e.subject.number → ⊥) →
         (tracked_at R c e).known i ≡ c.known i }
     // The numbers of a stream's open messages rise.
-    ensures rising { (most : ℕ) (p : List ℕ) → Rising (open_after most p) }
+    ensures rising { (R : Rules) (p : List ℕ) → Rising (open_after R p) }
 {}
 
-/// The octets of a joined message are its own, and then, of each message that continues it, those after the request id.
+/// The octets of a joined message are its own, and then, of each message that continues it, those after the request id,
+/// or all of them in 1.1.
 pub fn each_joined()
-    ensures { (most : ℕ) (p : List ℕ) (i : ℕ) →
-        joined i (events most p) ≡ shares most i [] (messages (cut p)) }
+    ensures { (R : Rules) (p : List ℕ) (i : ℕ) →
+        joined i (events R p) ≡ shares R i [] (messages (cut p)) }
 {}
 
 /// At most as many messages are open as may be.
 pub fn open_messages()
-    ensures { (most : ℕ) (p : List ℕ) → length (open_after most p) ≤ most }
+    ensures { (R : Rules) (p : List ℕ) → length (open_after R p) ≤ R.most }
 {}
 
 /// After a stream fault no octet adds a line, and no octet is counted.
 pub fn after_a_stop()
-    ensures text { (R : Rules) → IsCausal R.reading → (p q : List ℕ) (found : ℕ × StreamFault) →
+    ensures text { (R : Rules) (p q : List ℕ) (found : ℕ × StreamFault) →
         (cut p).stop ≡ Some found →
         text R (p ++ q) ≡ text R p }
-    ensures totals { (R : Rules) → IsCausal R.reading → (p q : List ℕ) (found : ℕ × StreamFault) →
+    ensures totals { (R : Rules) (p q : List ℕ) (found : ℕ × StreamFault) →
         (cut p).stop ≡ Some found →
         tally R (p ++ q) ≡ tally R p }
 {}
@@ -98,7 +99,7 @@ pub fn one_of_each()
 
 /// What an engine holds of a stream changes by one step at each octet.
 pub fn each_step()
-    ensures start { (R : Rules) → state_of R [] ≡ fresh }
+    ensures start { (R : Rules) → state_of R [] ≡ fresh R }
     ensures state { (R : Rules) → IsCausal R.reading → IsStreamable R.reading →
         (p : List ℕ) (x : ℕ) →
         state_of R (p ++ x ∷ []) ≡ (step R (state_of R p) x).state }
@@ -139,11 +140,12 @@ pub fn counts_are_bounded()
 /// messages whose header has ended, a stream has the same text and the same state by both, and an engine that holds the
 /// stream by one of them holds it by the other.
 pub fn answers_agree()
-    ensures text { (C : Table) (a b : Answers) (n : ℕ) (p : List ℕ) → AnswersAgree n p a b →
+    ensures text { (C : Table) (a b : Answers) (n : ℕ) (p : List ℕ) → AnswersAgree C n p a b →
         text (rules_by C a n) p ≡ text (rules_by C b n) p }
-    ensures state { (C : Table) (a b : Answers) (n : ℕ) (p : List ℕ) → AnswersAgree n p a b →
+    ensures state { (C : Table) (a b : Answers) (n : ℕ) (p : List ℕ) → AnswersAgree C n p a b →
         state_of (rules_by C a n) p ≡ state_of (rules_by C b n) p }
-    ensures held { (e : EngineView) (a b : Answers) (p : List ℕ) → AnswersAgree e.most p a b →
+    ensures held { (e : EngineView) (a b : Answers) (p : List ℕ) →
+        AnswersAgree e.table e.most p a b →
         HoldsBy e a p → HoldsBy e b p }
 {}
 
@@ -153,7 +155,7 @@ pub fn answers_agree()
 /// ones, piece by piece.
 pub fn answers_go_on<Q: Correspondent>()
     ensures { (C : Table) (a : Answers) (n : ℕ) (p q : List ℕ) (st : Q.State) → (b : Answers)
-        × AnswersAgree n p a b
+        × AnswersAgree C n p a b
         × AgreesAtEnds Q.answer Q.notified C st b (header_ends_from (rules_by C b n) p q) }
 {}
 
@@ -166,7 +168,7 @@ pub fn answers_at_headers<Q: Correspondent>()
     ensures state { (C : Table) (a b : Answers) (n : ℕ) (p : List ℕ) → AgreeAtHeaders C n p a b →
         state_of (rules_by C a n) p ≡ state_of (rules_by C b n) p }
     // Answers that agree for each message whose header has ended agree at the headers.
-    ensures agree { (C : Table) (a b : Answers) (n : ℕ) (p : List ℕ) → AnswersAgree n p a b →
+    ensures agree { (C : Table) (a b : Answers) (n : ℕ) (p : List ℕ) → AnswersAgree C n p a b →
         AgreeAtHeaders C n p a b }
     // Answers that agree at the headers, and both agree with one correspondent, agree at the headers after more octets have
     // come.

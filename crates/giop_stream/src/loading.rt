@@ -3,7 +3,7 @@
 
 ghost use Rattle.std.specs.Prelude.{◌≡◌, ℕ, List, ◌+◌, ◌<◌, ◌≤◌, ◌^◌, ◌*◌, length, drop, true, false, Option, Some, None, IfOk, IfErr, IfSome, IsSome, IsSomeAnd, [], ◌∷◌, ◌++◌, flat_map, replicate};
 ghost use Rattle.giop_sig.specs.Table.{Table};
-ghost use Rattle.giop_message.specs.Phases.{unbroken};
+ghost use Rattle.giop_message.specs.Phases.{Phase};
 ghost use Rattle.giop_message.specs.MessageState.{Follows};
 ghost use Rattle.giop_message.specs.Signatures.{RequestTable, Answers, by_list};
 ghost use Rattle.giop_message.specs.Stored.{Stored};
@@ -12,6 +12,7 @@ ghost use Rattle.giop_checkpoint.specs.Records.{AreRecords, entry_octets, used};
 ghost use Rattle.giop_checkpoint.specs.Refusals.{IsOurs};
 ghost use Rattle.giop_checkpoint.specs.declared.record.RecordKind.TheVariants as record_kinds;
 ghost use Rattle.giop_stream.specs.Rules.{rules, most_open};
+ghost use Rattle.giop_stream.specs.Lines.{Kept};
 ghost use Rattle.giop_stream.specs.OpenSlots.{Slot as Held};
 ghost use Rattle.giop_stream.specs.SlotsRepresent.{AreReady, KeepsRoom, IsBare, IsReady, current_of};
 ghost use Rattle.giop_stream.specs.declared.slots.PayloadOwner.TheVariants.{Open};
@@ -19,10 +20,10 @@ ghost use Rattle.giop_stream.specs.FramingView.{framing_view};
 ghost use Rattle.giop_stream.specs.Events.{MessageKey};
 ghost use Rattle.giop_stream.specs.EngineState.{state_of};
 ghost use Rattle.giop_stream.specs.ViewOfState.{Shows};
-ghost use Rattle.giop_stream.specs.Checkpoint.{counts_of, fixed_of, Allows, IsRefused, OrNoMemory, Spells};
-ghost use Rattle.giop_stream.specs.Reloading.{stop_in, header_in, payload_count_in, owner_by, pushed, IsOpenEntry, IsCurrentOwner, IsCurrentEntry, HasAdded, HasAddedFirst, AreLeft};
+ghost use Rattle.giop_stream.specs.Checkpoint.{counts_of, fixed_of, open_kind, over_kind, Allows, IsRefused, OrNoMemory, Spells};
+ghost use Rattle.giop_stream.specs.Reloading.{stop_in, header_in, payload_count_in, owner_by, lacks_key, without_key, HasRoomFor, MayHaveSeams, pushed, IsOpenEntry, IsCurrentOwner, IsCurrentEntry, HasAdded, HasAddedFirst, AreLeft};
 
-use crate::framing::Framing;
+use crate::framing::{Framing, joins};
 use crate::header::size_of;
 use crate::saving::counts_of;
 use crate::slots::{PayloadOwner, Slot, Slots};
@@ -58,7 +59,7 @@ pub fn read(
         Ok(parts) => parts,
         Err(why) => return Err(why),
     };
-    let Ok(slots) = Slots::new(alloc, fixed.most_open as usize) else {
+    let Ok(slots) = Slots::new(alloc, fixed.most_open as usize, joins(catalogue)) else {
         return Err(LoadFault::OutOfMemory);
     };
     match framing_of(catalogue, fixed, records, slots) {
@@ -88,6 +89,7 @@ fn framing_of(catalogue: &Catalogue, fixed: Fixed, records: &[u8], slots: Slots)
         return None;
     }
     set_owner(&mut slots, fixed.owner);
+    slots.is_mixed = fixed.is_mixed || !joins(catalogue);
     let totals = Totals {
         messages: fixed.messages,
         faults: fixed.faults,
@@ -187,9 +189,9 @@ fn add_all(
     requires lengths { AreRecords count records.now }
     requires ready { AreReady catalogue.now (octets + 1) slots.old }
     ensures ready { result ≡ true → AreReady catalogue.now (octets + 1) slots.new }
-    ensures again { (l : Answers) (held : List Held) (w : MessageKey) (xs : Option (List ℕ)) →
+    ensures again { (l : Answers) (held : List Held) (w : MessageKey) (xs : Option Kept) →
         AreLeft catalogue.now l (octets + 1) count records.now held w xs →
-        length slots.old.slots.entries + length held ≤ slots.old.slots.most →
+        HasRoomFor slots.old held →
         slots.old.owner ≡ Open None →
         (result ≡ true) × HasAdded catalogue.now l slots.old slots.new held
         × IsCurrentOwner catalogue.now l slots.new.owner w xs }
@@ -219,9 +221,9 @@ fn add_first<'a>(
     ensures ready { IfSome result (λ rest. AreReady catalogue.now (octets + 1) slots.new) }
     ensures rest { IfSome result (λ rest. rest.now ≡ drop (used records.now) records.now) }
     ensures again { (l : Answers) (count : ℕ) (held : List Held) (w : MessageKey)
-        (xs : Option (List ℕ)) → (count ≡ 0 → ⊥) →
+        (xs : Option Kept) → (count ≡ 0 → ⊥) →
         AreLeft catalogue.now l (octets + 1) count records.now held w xs →
-        length slots.old.slots.entries + length held ≤ slots.old.slots.most →
+        HasRoomFor slots.old held →
         slots.old.owner ≡ Open None →
         IsSomeAnd result (λ rest. HasAddedFirst catalogue.now l (octets + 1) count
         slots.old slots.new rest.now held w xs) }
@@ -247,10 +249,10 @@ fn add(slots: &mut Slots, catalogue: &Catalogue, octets: u64, first: &FirstRecor
     ensures ready { result ≡ true → AreReady catalogue.now (octets + 1) slots.new }
     ensures one_open { (l : Answers) (held : Held) →
         IsOpenEntry catalogue.now l (octets + 1) first.now held →
-        length slots.old.slots.entries < slots.old.slots.most →
+        HasRoomFor slots.old (held ∷ []) →
         (result ≡ true) × HasAdded catalogue.now l slots.old slots.new (held ∷ [])
         × (slots.new.owner ≡ slots.old.owner) }
-    ensures one_current { (l : Answers) (w : MessageKey) (xs : Option (List ℕ)) →
+    ensures one_current { (l : Answers) (w : MessageKey) (xs : Option Kept) →
         IsCurrentEntry catalogue.now l (octets + 1) first.now w xs →
         (result ≡ true) × (slots.new.slots ≡ slots.old.slots)
         × IsCurrentOwner catalogue.now l slots.new.owner w xs }
@@ -258,8 +260,12 @@ fn add(slots: &mut Slots, catalogue: &Catalogue, octets: u64, first: &FirstRecor
 {
     match first.record.record_kind {
         RecordKind::Current => add_current(slots, catalogue, octets, first),
-        RecordKind::Open(id) => add_open(slots, catalogue, octets, first, id),
-        RecordKind::Over(id) => add_over(slots, first, id),
+        RecordKind::Open(id) => add_open(slots, catalogue, octets, first, Some(id)),
+        RecordKind::Over(id) => add_over(slots, first, Some(id)),
+        RecordKind::OpenWithoutId => {
+            joins(catalogue) && add_open(slots, catalogue, octets, first, None)
+        }
+        RecordKind::OverWithoutId => joins(catalogue) && add_over(slots, first, None),
     }
 }
 
@@ -274,7 +280,7 @@ fn add_current(
     requires ready { AreReady catalogue.now (octets + 1) slots.old }
     ensures ready { result ≡ true → AreReady catalogue.now (octets + 1) slots.new }
     ensures same { slots.new.slots ≡ slots.old.slots }
-    ensures again { (l : Answers) (w : MessageKey) (xs : Option (List ℕ)) →
+    ensures again { (l : Answers) (w : MessageKey) (xs : Option Kept) →
         IsCurrentEntry catalogue.now l (octets + 1) first.now w xs →
         (result ≡ true) × IsCurrentOwner catalogue.now l slots.new.owner w xs }
     ensures most { slots.new.slots.most ≡ slots.old.slots.most }
@@ -291,7 +297,7 @@ fn add_open(
     catalogue: &Catalogue,
     octets: u64,
     first: &FirstRecord<'_>,
-    id: u32,
+    id: Option<u32>,
 ) -> bool
     requires range { octets ≤ 2 ^ 48 + 1 }
     requires ready { AreReady catalogue.now (octets + 1) slots.old }
@@ -299,8 +305,7 @@ fn add_open(
     ensures owner { slots.new.owner ≡ slots.old.owner }
     ensures again { (l : Answers) (held : Held) →
         IsOpenEntry catalogue.now l (octets + 1) first.now held →
-        first.now.record.record_kind ≡ record_kinds.Open id →
-        length slots.old.slots.entries < slots.old.slots.most →
+        first.now.record.record_kind ≡ open_kind id → HasRoomFor slots.old (held ∷ []) →
         (result ≡ true) × HasAdded catalogue.now l slots.old slots.new (held ∷ []) }
     ensures most { slots.new.slots.most ≡ slots.old.slots.most }
 {
@@ -309,24 +314,30 @@ fn add_open(
 }
 
 /// Adds an open message that is over.
-fn add_over(slots: &mut Slots, first: &FirstRecord<'_>, id: u32) -> bool
+fn add_over(slots: &mut Slots, first: &FirstRecord<'_>, id: Option<u32>) -> bool
     ensures room { KeepsRoom slots.old slots.new }
     ensures owner { slots.new.owner ≡ slots.old.owner }
     ensures again { (C : Table) (l : Answers) (n : ℕ) (held : Held) →
         IsOpenEntry C l n first.now held →
-        first.now.record.record_kind ≡ record_kinds.Over id →
-        length slots.old.slots.entries < slots.old.slots.most →
+        first.now.record.record_kind ≡ over_kind id → HasRoomFor slots.old (held ∷ []) →
         (result ≡ true) × HasAdded C l slots.old slots.new (held ∷ []) }
 {
     is_zero(first) && push(slots, first, id, None)
 }
 
-/// Adds an open message, if there is room for it. Returns whether there is.
-fn push(slots: &mut Slots, first: &FirstRecord<'_>, id: u32, message: Option<Message>) -> bool
+/// Adds an open message, if there is room for it; one without an id, if there is no other. Returns whether it was added.
+fn push(
+    slots: &mut Slots,
+    first: &FirstRecord<'_>,
+    id: Option<u32>,
+    message: Option<Message>,
+) -> bool
     ensures ready { (C : Table) (n : ℕ) → AreReady C n slots.old → IsReady C n message →
         AreReady C n slots.new }
     ensures owner { slots.new.owner ≡ slots.old.owner }
-    ensures added { length slots.old.slots.entries < slots.old.slots.most → (result ≡ true)
+    ensures added { length slots.old.slots.entries < slots.old.slots.most →
+        without_key (λ slot. slot.key) slots.old.slots.entries + lacks_key id ≤ 1 →
+        (result ≡ true)
         × (slots.new.slots.entries ≡ slots.old.slots.entries ++ pushed first.now id message ∷ []) }
     ensures most { slots.new.slots.most ≡ slots.old.slots.most }
 {
@@ -338,19 +349,27 @@ fn push(slots: &mut Slots, first: &FirstRecord<'_>, id: u32, message: Option<Mes
         header: first.record.header,
         message,
     };
-    slots.slots.add(id, slot);
+    match id {
+        Some(id) => slots.slots.add(id, slot),
+        None => {
+            if slots.slots.without_id().is_some() {
+                return false;
+            }
+            slots.slots.add_without_id(slot);
+        }
+    }
     true
 }
 
 /// The message that a record stores, if its fields are valid and it has no more octets than the stream.
 fn message_of(catalogue: &Catalogue, octets: u64, first: &FirstRecord<'_>) -> Option<Message>
     ensures ready { IsReady catalogue.now (octets + 1) result }
-    ensures again { (m : CodeMessage) (l : Answers) (n : ℕ) (h xs : List ℕ) →
+    ensures again { (m : CodeMessage) (l : Answers) (phase : Phase) (n : ℕ) (h xs : List ℕ) →
         IsReady catalogue.now (octets + 1) (Some m) →
         m.number ≡ first.now.record.number → m.header ≡ first.now.record.header →
-        Stored m first.now.message first.now.frames.now → Follows catalogue.now l unbroken n h m xs
-        →
-        IsSomeAnd result (λ e. Follows catalogue.now l unbroken n h e xs) }
+        Stored m first.now.message first.now.frames.now → MayHaveSeams first.now phase →
+        Follows catalogue.now l phase n h m xs →
+        IsSomeAnd result (λ e. Follows catalogue.now l phase n h e xs) }
 {
     let Some(message) = Message::restore(
         catalogue,
@@ -361,14 +380,23 @@ fn message_of(catalogue: &Catalogue, octets: u64, first: &FirstRecord<'_>) -> Op
     ) else {
         return None;
     };
-    if !message.is_unbroken() {
-        return None;
+    if !is_joined_without_id(first) {
+        if !message.is_unbroken() {
+            return None;
+        }
     }
     if message.reach() <= octets {
         Some(message)
     } else {
         None
     }
+}
+
+/// Whether a record is that of a message which Fragments of GIOP 1.1 continue.
+fn is_joined_without_id(first: &FirstRecord<'_>) -> bool
+    ensures { first.now.record.record_kind ≡ record_kinds.OpenWithoutId → result ≡ true }
+{
+    matches!(first.record.record_kind, RecordKind::OpenWithoutId)
 }
 
 /// Whether a record stores nothing of its message: it has no frames, and only zeros.

@@ -1,13 +1,14 @@
 //! What is done to a single message that has begun and not ended. It is `None` after it is over, which means faulted or
 //! ended.
 
-ghost use Rattle.std.specs.Prelude.{◌≡◌, ◌+◌, ◌<◌, ◌≤◌, ◌^◌, ℕ, List, length, take, true, Option, None, OnOk, IfOk, if◌then◌else◌};
+ghost use Rattle.std.specs.Prelude.{◌≡◌, ◌+◌, ◌<◌, ◌≤◌, ◌^◌, ℕ, length, take, true, Option, None, OnOk, IfOk, if◌then◌else◌};
 ghost use Rattle.giop_sig.specs.Table.{Table};
 ghost use Rattle.giop_message.specs.Signatures.{Answers};
 ghost use Rattle.giop_message.specs.ReaderOfTable.{message_reader};
 ghost use Rattle.giop_message.specs.MessageState.{AreKnown};
-ghost use Rattle.giop_stream.specs.Events.{MessageKey, Faults, Closes};
-ghost use Rattle.giop_stream.specs.Effects.{part_of, lines_of, event};
+ghost use Rattle.giop_stream.specs.Events.{MessageKey, Seams, Faults, Closes};
+ghost use Rattle.giop_stream.specs.Lines.{Kept};
+ghost use Rattle.giop_stream.specs.Effects.{part_of, known_then, lines_of, event};
 ghost use Rattle.giop_stream.specs.SlotsRepresent.{RepresentsMessage, IsReady};
 ghost use Rattle.giop_stream.specs.DoesEffect.{DoesPart, WritesLines, one_if};
 ghost use Rattle.giop_stream.specs.PayloadRuns.{run_part};
@@ -44,7 +45,7 @@ pub fn take_octets<O: Out, Q: Correspondent>(
     requires known { AreKnown catalogue.now (Q.answer (Q.state correspondent.old)) }
     requires limit { before + length octets.now ≤ 2 ^ 48 }
     ensures known { AreKnown catalogue.now (Q.answer (Q.state correspondent.new)) }
-    ensures does { (a : Answers) (w : MessageKey) (o : Option (List ℕ)) →
+    ensures does { (a : Answers) (w : MessageKey) (o : Option Kept) →
         RepresentsMessage catalogue.now a message.old w o →
         AgreesAtEnds Q.answer Q.notified catalogue.now (Q.state correspondent.old) a
         (run_header_ends w o octets.now) →
@@ -52,7 +53,7 @@ pub fn take_octets<O: Out, Q: Correspondent>(
         (Q.state correspondent.old) (run_header_ends w o))
         (λ xs. DoesPart catalogue.now a (λ r. one_if r.1) result (O.log out.old) (O.log out.new)
         message.new w (run_part catalogue.now a before w o xs)) result octets.now }
-    ensures told { IfOk result (λ r. (a : Answers) (w : MessageKey) (o : Option (List ℕ)) →
+    ensures told { IfOk result (λ r. (a : Answers) (w : MessageKey) (o : Option Kept) →
         RepresentsMessage catalogue.now a message.old w o →
         AgreesAtEnds Q.answer Q.notified catalogue.now (Q.state correspondent.old) a
         (run_header_ends w o octets.now) →
@@ -75,6 +76,19 @@ pub fn take_octets<O: Out, Q: Correspondent>(
     Ok((octets.len(), true))
 }
 
+/// Notes that the payload of a Fragment of GIOP 1.1 begins at the next octet of a message, unless the message is over.
+pub fn seam_message(message: &mut Option<Message>)
+    ensures kept { (C : Table) (l : Answers) (w : MessageKey) (o : Option Kept) (place : ℕ) →
+        RepresentsMessage C l message.old w o →
+        RepresentsMessage C l message.new w
+        (known_then (message_reader C l) (event place w Seams) o) }
+    ensures ready { (C : Table) (n : ℕ) → IsReady C n message.old → IsReady C n message.new }
+{
+    if let Some(m) = message {
+        m.seam();
+    }
+}
+
 /// Faults a message of this number, unless it is over. Returns whether it does.
 pub fn fault_message<O: Out>(
     message: &mut Option<Message>,
@@ -83,7 +97,7 @@ pub fn fault_message<O: Out>(
     place: u64,
     out: &mut O,
 ) -> Result<bool, OutFault>
-    ensures does { (C : Table) (l : Answers) (w : MessageKey) (o : Option (List ℕ)) →
+    ensures does { (C : Table) (l : Answers) (w : MessageKey) (o : Option Kept) →
         RepresentsMessage C l message.old w o → w.number ≡ number →
         DoesPart C l one_if result (O.log out.old) (O.log out.new) message.new w
         (part_of (message_reader C l) (event place w (Faults fault)) o) }
@@ -105,7 +119,7 @@ pub fn close_message<O: Out>(
     out: &mut O,
 ) -> Result<bool, OutFault>
     requires ready { IsReady catalogue.now (place + 1) message.now }
-    ensures { (l : Answers) (w : MessageKey) (o : Option (List ℕ)) →
+    ensures { (l : Answers) (w : MessageKey) (o : Option Kept) →
         RepresentsMessage catalogue.now l message.now w o →
         WritesLines one_if result (O.log out.old) (O.log out.new)
         (lines_of (message_reader catalogue.now l) (event place w Closes) o) }

@@ -12,9 +12,9 @@ ghost use Rattle.giop_message.specs.MessageState.{Fits};
 ghost use Rattle.giop_stream.specs.Rules.{most_open};
 ghost use Rattle.giop_stream.specs.SlotsRepresent.{AreReady, IsReady, index_of, current_of};
 ghost use Rattle.giop_stream.specs.FramingView.{framing_view};
-ghost use Rattle.giop_stream.specs.Checkpoint.{counts_of, place_of, owner_of, count_own, fixed_of, IsOpen, IsMessageRecord, IsPutOne, AreOpen, IsPut, IsPutWhole, Puts, PutsSuch};
+ghost use Rattle.giop_stream.specs.Checkpoint.{counts_of, place_of, owner_of, count_own, fixed_of, open_kind, over_kind, IsOpen, IsMessageRecord, IsPutOne, AreOpen, IsPut, IsPutWhole, Puts, PutsSuch};
 
-use crate::framing::Framing;
+use crate::framing::{Framing, joins};
 use crate::header::size_of;
 use crate::slots::{PayloadOwner, Slot, Slots};
 use arrayvec::ArrayVec;
@@ -85,6 +85,7 @@ fn fixed_part(framing: &Framing, catalogue: &Catalogue, requests: &Requests) -> 
         faults: framing.totals.faults,
         place: place_of(framing),
         owner: owner_of(&framing.slots),
+        is_mixed: framing.slots.is_mixed && joins(catalogue),
     }
 }
 
@@ -181,7 +182,7 @@ fn write_open<O: Out>(
 }
 
 /// Writes the record of an open message.
-fn write_slot(id: u32, slot: &Slot, out: &mut ArrayVec<u8, 832>)
+fn write_slot(id: Option<u32>, slot: &Slot, out: &mut ArrayVec<u8, 832>)
     requires room { array_vec_len out.old + 832 ≤ 832 }
     ensures put { (C : Table) (at : ℕ) → IsReady C at slot.now.message →
         IsPutOne out.old.items out.new.items (IsOpen (record { key = id; value = slot.now })) }
@@ -189,19 +190,38 @@ fn write_slot(id: u32, slot: &Slot, out: &mut ArrayVec<u8, 832>)
 {
     match &slot.message {
         Some(message) => {
-            let open = RecordKind::Open(id);
-            write_message(open, slot.number, slot.header, message, out);
+            write_message(open_kind(id), slot.number, slot.header, message, out);
         }
         None => {
             let record = Record {
                 frames: 0,
-                record_kind: RecordKind::Over(id),
+                record_kind: over_kind(id),
                 number: slot.number,
                 header: slot.header,
             };
             record.write(out);
             put_zeros(out, MESSAGE_SIZE);
         }
+    }
+}
+
+/// The kind of the record of an open message with this request id.
+fn open_kind(id: Option<u32>) -> RecordKind
+    ensures { result ≡ open_kind id }
+{
+    match id {
+        Some(id) => RecordKind::Open(id),
+        None => RecordKind::OpenWithoutId,
+    }
+}
+
+/// The kind of the record of an open message with this request id that is over.
+fn over_kind(id: Option<u32>) -> RecordKind
+    ensures { result ≡ over_kind id }
+{
+    match id {
+        Some(id) => RecordKind::Over(id),
+        None => RecordKind::OverWithoutId,
     }
 }
 

@@ -1,19 +1,19 @@
 //! The messages that have begun and not ended: the open ones in their slots, and the current one, which is being read.
 
-ghost use Rattle.std.specs.Prelude.{◌≡◌, ◌+◌, ◌<◌, ◌≤◌, ◌^◌, ℕ, [], length, take, true, Bool, Option, Some, None, OnOk, IfOk, if◌then◌else◌};
+ghost use Rattle.std.specs.Prelude.{◌≡◌, ◌+◌, ◌<◌, ◌≤◌, ◌^◌, ℕ, List, [], length, take, true, false, not, Bool, Option, Some, None, OnOk, IfOk, if◌then◌else◌};
 ghost use Rattle.giop_print.specs.Output.{Writes};
 ghost use Rattle.giop_sig.specs.Table.{Table};
-ghost use Rattle.giop_message.specs.Phases.{unbroken};
 ghost use Rattle.giop_message.specs.Signatures.{Answers};
 ghost use Rattle.giop_message.specs.MessageState.{AreKnown};
-ghost use Rattle.giop_stream.specs.Events.{MessageKey, Faults, Closes};
-ghost use Rattle.giop_stream.specs.Rules.{most_open};
-ghost use Rattle.giop_stream.specs.OpenSlots.{Tracked, IsNotOpen};
-ghost use Rattle.giop_stream.specs.SlotsRepresent.{current_of};
+ghost use Rattle.giop_stream.specs.Events.{MessageKey, Faults, Closes, mixes, is_id};
+ghost use Rattle.giop_stream.specs.Rules.{most_open, asks_by};
+ghost use Rattle.giop_stream.specs.Lines.{Kept, nothing_kept};
+ghost use Rattle.giop_stream.specs.OpenSlots.{Tracked, IsNotOpen, asked_in};
+ghost use Rattle.giop_stream.specs.SlotsRepresent.{RepresentsMessage, current_of};
 
 use crate::fault::FramingFault;
-use crate::open_message::{close_message, fault_message, take_octets};
-use giop_entry_table::EntryTable;
+use crate::open_message::{close_message, fault_message, seam_message, take_octets};
+use giop_entry_table::OptionalIdTable;
 use giop_message::{Correspondent, Message};
 use giop_print::{Out, OutFault, cancelled_line, unfinished_line};
 use giop_sig::Catalogue;
@@ -22,7 +22,7 @@ use std::alloc::{AllocError, Global};
 /// The greatest number of messages that may be open at once.
 pub const MOST_OPEN: u32 = 4_096;
 
-/// An open message, kept under its request id.
+/// An open message, kept under its request id. A message of GIOP 1.1 has none.
 #[derive(Drop)]
 pub struct Slot {
     pub number: u64,
@@ -54,23 +54,37 @@ impl PayloadOwner {
     }
 }
 
+/// Whether a message has given this request id.
+fn has_id(message: &Message, id: u32) -> bool
+    ensures { (C : Table) (l : Answers) (w : MessageKey) (kept : Kept) →
+        RepresentsMessage C l (Some message.now) w (Some kept) →
+        result ≡ is_id (Some id) (asked_in (asks_by C l) w (Some kept)) }
+{
+    match message.request_id() {
+        Some(other) => id == other,
+        None => false,
+    }
+}
+
 /// The open messages, and the message that the payload's octets belong to.
 #[derive(Drop)]
 pub struct Slots {
-    pub slots: EntryTable<Slot>,
+    pub slots: OptionalIdTable<Slot>,
     pub owner: PayloadOwner,
+    /// Whether no Fragment of GIOP 1.1 is joined any more, since nobody can tell to which message it belongs.
+    pub is_mixed: bool,
 }
 
 impl Slots {
-    ghost use Rattle.std.specs.Prelude.{◌<◌, ◌==◌, List, IfSome, flat_map, nat_le, is_some, option_copied, option_map, slice_get};
-    ghost use Rattle.std.specs.List.{AllByRecursion as Each, position_from};
+    ghost use Rattle.std.specs.Prelude.{◌<◌, ◌==◌, IfSome, flat_map, nat_le, is_some, is_none, ◌||◌, option_copied, option_map, slice_get};
+    ghost use Rattle.std.specs.List.{position_from};
     ghost use Rattle.giop_print.specs.Lines.{unfinished_line};
-    ghost use Rattle.giop_stream.specs.Events.{Open, Opens, Cancelled, Rising};
+    ghost use Rattle.giop_stream.specs.Events.{Open, Opens, Seams, Cancelled, Rising};
     ghost use Rattle.giop_message.specs.Signatures.{signatures_of};
     ghost use Rattle.giop_message.specs.Messages.{message, message_lines};
     ghost use Rattle.giop_message.specs.ReaderOfTable.{first_request_id};
-    ghost use Rattle.giop_stream.specs.SlotsRepresent.{AreSlots, RepresentsMessage, SlotsRepresent, AreReady, KeepsRoom, IsBare};
-    ghost use Rattle.giop_stream.specs.Effects.{effect_to};
+    ghost use Rattle.giop_stream.specs.SlotsRepresent.{AreSlots, SlotsRepresent, index_under, AreReady, KeepsRoom, IsBare};
+    ghost use Rattle.giop_stream.specs.Effects.{event, effect_to};
     ghost use Rattle.giop_stream.specs.DoesEffect.{DoesEffect, one_if, never};
     ghost use Rattle.giop_stream.specs.OpenSlots.{Slot as Held, left_open};
     ghost use Rattle.giop_stream.specs.PayloadRuns.{run_effect};
@@ -78,27 +92,31 @@ impl Slots {
     ghost use Rattle.giop_message.specs.HeaderEnds.{AgreesAtEnds, after_ends};
     ghost use Rattle.giop_message.specs.DueOctets.{TakesFront, StaysUndue};
 
-    /// Makes slots without a message, for this number of open messages.
-    pub fn new(alloc: Global, most: usize) -> Result<Slots, AllocError>
+    /// Makes slots without a message, for this number of open messages. Fragments of GIOP 1.1 are joined or refused.
+    pub fn new(alloc: Global, most: usize, joins: bool) -> Result<Slots, AllocError>
         requires { most ≤ most_open }
         ensures most { IfOk result (λ slots. slots.slots.most ≡ most) }
         ensures bare { IfOk result (λ slots. IsBare slots) }
+        ensures mixed { IfOk result (λ slots. slots.is_mixed ≡ not joins) }
         ensures ready { IfOk result (λ slots. (C : Table) (n : ℕ) → AreReady C n slots) }
     {
         Ok(Slots {
-            slots: EntryTable::new(alloc, most)?,
+            slots: OptionalIdTable::new(alloc, most)?,
             owner: PayloadOwner::Open(None),
+            is_mixed: !joins,
         })
     }
 
     /// Drops all messages.
-    pub fn clear(&mut self)
+    pub fn clear(&mut self, joins: bool)
         ensures most { self.new.slots.most ≡ self.old.slots.most }
         ensures bare { IsBare self.new }
+        ensures mixed { self.new.is_mixed ≡ not joins }
         ensures ready { (C : Table) (n : ℕ) → AreReady C n self.new }
     {
         self.slots.clear();
         self.owner = PayloadOwner::Open(None);
+        self.is_mixed = !joins;
     }
 
     /// The open message at this index.
@@ -113,8 +131,8 @@ impl Slots {
         }
     }
 
-    /// The request id of the open message at this index.
-    pub fn id(&self, k: usize) -> u32
+    /// The request id of the open message at this index, unless it is of GIOP 1.1.
+    pub fn id(&self, k: usize) -> Option<u32>
         requires { k < length self.now.slots.entries }
         ensures { option_map (λ e. e.key) (slice_get self.now.slots.entries k) ≡ Some result }
     {
@@ -216,6 +234,7 @@ impl Slots {
     }
 
     /// Faults the owner of the payload, unless it is over. Returns whether it does.
+    #[inline(never)]
     pub fn fault_message<O: Out>(
         &mut self,
         number: u64,
@@ -225,6 +244,7 @@ impl Slots {
     ) -> Result<bool, OutFault>
         ensures does { (C : Table) (l : Answers) (c : Tracked) (w : MessageKey) →
             SlotsRepresent C l self.old c (Some w) → w.number ≡ number → Rising c.still_open →
+            (c.mixed || mixes (event place w (Faults fault))) ≡ c.mixed →
             DoesEffect C l one_if result (O.log out.old) (O.log out.new) self.new
             (effect_to C l place c (Some w) (Faults fault)) (Some w) }
         ensures room { KeepsRoom self.old self.new }
@@ -292,8 +312,12 @@ impl Slots {
             unreachable!();
         };
         match owner.take() {
-            Some(k) => match self.slots.take(k) {
-                Some(entry) => close_message(&entry.value.message, catalogue, place, out),
+            Some(k) => match self.slots.get(k) {
+                Some(slot) => {
+                    let closed = close_message(&slot.message, catalogue, place, out);
+                    self.slots.remove(k);
+                    closed
+                }
                 None => Ok(false),
             },
             None => Ok(false),
@@ -308,6 +332,7 @@ impl Slots {
     }
 
     /// Makes the current message an open one, under this request id.
+    #[inline(always)]
     pub fn open(&mut self, number: u64, header: [u8; 12], id: u32)
         requires { length self.old.slots.entries < self.old.slots.most }
         ensures kept { (C : Table) (l : Answers) (c : Tracked) (w : MessageKey) (place : ℕ) →
@@ -325,6 +350,28 @@ impl Slots {
             message,
         };
         self.slots.add(id, slot);
+    }
+
+    /// Makes the current message an open one that Fragments of GIOP 1.1 continue.
+    #[inline(never)]
+    pub fn open_without_id(&mut self, number: u64, header: [u8; 12])
+        requires room { length self.old.slots.entries < self.old.slots.most }
+        requires only { position_from (λ slot. is_none slot.key) 0 self.old.slots.entries ≡ None }
+        ensures kept { (C : Table) (l : Answers) (c : Tracked) (w : MessageKey) (place : ℕ) →
+            SlotsRepresent C l self.old c (Some w) → IsNotOpen w.number c.still_open →
+            w.number ≡ number → w.header ≡ header →
+            SlotsRepresent C l self.new (effect_to C l place c (Some w) (Opens None)).tracked
+            (Some w) }
+        ensures room { KeepsRoom self.old self.new }
+    {
+        let message = self.owner.take_current();
+        self.owner = PayloadOwner::Open(Some(self.slots.len()));
+        let slot = Slot {
+            number,
+            header,
+            message,
+        };
+        self.slots.add_without_id(slot);
     }
 
     /// Makes the open message at this index the owner of the payload.
@@ -356,7 +403,7 @@ impl Slots {
             (w : MessageKey) →
             SlotsRepresent catalogue.now l self.old c owner_of_next → w.number ≡ number →
             w.header ≡ header →
-            c.known w.number ≡ Some [] → IsNotOpen w.number c.still_open →
+            c.known w.number ≡ Some nothing_kept → IsNotOpen w.number c.still_open →
             SlotsRepresent catalogue.now l self.new c (Some w) }
         ensures ready { (n : ℕ) → AreReady catalogue.now n self.old → 12 < n →
             AreReady catalogue.now n self.new }
@@ -379,10 +426,10 @@ impl Slots {
 
     /// The request id of the current message, after the message's own octets have completed it.
     pub fn request_id(&self) -> u32
-        ensures { (C : Table) (l : Answers) (w : MessageKey) (xs : List ℕ) (i : ℕ) →
-            RepresentsMessage C l (current_of self.now.owner) w (Some xs) →
-            first_request_id (message_lines (message (signatures_of C (l w.number) unbroken)
-            w.header xs))
+        ensures { (C : Table) (l : Answers) (w : MessageKey) (kept : Kept) (i : ℕ) →
+            RepresentsMessage C l (current_of self.now.owner) w (Some kept) →
+            first_request_id (message_lines (message (signatures_of C (l w.number) kept.phase)
+            w.header kept.octets))
             ≡ Some i → result ≡ i }
     {
         match self.current() {
@@ -392,11 +439,79 @@ impl Slots {
     }
 
     /// The index of the open message with this request id.
+    #[inline(always)]
     pub fn find(&self, id: u32) -> Option<usize>
-        ensures value { result ≡ position_from (λ slot. slot.key == id) 0 self.now.slots.entries }
+        ensures value { result ≡ index_under self.now (Some id) }
         ensures within { IfSome result (λ k. k < length self.now.slots.entries) }
     {
         self.slots.find(id)
+    }
+
+    /// The index of the message that Fragments of GIOP 1.1 continue.
+    pub fn pending(&self) -> Option<usize>
+        ensures value { result ≡ index_under self.now None }
+        ensures within { IfSome result (λ k. k < length self.now.slots.entries) }
+    {
+        if self.is_mixed {
+            return None;
+        }
+        self.slots.without_id()
+    }
+
+    /// The index of the open message with this request id; or of the one without an id, if Fragments of GIOP 1.1 have none.
+    pub fn find_by(&self, id: Option<u32>) -> Option<usize>
+        ensures value { result ≡ index_under self.now id }
+        ensures within { IfSome result (λ k. k < length self.now.slots.entries) }
+    {
+        match id {
+            Some(id) => self.find(id),
+            None => self.pending(),
+        }
+    }
+
+    /// Whether the open message at this index isn't over, and its own octets have given this request id.
+    pub fn asks(&self, k: usize, id: u32) -> bool
+        requires { k < length self.now.slots.entries }
+        ensures { (C : Table) (l : Answers) (c : Tracked) (owner_of_next : Option MessageKey)
+            (o : Open) →
+            SlotsRepresent C l self.now c owner_of_next → slice_get c.still_open k ≡ Some o →
+            result ≡ is_id (Some id)
+            (asked_in (asks_by C l) o.opener (c.known o.opener.number)) }
+    {
+        match &self.at(k).message {
+            Some(message) => has_id(message, id),
+            None => false,
+        }
+    }
+
+    /// Notes that the payload of a Fragment of GIOP 1.1 begins at the next octet of its owner.
+    #[inline(never)]
+    pub fn seam(&mut self)
+        ensures kept { (C : Table) (l : Answers) (c : Tracked) (k : ℕ) (o : Open) (place : ℕ) →
+            SlotsRepresent C l self.old c (Some o.opener) → slice_get c.still_open k ≡ Some o →
+            Rising c.still_open →
+            SlotsRepresent C l self.new (effect_to C l place c (Some o.opener) Seams).tracked
+            (Some o.opener) }
+        ensures room { KeepsRoom self.old self.new }
+    {
+        match &mut self.owner {
+            PayloadOwner::Current(_, _) => {}
+            PayloadOwner::Open(None) => {}
+            PayloadOwner::Open(Some(k)) => match self.slots.get_mut(*k) {
+                Some(slot) => seam_message(&mut slot.message),
+                None => {}
+            },
+        }
+    }
+
+    /// Notes that nobody can tell to which message a Fragment of GIOP 1.1 belongs, from now on.
+    pub fn mix(&mut self)
+        ensures kept { (C : Table) (l : Answers) (c : Tracked) (owner_of_next : Option MessageKey) →
+            SlotsRepresent C l self.old c owner_of_next →
+            SlotsRepresent C l self.new (record c { mixed = true }) owner_of_next }
+        ensures room { KeepsRoom self.old self.new }
+    {
+        self.is_mixed = true;
     }
 
     /// Closes the open message at this index. The message with the number `by` cancels it.

@@ -1,5 +1,5 @@
 -- A checkpoint of a stream with two open messages, computed.
-use Rattle.std.proofs.Common.{◌≡◌, ℕ, ◌<◌, ◌^◌, false, List, [], ◌∷◌, ◌++◌, length, take, drop, None, Some, arith, refl}
+use Rattle.std.proofs.Common.{◌≡◌, ℕ, ◌<◌, ◌^◌, true, false, List, [], ◌∷◌, ◌++◌, length, take, drop, None, Some, arith, refl}
 use Rattle.std.proofs.lemmas.Bool.{ltb-true}
 use Rattle.giop_cdr.specs.declared.order.Order.TheVariants as orders
 use Rattle.giop_print.specs.declared.path.Root.TheVariants as roots
@@ -150,7 +150,7 @@ between = record {
     slots = record {
       most = 16;
       entries = record {
-        key = 5;
+        key = Some 5;
         value = record {
           number = 1;
           header = header 40;
@@ -159,7 +159,7 @@ between = record {
         };
       }
           ∷ record {
-            key = 6;
+            key = Some 6;
             value = record {
               number = 2;
               header = header 36;
@@ -169,6 +169,7 @@ between = record {
           } ∷ [];
     };
     owner = owners.Current None false;
+    is_mixed = true;
   };
 }
 
@@ -464,6 +465,7 @@ two_open = record {
         record { number = refl; header = refl; key = refl; message = first_follows },
         (record { number = refl; header = refl; key = refl; message = second_follows }, tt),
       );
+      mixed = refl;
       owner = refl;
     };
   };

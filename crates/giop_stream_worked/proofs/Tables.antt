@@ -7,12 +7,13 @@ use Rattle.giop_tokens.specs.Names.{is_reserved}
 use Rattle.giop_tokens.specs.Marks.{mark_of}
 use Rattle.giop_sig.specs.CallReading.{direction_of}
 use Rattle.giop_sig.specs.Trees.{tree_at, depth_at, depth_of}
+use Rattle.giop_sig.specs.AnyTypes.{any_types, third_types}
 use Rattle.giop_sig.specs.Builtin.{builtin_types}
 use Rattle.giop_sig.specs.Grammar.{TypeExpr, Base, Item, Param, Declaration, DeclaredException, Call, SignatureFile, spell_file}
 use Rattle.giop_sig.specs.Scopes.{add_type, add_items, add_params, declare}
 use Rattle.giop_sig.specs.Validity.{OfType, OfItems, OfDeclaration, Each}
 use Rattle.giop_stream_worked.proofs.TokensRead.{tokens_in, are_tokens}
-use Rattle.giop_stream_worked.specs.Worked.{IsTableOf, called, table_of, builtin, puts, bigs, late, asks, put_text, bigs_text, asks_text}
+use Rattle.giop_stream_worked.specs.Worked.{IsTableOf, IsTableUpTo, called, table_of, builtin, puts, bigs, tris, late, asks, put_text, bigs_text, tris_text, asks_text}
 
 abbrev item : TypeExpr → List ℕ → Item
 item type name = record { type = type; name = name; lengths = [] }
@@ -44,8 +45,9 @@ put_file = file_of (Call None (codes "put") (param (codes "in") (Base prims.Doub
 -- says
 unfoldable told_with : ℕ
 unfolding tokens_in gap is_number first next is_reserved mark_of depth_at tree_at depth_of
-    builtin_types add_type add_items add_params declare OfType OfItems OfDeclaration Each called
-    table_of builtin puts bigs late asks put_text bigs_text asks_text
+    builtin_types any_types third_types add_type add_items add_params declare OfType OfItems
+    OfDeclaration Each called table_of builtin puts bigs tris late asks put_text bigs_text tris_text
+    asks_text
 told_with = 0
 
 pub none_declared : IsTableOf (codes "signatures 1;") builtin
@@ -117,6 +119,44 @@ bigs_declared = record {
     within = (
       (tt, (lit≤ tt, lit< tt), ((tt, (lit≤ tt, lit< tt), tt), tt), tt),
       ((tt, (lit≤ tt, lit< tt), tt, tt), tt),
+    );
+  };
+  table = refl;
+}
+
+abbrev tris_file : SignatureFile
+tris_file = record {
+  version = 3;
+  declarations = Call None (codes "tri")
+      (param (codes "in") (Base prims.ULong) (codes "a")
+      (param (codes "in") (Base prims.ULongLong) (codes "n") [])) [] ∷ [];
+}
+
+pub tris_declared : IsTableUpTo 3 tris_text tris
+unfolding told_with
+tris_declared = record {
+  file = tris_file;
+  spells = record {
+    short = omega arith;
+    tokens = are_tokens 40 tris_text (spell_file tris_file) refl;
+    version = refl;
+    words = ((tt, tt, ((tt, refl, tt), ((tt, refl, tt), tt)), tt), tt);
+  };
+  valid = record {
+    declared = refl;
+    known = ((tt, tt, ((tt, tt, tt), ((tt, tt, tt), tt)), tt), tt);
+    distinct = ((tt, λ old. refl, ((tt, refl, tt), ((tt, refl, tt), tt)), refl), tt);
+    some = ((tt, tt, ((tt, tt, tt), ((tt, tt, tt), tt)), tt), tt);
+    labels = ((tt, tt, ((tt, tt, tt), ((tt, tt, tt), tt)), tt), tt);
+    shallow = (lit≤ tt, tt);
+    within = (
+      (
+        tt,
+        (lit≤ tt, lit< tt),
+        ((tt, (lit≤ tt, lit< tt), tt), ((tt, (lit≤ tt, lit< tt), tt), tt)),
+        tt,
+      ),
+      tt,
     );
   };
   table = refl;

@@ -1,7 +1,7 @@
 -- Worked streams, message by message, with their lines (meaning).
 use Rattle.std.specs.Prelude.{[], ◌∷◌, codes}
 use Rattle.giop_stream.specs.Rules.{rules}
-use Rattle.giop_stream_worked.specs.Worked.{stream, Row, read_by, builtin, puts, bigs, asks, kept}
+use Rattle.giop_stream_worked.specs.Worked.{stream, Row, read_by, builtin, puts, bigs, tris, asks, kept}
 
 -- a CloseConnection of GIOP 1.0
 abbrev pub CloseConnection : Type 0
@@ -84,6 +84,34 @@ Interleaved = Row (read_by bigs [])
     ∷ codes "m1 end"
     ∷ [])
     (codes "total messages 5 faults 0 octets 152" ∷ [])
+
+-- A 1.1 Request whose body goes on in a Fragment. The padding before its second number is counted
+-- from the header of the Fragment.
+abbrev pub Joined : Type 0
+Joined = Row (read_by tris [])
+    (stream (codes "47494f50 0101 02 00 00000024"
+    ∷ codes "00000000 00000005 01 000000 00000001 41 000000 00000004 747269 00 00000000"
+    ∷ codes "00000007"
+    ∷ codes "47494f50 0101 00 07 0000000c ffffffff 0102030405060708"
+    ∷ []))
+    (codes "m1 start 1.1 big Request size 36 more"
+    ∷ codes "m1 header.service_contexts count 0"
+    ∷ codes "m1 header.request_id ulong 5"
+    ∷ codes "m1 header.response_expected boolean true"
+    ∷ codes "m1 header.reserved[0] octet 0"
+    ∷ codes "m1 header.reserved[1] octet 0"
+    ∷ codes "m1 header.reserved[2] octet 0"
+    ∷ codes "m1 header.object_key octets @0 41"
+    ∷ codes "m1 header.operation string @0 \"tri\""
+    ∷ codes "m1 call 5 tri"
+    ∷ codes "m1 header.requesting_principal octets @0"
+    ∷ codes "m1 body.a ulong 7"
+    ∷ codes "m2 start 1.1 big Fragment size 12"
+    ∷ codes "m2 continues m1"
+    ∷ codes "m1 body.n ulonglong 72623859790382856"
+    ∷ codes "m1 end"
+    ∷ [])
+    (codes "total messages 2 faults 0 octets 72" ∷ [])
 
 -- two messages with the same request id; the second is faulted
 abbrev pub OpenTwice : Type 0

@@ -4,10 +4,11 @@ use Rattle.std.specs.Prelude.{◌≡◌, ℕ, ◌+◌, ◌-◌, ◌*◌, ◌==�
 use Rattle.giop_sig.specs.Heard.{first_fronts}
 use Rattle.giop_sig.specs.Interfaces.{no_interfaces}
 use Rattle.giop_sig.specs.Table.{Node, members, Operation, Exception, Table, op_id, operation_key, asked_number}
+use Rattle.giop_sig.specs.AnyTypes.{first_types}
 use Rattle.giop_sig.specs.Builtin.{builtin_types, member}
 use Rattle.giop_sig.specs.Grammar.{SignatureFile}
 use Rattle.giop_sig.specs.Scopes.{table}
-use Rattle.giop_sig.specs.Validity.{IsValid, Spells}
+use Rattle.giop_sig.specs.Validity.{IsValid, SpellsUpTo}
 use Rattle.giop_sig.specs.RequestList.{Entry, IsOf}
 use Rattle.giop_message.specs.Signatures.{RequestTable}
 use Rattle.giop_stream.specs.Rules.{Rules, rules, most_open}
@@ -75,13 +76,16 @@ table_of types operations exceptions = record {
 unfoldable pub builtin : Table
 builtin = table_of [] [] []
 
--- The text of a signature file, and its table: the text spells a valid file, and this is the table
--- of the file.
-pub record IsTableOf (text : List ℕ) (t : Table) : Type 0 where
+-- The text of a signature file of a version up to this one, and its table: the text spells a valid
+-- file, and this is the table of the file.
+pub record IsTableUpTo (latest : ℕ) (text : List ℕ) (t : Table) : Type 0 where
   pub file : SignatureFile
-  pub spells : Spells text file
+  pub spells : SpellsUpTo latest text file
   pub valid : IsValid file
   pub table : t ≡ table file
+
+abbrev pub IsTableOf : List ℕ → Table → Type 0
+IsTableOf text t = IsTableUpTo 2 text t
 
 unfoldable pub put_text : List ℕ
 put_text = codes "signatures 1; operation void put(in double d);"
@@ -100,6 +104,25 @@ bigs = table_of
     (members (member (codes "n") 8 ∷ []) ∷ members [] ∷ members [] ∷ members [] ∷ [])
     (called (codes "big") 0 ∷ called (codes "nop") 2 ∷ [])
     []
+
+unfoldable pub tris_text : List ℕ
+tris_text = codes "signatures 3; operation void tri(in ulong a, in ulonglong n);"
+
+-- the table of this text, by which Fragments of 1.1 are joined
+unfoldable pub tris : Table
+tris =
+    let first = length (first_types 3) in
+    record (table_of [] [] []) {
+      version = 3;
+      types = first_types 3 ++ members (member (codes "a") 6 ∷ member (codes "n") 8 ∷ [])
+          ∷ members [] ∷ [];
+      operations = record {
+        key = operation_key 0 (codes "tri");
+        request = first;
+        reply = first + 1;
+      } ∷ [];
+      called = 1;
+    }
 
 -- the exception that the next text declares
 unfoldable pub late : Exception

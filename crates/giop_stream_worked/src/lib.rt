@@ -3,8 +3,8 @@
 #![tactic(auto)]
 
 ghost use Rattle.std.specs.Prelude.{codes};
-ghost use Rattle.giop_stream_worked.specs.Worked.{AreOfTheirList, IsTableOf, put_text, bigs_text, asks_text, builtin, puts, bigs, asks};
-ghost use Rattle.giop_stream_worked.specs.Streams.{CloseConnection, LittleRequest, Interleaved, OpenTwice, OneOpen, Cancelled, Replied, Raised, CodeSets, CodeSetsCutShort, Profile};
+ghost use Rattle.giop_stream_worked.specs.Worked.{AreOfTheirList, IsTableOf, IsTableUpTo, put_text, bigs_text, tris_text, asks_text, builtin, puts, bigs, tris, asks};
+ghost use Rattle.giop_stream_worked.specs.Streams.{CloseConnection, LittleRequest, Interleaved, Joined, OpenTwice, OneOpen, Cancelled, Replied, Raised, CodeSets, CodeSetsCutShort, Profile};
 ghost use Rattle.giop_stream_worked.specs.Checkpoints.{InAHeader, InAnOldHeader, InAPayload, BehindAFault, BetweenMessages};
 
 /// The text and the closing of these streams, with the declarations and the requests of each. The
@@ -16,6 +16,8 @@ pub fn worked_streams()
     ensures request { LittleRequest }
     // Two Requests whose fragments are interleaved.
     ensures interleaved { Interleaved }
+    // A Request of 1.1 and its Fragment.
+    ensures joined { Joined }
     // Two messages with the same request id.
     ensures id { OpenTwice }
     // Two messages, if one message may be open.
@@ -41,6 +43,7 @@ pub fn worked_tables()
     ensures empty { IsTableOf (codes "signatures 1;") builtin }
     ensures puts { IsTableOf put_text puts }
     ensures bigs { IsTableOf bigs_text bigs }
+    ensures tris { IsTableUpTo 3 tris_text tris }
     ensures asks { IsTableOf asks_text asks }
 {}
 

@@ -1,9 +1,10 @@
 -- A stream has the same lines and the same state by two `Answers`, if they agree at each header
 -- that ends in it before the message of that header is over.
-use Rattle.std.proofs.Common.{inl, inr, ◌⊎◌, ◌≡◌, ℕ, zero, suc, ◌<◌, Bool, true, false, List, [], ◌∷◌, ◌++◌, length, Option, Some, None, refl, sym, ap, subst, ◌∙◌, append-nil, append_assoc, arith}
-use Rattle.std.specs.Prelude.{◌==◌, ◌&&◌, is_none, nat_lt, option_map, option_to_list, if◌then◌else◌}
-use Rattle.std.specs.List.{list_any, AllByRecursion as Each}
-use Rattle.std.proofs.lemmas.Bool.{eqb-true, ltb-false}
+use Rattle.std.proofs.Common.{inl, inr, ◌⊎◌, ◌≡◌, ℕ, zero, suc, ◌-◌, ◌<◌, Bool, true, false, List, [], ◌∷◌, ◌++◌, length, get_or, Option, Some, None, refl, sym, ap, subst, ◌∙◌, append-nil, append_assoc, arith}
+use Rattle.std.specs.Prelude.{◌==◌, ◌&&◌, ◌||◌, not, is_none, nat_lt, option_to_list, if◌then◌else◌}
+use Rattle.std.specs.List.{find, list_any, AllByRecursion as Each}
+use Rattle.std.proofs.lemmas.Bool.{eq-eqb, eqb-true, ne_eqb, ltb-false}
+use Rattle.std.proofs.lemmas.List.{append_cancel_left, get_or_push, length_push}
 use Rattle.giop_checkpoint.specs.declared.fault.StreamFault.{StreamFault}
 use Rattle.giop_checkpoint.specs.declared.fault.StreamFault.TheVariants.{StreamLimit}
 use Rattle.giop_sig.specs.Types.{Ty}
@@ -14,20 +15,21 @@ use Rattle.giop_sig.specs.HeaderTypes.{header_type}
 use Rattle.giop_decode.specs.Pieces.{number, block}
 use Rattle.giop_cdr.specs.Alignment.{padding}
 use Rattle.giop_message.specs.Phases.{unbroken}
-use Rattle.giop_message.specs.Headers.{minor, kind}
+use Rattle.giop_message.specs.Headers.{minor, kind, size}
 use Rattle.giop_message.specs.Signatures.{Answer, Answers, signatures_of}
-use Rattle.giop_message.specs.Messages.{section_then, rest_in, rest, of_header, message, message_marks}
+use Rattle.giop_message.specs.Messages.{MessageReading, section_then, rest_in, rest, of_header, message, message_lines, message_marks}
 use Rattle.giop_message.specs.MessageReader.{MessageReader}
-use Rattle.giop_message.specs.ReaderOfTable.{message_reader}
+use Rattle.giop_message.specs.ReaderOfTable.{first_request_id, message_reader}
 use Rattle.giop_message.specs.HeaderEnds.{HeaderEnd, CallEvent, Header_end, Exception_end, noted_in, marks, header_noted, header_ends, call_event, after_event, after_ends, AgreesAtEnds}
-use Rattle.giop_message.proofs.MessageLaws.{is_causal, is_ending, header_noted_before, header_ended, answers_first, answers_then}
-use Rattle.giop_stream.specs.Rules.{Rules, rules_by}
+use Rattle.giop_message.proofs.MessageLaws.{is_causal, is_ending, header_ended, unended_agree, answers_first, answers_then}
+use Rattle.giop_stream.specs.Rules.{Rules, asks_by, joins_by, rules_by}
 use Rattle.giop_stream.specs.Framing.{CutMessage, Cut, limit, cut, messages, fault_of}
-use Rattle.giop_stream.specs.Events.{EventKind, MessageKey, Event, Open, message_key, place, opener_of, goes_past, events_of_octet, events_from, events, open_after, joined, Now}
-use Rattle.giop_stream.specs.Lines.{StreamLine, is_last_of, stop_line, lines}
+use Rattle.giop_stream.specs.Kinds.{is_any_fragment, named_at}
+use Rattle.giop_stream.specs.Events.{EventKind, Takes, MessageKey, Event, Before, Open, message_key, place, key, opener_of, goes_past, own, event_of_open, payload_events, naming_events, message_end_events, events_of_octet, events_from, events, open_after, octet, joined, mixes, before_by, Now, now_of}
+use Rattle.giop_stream.specs.Lines.{StreamLine, Kept, nothing_kept, stop_line, lines}
 use Rattle.giop_stream.specs.Stream.{text, tally, final, closing}
-use Rattle.giop_stream.specs.OpenSlots.{OctetsByNumber, slots_of, octets_of, Tracked, tracked_after}
-use Rattle.giop_stream.specs.Effects.{Effect, lines_for, kept_with, kept_after, lines_at, tracked_at, effects, with_octet}
+use Rattle.giop_stream.specs.OpenSlots.{KeptByNumber, slots_of, known_of, Tracked, tracked_after, asked_in, asked_by, before_in}
+use Rattle.giop_stream.specs.Effects.{Effect, kept_then, lines_for, lines_at, tracked_at, effects, with_octet, event}
 use Rattle.giop_stream.specs.Octet.{Octet, AfterStop, Ends, Held, Of, octet_in, octet_of, header_of, payload_count_of}
 use Rattle.giop_stream.specs.PayloadOwner.{owner_of_octet}
 use Rattle.giop_stream.specs.EngineState.{opener_key, owner_of_next, state_of}
@@ -42,13 +44,17 @@ use Rattle.giop_stream.proofs.Lists.{each_append, each_weaker, all_by}
 use Rattle.giop_stream.proofs.Cuts.Cutting.{of_parts, stopped_at}
 use Rattle.giop_stream.proofs.Cuts.CutFrom.{end_message}
 use Rattle.giop_stream.proofs.Cuts.Numbers.{header_of_number}
-use Rattle.giop_stream.proofs.Cuts.Start.{events_nothing, lines_nothing, octets_nothing}
+use Rattle.giop_stream.proofs.Cuts.Start.{events_nothing, lines_nothing, known_nothing, open_nothing}
 use Rattle.giop_stream.proofs.Events.EventsOfOctet.{events_of_octet_each, opened_each}
+use Rattle.giop_stream.proofs.Events.EventsByEngine.{found_in}
+use Rattle.giop_stream.proofs.Events.Soundness.{IsSound}
 use Rattle.giop_stream.proofs.Events.Sharing.{more_of, header_joined, octet_joined}
 use Rattle.giop_stream.proofs.StreamLines.LinesOfOctet.{joined_append}
 use Rattle.giop_stream.proofs.SlotSteps.Parts.{in_turn, owner_next}
 use Rattle.giop_stream.proofs.CodeSteps.OneOctet.{Adds, IsOf, Then, octet_limit, then_is}
 use Rattle.giop_stream.proofs.CodeSteps.EngineAlive.{sound}
+use Rattle.giop_stream.proofs.CodeSteps.WhatStands.{before_is}
+use Rattle.giop_stream.proofs.CodeSteps.KeptOn.{kept_on, kept_on_append, kept_was, effects_was, noted_of, on_before, quiet_on}
 use Rattle.giop_stream.proofs.CodeSteps.EngineLaws.{finish_is, final_is}
 use Rattle.giop_stream.proofs.CodeSteps.StreamAgreement.{tells_agree, IsSame, shows_agree, each_parts, each_own, of_owner, one_header}
 use Rattle.giop_stream.proofs.CodeSteps.HeaderEndSteps.{at_free, from_append}
@@ -92,61 +98,88 @@ not_noted : (header : List ℕ) → header_noted unbroken header [] ≡ None
 unfolding header_noted marks message signatures_of
 not_noted header = none_at_first (minor header) (kind header) header
 
--- ---- what was kept of a message before events, if it is known what is kept of it after them
+-- ---- what an octet gives to its owner
 
--- these octets were kept, and after them come those that the events add
-record Was (o : Option (List ℕ)) (xs' more : List ℕ) : Type 0 where
-  xs : List ℕ
-  known : o ≡ Some xs
-  is : xs' ≡ xs ++ more
+-- the octet's event
+unfoldable pub takes_of : ℕ → Option MessageKey → ℕ → List Event
+takes_of at None x = []
+takes_of at (Some w) x = event at w (Takes x) ∷ []
 
-kept_was : (known : OctetsByNumber) (es : List Event) (ls : List StreamLine) (i : ℕ) (xs' : List
-    ℕ) →
-    kept_after (kept_with known es) ls i ≡ Some xs' → Was (known i) xs' (joined i es)
-unfolding kept_after kept_with
-kept_was known es ls i xs' e = go (list_any (is_last_of i) ls) (known i) e
-  where
-    go : (b : Bool) (o : Option (List ℕ)) →
-        (if b then None else option_map (λ xs. xs ++ joined i es) o) ≡ Some xs' →
-        Was o xs' (joined i es)
-    go true o k = absurd cc
-    go false None k = absurd cc
-    go false (Some xs) k =
-        let same : xs ++ joined i es ≡ xs' = cc in
-        record { xs = xs; known = refl; is = sym same }
-
-effects_was : (R : MessageReader) (es : List Event) (c : Tracked) (i : ℕ) (xs' : List ℕ) →
-    (effects R c es).tracked.known i ≡ Some xs' → Was (c.known i) xs' (joined i es)
-unfolding effects tracked_at joined
-effects_was R [] c i xs' e = record { xs = xs'; known = e; is = sym (append-nil xs') }
-effects_was R (e ∷ es) c i xs' k =
-    let more = effects_was R es (tracked_at R c e) i xs' k in
-    let one = kept_was c.known (e ∷ []) (lines_at R c.known e) i more.xs more.known in
-    record {
-      xs = one.xs;
-      known = one.known;
-      is = more.is ∙ (ap (λ (z : List ℕ). z ++ joined i es) one.is
-          ∙ (append_assoc one.xs (joined i (e ∷ [])) (joined i es)
-          ∙ ap (λ (z : List ℕ). one.xs ++ z) (sym (joined_append i (e ∷ []) es))));
-    }
-
--- ---- what an octet gives to the message that has a number, from the octet's owner
-
+-- what the octet x gives to message i: itself, if its owner has that number; else nothing
 given : ℕ → ℕ → Option MessageKey → List ℕ
 given i x None = []
 given i x (Some w) = if w.number == i then x ∷ [] else []
 
-owner_gives : (i : ℕ) (still_open : List Open) (m : CutMessage) (x : ℕ) →
-    more_of i still_open m x ≡ given i x (owner_of_octet still_open m)
+owner_gives : (i : ℕ) (b : Before) (m : CutMessage) (x : ℕ) →
+    more_of i b m x ≡ given i x (owner_of_octet b m)
 unfolding more_of owner_of_octet continued given
-owner_gives i still_open m x = go (goes_past m) (opener_of still_open m)
+owner_gives i b m x = go (goes_past m) (opener_of b m)
   where
-    go : (b : Bool) (o : Option Open) →
-        (if b then continued i o (x ∷ []) else (if m.number == i then x ∷ [] else []))
-        ≡ given i x (if b then opener_key o else Some (message_key m))
+    go : (past : Bool) (o : Option Open) →
+        (if past then continued i o (x ∷ []) else (if m.number == i then x ∷ [] else []))
+        ≡ given i x (if past then opener_key o else Some (message_key m))
     go true None = refl
     go true (Some o) = refl
     go false o = refl
+
+takes_give : (i at x : ℕ) (w : Option MessageKey) → joined i (takes_of at w x) ≡ given i x w
+unfolding takes_of given joined octet
+takes_give i at x None = refl
+takes_give i at x (Some w) = append-nil (if w.number == i then x ∷ [] else [])
+
+-- the events of an octet of the payload are the one by which its owner takes it, and others, which
+-- add no octet
+pub record Split (most : ℕ) (b : Before) (m : CutMessage) (x : ℕ) : Type 0 where
+  pub at : ℕ
+  pub rest : List Event
+  pub is : events_of_octet most b (with_octet m x)
+      ≡ takes_of at (owner_of_octet b (with_octet m x)) x ++ rest
+  pub quiet : (i : ℕ) → joined i rest ≡ []
+
+nothing_more : (xs ys : List ℕ) → xs ≡ xs ++ ys → ys ≡ []
+nothing_more xs ys e = sym (append_cancel_left xs [] ys (append-nil xs ∙ e))
+
+pub split : (most : ℕ) (b : Before) (m : CutMessage) (x : ℕ) → Split most b m x
+unfolding events_of_octet payload_events
+split most b m x = record { at = place m'; rest = later; is = is; quiet = quiet }
+  where
+    m' : CutMessage
+    m' = with_octet m x
+
+    later : List Event
+    later = (if length m'.payload == named_at m'.header
+        then naming_events most b (now_of m') (key m') (opener_of b m') else [])
+        ++ (if length m'.payload == size m'.header then
+        message_end_events (now_of m') (opener_of b m') else [])
+
+    last : get_or m'.payload (length m'.payload - 1) 0 ≡ x
+    last = get_or_push m.payload x 0 (length m'.payload - 1)
+        (omega (arith, length_push m.payload x))
+
+    taken : payload_events (now_of m') (opener_of b m')
+        ≡ takes_of (place m') (owner_of_octet b m') x
+    taken = unfold goes_past owner_of_octet takes_of own event_of_open in
+        rw last (go (is_any_fragment m'.header && nat_lt (named_at m'.header) (length m'.payload))
+        (opener_of b m'))
+      where
+        go : (past : Bool) (o : Option Open) →
+            (if past then event_of_open (now_of m') o (Takes x) else own (now_of m') (Takes x))
+            ≡ takes_of (place m') (if past then opener_key o else Some (message_key m')) x
+        go true None = unfold event_of_open takes_of in refl
+        go true (Some o) = unfold event_of_open takes_of in refl
+        go false o = unfold own takes_of in refl
+
+    is : events_of_octet most b m' ≡ takes_of (place m') (owner_of_octet b m') x ++ later
+    is = rw (ne_eqb (length m'.payload) 0 (λ none. omega (arith, none, length_push m.payload x)))
+        (ap (λ (es : List Event). es ++ later) taken)
+
+    quiet : (i : ℕ) → joined i later ≡ []
+    quiet i =
+        let takes = takes_of (place m') (owner_of_octet b m') x in
+        nothing_more (joined i takes) (joined i later)
+        (takes_give i (place m') x (owner_of_octet b m')
+        ∙ (sym (owner_gives i b m' x) ∙ (sym (octet_joined most i b m m.payload x)
+        ∙ (ap (joined i) is ∙ joined_append i takes later))))
 
 -- if an octet is one of a message, it is within the limit
 room_of : (o : Option StreamFault) (held : List ℕ) (number read count x : ℕ) (now : Now) →
@@ -168,52 +201,56 @@ module _ (C : Table) (a b : Answers) (most : ℕ) where
   abbrev B : Rules
   B = rules_by C b most
 
-  -- for a message with these octets, the two answers agree, or its header has not ended
-  abbrev Agree : MessageKey → List ℕ → Type 0
-  Agree w xs = (a w.number ≡ b w.number) ⊎ (header_noted unbroken w.header xs ≡ None)
+  -- for a message of which this is kept, the two answers agree, or its header has not ended
+  abbrev Agree : MessageKey → Kept → Type 0
+  Agree w kept = (a w.number ≡ b w.number) ⊎ (noted_of w.header kept ≡ None)
 
-  agree_before : (w : MessageKey) (xs more : List ℕ) → Agree w (xs ++ more) → Agree w xs
-  agree_before w xs more (inl k) = inl k
-  agree_before w xs more (inr k) = inr (header_noted_before unbroken w.header xs more k)
+  agree_before : (w : MessageKey) (es : List Event) (kept : Kept) →
+      Agree w (kept_on w.number kept es) → Agree w kept
+  agree_before w es kept (inl k) = inl k
+  agree_before w es kept (inr k) = inr (on_before w.number w.header es kept k)
 
-  -- the same for each message whose octets are kept, after more octets come
-  abbrev Fine : OctetsByNumber → (ℕ → List ℕ) → MessageKey → Type 0
-  Fine known more w = (xs : List ℕ) → known w.number ≡ Some xs → Agree w (xs ++ more w.number)
+  agree_quiet : (w : MessageKey) (es : List Event) (kept : Kept) → joined w.number es ≡ [] →
+      Agree w kept → Agree w (kept_on w.number kept es)
+  agree_quiet w es kept none (inl k) = inl k
+  agree_quiet w es kept none (inr k) = inr (quiet_on w.number w.header es kept none ∙ k)
+
+  -- the same for each message of which something is kept, after these events
+  abbrev Fine : KeptByNumber → List Event → MessageKey → Type 0
+  Fine known es w = (kept : Kept) → known w.number ≡ Some kept → Agree w (kept_on w.number kept es)
 
   -- ---- the effects of events
 
-  says_agree : (e : Event) (o : Option (List ℕ)) →
-      ((xs : List ℕ) → o ≡ Some xs → Agree e.subject (xs ++ joined e.subject.number (e ∷ [])))
+  says_agree : (e : Event) (o : Option Kept) →
+      ((kept : Kept) → o ≡ Some kept → Agree e.subject (kept_then e.what kept))
       → lines_for (message_reader C a) e o ≡ lines_for (message_reader C b) e o
   unfolding lines_for
   says_agree e None h = refl
-  says_agree e (Some xs) h =
-      let more = joined e.subject.number (e ∷ []) in
-      tells_agree C a b e xs more (xs ++ more) e.what refl (h xs refl)
+  says_agree e (Some kept) h = tells_agree C a b e kept e.what (h kept refl)
 
-  first_agree : (c : Tracked) (e : Event) (es : List Event) →
-      Fine c.known (λ i. joined i (e ∷ es)) e.subject →
+  own_on : (e : Event) (es : List Event) (kept : Kept) →
+      kept_on e.subject.number kept (e ∷ es)
+      ≡ kept_on e.subject.number (kept_then e.what kept) es
+  unfolding kept_on
+  own_on e es kept =
+      ap (λ (mine : Bool). kept_on e.subject.number
+      (if mine then kept_then e.what kept else kept) es)
+      (eq-eqb e.subject.number e.subject.number refl)
+
+  first_agree : (c : Tracked) (e : Event) (es : List Event) → Fine c.known (e ∷ es) e.subject →
       lines_at (message_reader C a) c.known e ≡ lines_at (message_reader C b) c.known e
   unfolding lines_at
   first_agree c e es h =
-      rw (says_agree e (c.known e.subject.number) (λ xs k.
-      agree_before e.subject (xs ++ joined e.subject.number (e ∷ [])) (joined e.subject.number es)
-      (subst (Agree e.subject)
-      (ap (λ (z : List ℕ). xs ++ z) (joined_append e.subject.number (e ∷ []) es)
-      ∙ sym (append_assoc xs (joined e.subject.number (e ∷ [])) (joined e.subject.number es)))
-      (h xs k)))) refl
+      rw (says_agree e (c.known e.subject.number) (λ kept k.
+      agree_before e.subject es (kept_then e.what kept)
+      (subst (Agree e.subject) (own_on e es kept) (h kept k)))) refl
 
   fine_later : (c : Tracked) (e : Event) (es : List Event) (R : MessageReader) (w : MessageKey) →
-      Fine c.known (λ i. joined i (e ∷ es)) w →
-      Fine (tracked_at R c e).known (λ i. joined i es) w
-  unfolding tracked_at
-  fine_later c e es R w h xs' k =
-      let was = kept_was c.known (e ∷ []) (lines_at R c.known e) w.number xs' k in
-      subst (Agree w)
-      (ap (λ (z : List ℕ). was.xs ++ z) (joined_append w.number (e ∷ []) es)
-      ∙ (sym (append_assoc was.xs (joined w.number (e ∷ [])) (joined w.number es))
-      ∙ ap (λ (z : List ℕ). z ++ joined w.number es) (sym was.is)))
-      (h was.xs was.known)
+      Fine c.known (e ∷ es) w → Fine (tracked_at R c e).known es w
+  unfolding tracked_at kept_on
+  fine_later c e es R w h now k =
+      let was = kept_was c.known e (lines_at R c.known e) w.number now k in
+      subst (λ (z : Kept). Agree w (kept_on w.number z es)) (sym was.is) (h was.kept was.known)
 
   tracked_agree : (c : Tracked) (e : Event) →
       lines_at (message_reader C a) c.known e ≡ lines_at (message_reader C b) c.known e →
@@ -222,7 +259,7 @@ module _ (C : Table) (a b : Answers) (most : ℕ) where
   tracked_agree c e one = rw one refl
 
   effects_agree : (es : List Event) (c : Tracked) →
-      Each (λ e. Fine c.known (λ i. joined i es) e.subject) es →
+      Each (λ e. Fine c.known es e.subject) es →
       effects (message_reader C a) c es ≡ effects (message_reader C b) c es
   unfolding effects
   effects_agree [] c h = refl
@@ -230,8 +267,8 @@ module _ (C : Table) (a b : Answers) (most : ℕ) where
       let one = first_agree c e es h.0 in
       let next = tracked_agree c e one in
       let more = effects_agree es (tracked_at (message_reader C a) c e)
-      (each_weaker (λ e'. Fine c.known (λ i. joined i (e ∷ es)) e'.subject)
-      (λ e'. Fine (tracked_at (message_reader C a) c e).known (λ i. joined i es) e'.subject)
+      (each_weaker (λ e'. Fine c.known (e ∷ es) e'.subject)
+      (λ e'. Fine (tracked_at (message_reader C a) c e).known es e'.subject)
       (λ e' k. fine_later c e es (message_reader C a) e'.subject k) es h.1)
       ∙ ap (λ (c' : Tracked). effects (message_reader C b) c' es) next in
       λ j. record { tracked = (more j).tracked; lines = one j ++ (more j).lines }
@@ -239,26 +276,82 @@ module _ (C : Table) (a b : Answers) (most : ℕ) where
   -- ---- a stream that both answers read alike
 
   abbrev KeptAlike : List ℕ → MessageKey → Type 0
-  KeptAlike p w = (xs : List ℕ) → octets_of A p w.number ≡ Some xs → Agree w xs
+  KeptAlike p w = (kept : Kept) → known_of A p w.number ≡ Some kept → Agree w kept
 
   pub record Alike (p : List ℕ) : Type 0 where
     pub lines_same : lines A p ≡ lines B p
     pub tracked_same : tracked_after A p ≡ tracked_after B p
-    pub kept_alike : Each (λ e. KeptAlike p e.subject) (events most p)
+    pub events_same : events A p ≡ events B p
+    pub kept_alike : Each (λ e. KeptAlike p e.subject) (events A p)
 
   pub start : Alike []
-  unfolding tracked_after
-  start = record {
-    lines_same = lines_nothing A ∙ sym (lines_nothing B);
-    tracked_same = λ j. record {
-      still_open = open_after most [];
-      known = λ i. (octets_nothing A i ∙ sym (octets_nothing B i)) j;
-    };
-    kept_alike = rw (events_nothing most) tt;
-  }
+  unfolding tracked_after before_by
+  start =
+      let both = events_nothing A ∙ sym (events_nothing B) in
+      record {
+        lines_same = lines_nothing A ∙ sym (lines_nothing B);
+        tracked_same = λ j. record {
+          still_open = (open_nothing A ∙ sym (open_nothing B)) j;
+          mixed = not (joins_by C) || list_any mixes (both j);
+          known = λ i. (known_nothing A i ∙ sym (known_nothing B i)) j;
+        };
+        events_same = both;
+        kept_alike = rw (events_nothing A) tt;
+      }
+
+  sound_a : (p : List ℕ) → IsSound A p
+  sound_a = sound A (is_causal (λ phase number. signatures_of C (a number) phase)) (in_turn C a)
+
+  sound_b : (p : List ℕ) → IsSound B p
+  sound_b = sound B (is_causal (λ phase number. signatures_of C (b number) phase)) (in_turn C b)
+
+  -- the request id that a message has given
+  asks_agree : (w : MessageKey) (kept : Kept) → Agree w kept →
+      asks_by C a kept.phase w.number w.header kept.octets
+      ≡ asks_by C b kept.phase w.number w.header kept.octets
+  unfolding asks_by
+  asks_agree w kept (inl k) = ap (λ (answer : Answer). first_request_id (message_lines
+      (message (signatures_of C answer kept.phase) w.header kept.octets))) k
+  asks_agree w kept (inr k) = ap (λ (m : MessageReading). first_request_id (message_lines m))
+      (unended_agree C (a w.number) (b w.number) kept.phase w.header kept.octets k)
+
+  -- what stands before the next octet is the same by both answers
+  pub before_same : (p : List ℕ) → Alike p → before_by A (events A p) ≡ before_by B (events B p)
+  unfolding before_in tracked_after
+  before_same p h =
+      sym (before_is A p (sound_a p))
+      ∙ ((λ j. record {
+        still_open = open_after A p;
+        mixed = (before_by A (events A p)).mixed;
+        asked = asked j;
+      })
+      ∙ (ap (before_in (asks_by C b)) h.tracked_same ∙ before_is B p (sound_b p)))
+    where
+      each : Each (λ o. KeptAlike p o.opener) (open_after A p)
+      each = unfold open_after in opened_each (KeptAlike p) [] (events A p) tt h.kept_alike
+
+      by : (o : Open) → KeptAlike p o.opener →
+          asked_by (asks_by C a) (known_of A p) (Some o)
+          ≡ asked_by (asks_by C b) (known_of A p) (Some o)
+      by o alike = go (known_of A p o.opener.number) refl
+        where
+          go : (k : Option Kept) → known_of A p o.opener.number ≡ k →
+              asked_in (asks_by C a) o.opener k ≡ asked_in (asks_by C b) o.opener k
+          go None e = refl
+          go (Some kept) e = asks_agree o.opener kept (alike kept e)
+
+      asked : asked_by (asks_by C a) (known_of A p) (find (λ o. is_none o.key) (open_after A p))
+          ≡ asked_by (asks_by C b) (known_of A p) (find (λ o. is_none o.key) (open_after A p))
+      asked = go (find (λ o. is_none o.key) (open_after A p)) refl
+        where
+          go : (o : Option Open) → find (λ o. is_none o.key) (open_after A p) ≡ o →
+              asked_by (asks_by C a) (known_of A p) o ≡ asked_by (asks_by C b) (known_of A p) o
+          go None e = refl
+          go (Some o) e = by o (found_in (λ o. KeptAlike p o.opener) (λ o. is_none o.key)
+              (open_after A p) o each e)
 
   known_same : (p : List ℕ) (c : Tracked) (i : ℕ) → tracked_after A p ≡ c →
-      octets_of A p i ≡ c.known i
+      known_of A p i ≡ c.known i
   unfolding tracked_after
   known_same p c i e = ap (λ (t : Tracked). t.known i) e
 
@@ -269,31 +362,34 @@ module _ (C : Table) (a b : Answers) (most : ℕ) where
       Alike (p ++ x ∷ [])
   unfolding events tracked_after
   idle p x c ls h f g same =
-      let still : events most (p ++ x ∷ []) ≡ events most p =
-      ap (events_from most []) (ap messages f.cut_is ∙ same) in
+      let still : events A (p ++ x ∷ []) ≡ events A p =
+      ap (events_from A []) (ap messages f.cut_is ∙ same) in
+      let still_b : events B (p ++ x ∷ []) ≡ events B p =
+      ap (events_from B []) (ap messages g.cut_is ∙ same) in
       record {
         lines_same = f.lines ∙ (ap (λ (z : List StreamLine). z ++ ls) h.lines_same ∙ sym g.lines);
         tracked_same = f.tracked_after ∙ (h.tracked_same ∙ sym g.tracked_after);
+        events_same = still ∙ (h.events_same ∙ sym still_b);
         kept_alike = subst (Each (λ e. KeptAlike (p ++ x ∷ []) e.subject)) (sym still)
             (each_weaker (λ e. KeptAlike p e.subject)
             (λ e. KeptAlike (p ++ x ∷ []) e.subject)
-            (λ e k xs known. k xs (sym (known_same (p ++ x ∷ []) (tracked_after A p)
-            e.subject.number f.tracked_after) ∙ known)) (events most p) h.kept_alike);
+            (λ e k kept known. k kept (sym (known_same (p ++ x ∷ []) (tracked_after A p)
+            e.subject.number f.tracked_after) ∙ known)) (events A p) h.kept_alike);
       }
 
   -- the same for a message after an octet with these events
   abbrev NowAlike : List ℕ → List Event → MessageKey → Type 0
-  NowAlike p es w = Fine (octets_of A p) (λ i. joined i es) w
+  NowAlike p es w = Fine (known_of A p) es w
 
   then_alike : (p p' : List ℕ) (es : List Event) (w : MessageKey) →
       tracked_after A p' ≡ (effects (message_reader C a) (tracked_after A p) es).tracked →
       NowAlike p es w → KeptAlike p' w
   unfolding tracked_after
-  then_alike p p' es w e h xs' known =
-      let was = effects_was (message_reader C a) es (tracked_after A p) w.number xs'
+  then_alike p p' es w e h now known =
+      let was = effects_was (message_reader C a) es (tracked_after A p) w.number now
       (sym (known_same p' (effects (message_reader C a) (tracked_after A p) es).tracked w.number e)
       ∙ known) in
-      subst (Agree w) (sym was.is) (h was.xs was.known)
+      subst (Agree w) (sym was.is) (h was.kept was.known)
 
   now_agree : (p : List ℕ) (es : List Event) → Each (λ e. NowAlike p es e.subject) es →
       effects (message_reader C a) (tracked_after A p) es
@@ -302,14 +398,14 @@ module _ (C : Table) (a b : Answers) (most : ℕ) where
   now_agree p es new = effects_agree es (tracked_after A p) new
 
   dealt : (p : List ℕ) (x : ℕ) (c c' : Cut) (es : List Event) → Alike p →
-      events most (p ++ x ∷ []) ≡ events most p ++ es →
+      events A (p ++ x ∷ []) ≡ events A p ++ es → events B (p ++ x ∷ []) ≡ events B p ++ es →
       Adds A p (p ++ x ∷ []) c (effects (message_reader C a) (tracked_after A p) es).lines
       (effects (message_reader C a) (tracked_after A p) es).tracked →
       Adds B p (p ++ x ∷ []) c' (effects (message_reader C b) (tracked_after B p) es).lines
       (effects (message_reader C b) (tracked_after B p) es).tracked →
-      Each (λ e. NowAlike p es e.subject) (events most p) → Each (λ e. NowAlike p es e.subject) es →
+      Each (λ e. NowAlike p es e.subject) (events A p) → Each (λ e. NowAlike p es e.subject) es →
       Alike (p ++ x ∷ [])
-  dealt p x c c' es h grows f g old new =
+  dealt p x c c' es h grows grows_b f g old new =
       let same : effects (message_reader C a) (tracked_after A p) es
       ≡ effects (message_reader C b) (tracked_after B p) es =
       now_agree p es new
@@ -318,11 +414,13 @@ module _ (C : Table) (a b : Answers) (most : ℕ) where
         lines_same = f.lines ∙ ((λ j. h.lines_same j ++ (same j).lines) ∙ sym g.lines);
         tracked_same = f.tracked_after
             ∙ (ap (λ (q : Effect). q.tracked) same ∙ sym g.tracked_after);
+        events_same = grows
+            ∙ (ap (λ (z : List Event). z ++ es) h.events_same ∙ sym grows_b);
         kept_alike = subst (Each (λ e. KeptAlike (p ++ x ∷ []) e.subject)) (sym grows)
             (each_weaker (λ e. NowAlike p es e.subject) (λ e. KeptAlike (p ++ x ∷ []) e.subject)
             (λ e k. then_alike p (p ++ x ∷ []) es e.subject f.tracked_after k)
-            (events most p ++ es)
-            (each_append (λ e. NowAlike p es e.subject) (events most p) es old new));
+            (events A p ++ es)
+            (each_append (λ e. NowAlike p es e.subject) (events A p) es old new));
       }
 
   -- ---- the message to which the octet belongs
@@ -363,116 +461,126 @@ module _ (C : Table) (a b : Answers) (most : ℕ) where
 
   -- ---- an octet of a payload
 
+  -- what stands before the next octet, by the first answers
+  abbrev Stands : List ℕ → Before
+  Stands p = before_by A (events A p)
+
   module _ (p : List ℕ) (x : ℕ) (was : CutMessage) (free : (cut p).stop ≡ None)
       (current : (cut p).current ≡ Some was) (room : length p < limit)
       (ends : Each (AnswersAlike a b) (header_ends_at A p x)) where
     abbrev Es : List Event
-    Es = events_of_octet most (open_after most p) (with_octet was x)
+    Es = events_of_octet most (Stands p) (with_octet was x)
 
     abbrev Owner : Option MessageKey
-    Owner = owner_of_next (open_after most p) was
+    Owner = owner_of_next (Stands p) was
 
-    gives : (i : ℕ) → joined i Es ≡ given i x Owner
-    gives i = octet_joined most i (open_after most p) was was.payload x
-        ∙ (owner_gives i (open_after most p) (with_octet was x) x
-        ∙ ap (given i x) (owner_next (open_after most p) was x))
+    parts : Split most (Stands p) was x
+    parts = split most (Stands p) was x
 
-    here : (w : MessageKey) (xs : List ℕ) → Owner ≡ Some w → octets_of A p w.number ≡ Some xs →
-        header_ends_at A p x ≡ header_ends unbroken w.number w.header xs (x ∷ [])
+    here : (w : MessageKey) (kept : Kept) → Owner ≡ Some w → known_of A p w.number ≡ Some kept →
+        header_ends_at A p x ≡ header_ends kept.phase w.number w.header kept.octets (x ∷ [])
     unfolding tracked_after
-    here w xs owner known = at_free A p x free room ∙ rw (current, owner, known) refl
+    here w kept owner known = at_free A p x free room ∙ rw (current, owner, known) refl
 
-    own_alike : (w : MessageKey) (xs : List ℕ) → Owner ≡ Some w →
-        octets_of A p w.number ≡ Some xs → Agree w xs → Agree w (xs ++ x ∷ [])
-    own_alike w xs owner known (inl k) = inl k
-    own_alike w xs owner known (inr k) =
-        elim (header_ended (AnswersAlike a b) unbroken w.number w.header xs (x ∷ []) k
-        (subst (Each (AnswersAlike a b)) (here w xs owner known) ends)) [
+    own_alike : (w : MessageKey) (kept : Kept) → Owner ≡ Some w →
+        known_of A p w.number ≡ Some kept → Agree w kept → Agree w (kept_then (Takes x) kept)
+    unfolding octet
+    own_alike w kept owner known (inl k) = inl k
+    own_alike w kept owner known (inr k) =
+        elim (header_ended (AnswersAlike a b) kept.phase w.number w.header kept.octets (x ∷ []) k
+        (subst (Each (AnswersAlike a b)) (here w kept owner known) ends)) [
           | inl none ↦ inr none
           | inr same ↦ inl same.1
         ]
 
-    paid_alike : (v : MessageKey) → header_of_number (messages (cut p)) v.number ≡ Some v.header →
-        KeptAlike p v → NowAlike p Es v
-    unfolding given
-    paid_alike v own h xs known = go Owner refl
+    -- the octet's owner takes it
+    taken_alike : (v : MessageKey) → header_of_number (messages (cut p)) v.number ≡ Some v.header →
+        KeptAlike p v → (o : Option MessageKey) → Owner ≡ o → (kept : Kept) →
+        known_of A p v.number ≡ Some kept →
+        Agree v (kept_on v.number kept (takes_of parts.at o x))
+    unfolding kept_on takes_of
+    taken_alike v own h None owner kept known = h kept known
+    taken_alike v own h (Some w) owner kept known = by (w.number == v.number) refl
       where
         key_is : (w v : MessageKey) → w.number ≡ v.number → w.header ≡ v.header → w ≡ v
         key_is w v e f = λ j. record { number = e j; header = f j }
 
-        same : joined v.number Es ≡ [] → Agree v (xs ++ joined v.number Es)
-        same e = rw (e, append-nil xs) (h xs known)
-
-        by : (w : MessageKey) → Owner ≡ Some w → (t : Bool) → (w.number == v.number) ≡ t →
-            Agree v (xs ++ joined v.number Es)
-        by w owner false e = same (gives v.number ∙ rw (owner, e) refl)
-        by w owner true e =
+        by : (mine : Bool) → (w.number == v.number) ≡ mine →
+            Agree v (if mine then kept_then (Takes x) kept else kept)
+        by false e = h kept known
+        by true e =
             let number : w.number ≡ v.number = eqb-true w.number v.number e in
             let found : header_of_number (messages (cut p)) w.number ≡ Some w.header =
-            of_owner (λ u. header_of_number (messages (cut p)) u.number ≡ Some u.header) most p w
-            (rw current owner) (one_header most p) in
+            of_owner (λ u. header_of_number (messages (cut p)) u.number ≡ Some u.header) A p w
+            (rw current owner) (one_header A p) in
             let header : Some w.header ≡ Some v.header =
             sym found ∙ (ap (header_of_number (messages (cut p))) number ∙ own) in
             let is : w ≡ v = key_is w v number cc in
-            let takes : joined v.number Es ≡ x ∷ [] = gives v.number ∙ rw (owner, e) refl in
-            rw takes (own_alike v xs (owner ∙ ap Some is) known (h xs known))
+            own_alike v kept (owner ∙ ap Some is) known (h kept known)
 
-        go : (o : Option MessageKey) → Owner ≡ o → Agree v (xs ++ joined v.number Es)
-        go None e = same (gives v.number ∙ rw e refl)
-        go (Some w) e = by w e (w.number == v.number) refl
+    paid_alike : (v : MessageKey) → header_of_number (messages (cut p)) v.number ≡ Some v.header →
+        KeptAlike p v → NowAlike p Es v
+    paid_alike v own h kept known =
+        let owner = owner_next (Stands p) was x in
+        let takes = takes_of parts.at (owner_of_octet (Stands p) (with_octet was x)) x in
+        let one : Agree v (kept_on v.number kept takes) =
+        subst (λ (o : Option MessageKey). Agree v (kept_on v.number kept (takes_of parts.at o x)))
+        (sym owner) (taken_alike v own h Owner refl kept known) in
+        subst (λ (es : List Event). Agree v (kept_on v.number kept es)) (sym parts.is)
+        (subst (Agree v) (sym (kept_on_append v.number takes parts.rest kept))
+        (agree_quiet v parts.rest (kept_on v.number kept takes) (parts.quiet v.number) one))
 
   -- ---- one octet
 
   -- an octet of a message: if the events before the octet have this, so have the events of the
   -- octet
   of_events : (p : List ℕ) (m : CutMessage) →
-      (let es = events_of_octet most (open_after most p) m in
-      Each (λ e. NowAlike p es e.subject) (events most p) → NowAlike p es (message_key m) →
+      (let es = events_of_octet most (Stands p) m in
+      Each (λ e. NowAlike p es e.subject) (events A p) → NowAlike p es (message_key m) →
       Each (λ e. NowAlike p es e.subject) es)
-  unfolding open_after
+  unfolding before_by
   of_events p m old own =
-      let es = events_of_octet most (open_after most p) m in
-      events_of_octet_each most (λ e. NowAlike p es e.subject) (open_after most p) m
+      let es = events_of_octet most (Stands p) m in
+      events_of_octet_each most (λ e. NowAlike p es e.subject) (Stands p) m
       (λ what. own)
       (each_weaker (λ (o : Open). NowAlike p es o.opener)
       (λ (o : Open). (what : EventKind) → NowAlike p es o.opener) (λ o k what. k)
-      (open_after most p)
-      (opened_each (NowAlike p es) [] (events most p) tt old))
+      (Stands p).still_open
+      (opened_each (NowAlike p es) [] (events A p) tt old))
 
   -- the last octet of a message's header
   begun_alike : (p : List ℕ) (m : CutMessage) → Alike p → m.payload ≡ [] →
-      octets_of A p m.number ≡ Some [] →
-      (let es = events_of_octet most (open_after most p) m in
-      Each (λ e. NowAlike p es e.subject) (events most p)
+      known_of A p m.number ≡ Some nothing_kept →
+      (let es = events_of_octet most (Stands p) m in
+      Each (λ e. NowAlike p es e.subject) (events A p)
       × NowAlike p es (message_key m))
   begun_alike p m h none unknown =
-      let es = events_of_octet most (open_after most p) m in (
+      let es = events_of_octet most (Stands p) m in (
         each_weaker (λ e. KeptAlike p e.subject) (λ e. NowAlike p es e.subject)
-            (λ e k xs known. rw (
-              header_joined most e.subject.number (open_after most p) m none,
-              append-nil xs,
-            ) (k xs known)) (events most p) h.kept_alike,
-        λ xs known. inr (let both : Some [] ≡ Some xs = sym unknown ∙ known in
-            let empty : [] ≡ xs = cc in
-            rw (header_joined most m.number (open_after most p) m none, append-nil xs)
-            (subst (λ (z : List ℕ). header_noted unbroken m.header z ≡ None) empty
-            (not_noted m.header))),
+            (λ e k kept known. agree_quiet e.subject es kept
+            (header_joined most e.subject.number (Stands p) m none) (k kept known))
+            (events A p) h.kept_alike,
+        λ kept known. agree_quiet (message_key m) es kept
+            (header_joined most m.number (Stands p) m none)
+            (inr (let both : Some nothing_kept ≡ Some kept = sym unknown ∙ known in
+            let empty : nothing_kept ≡ kept = cc in
+            subst (λ (z : Kept). noted_of m.header z ≡ None) empty (not_noted m.header))),
       )
 
   -- an octet of the message's payload
   paid_old : (p : List ℕ) (x : ℕ) (was : CutMessage) → Alike p → (cut p).stop ≡ None →
       (cut p).current ≡ Some was → length p < limit →
       Each (AnswersAlike a b) (header_ends_at A p x) →
-      (let es = events_of_octet most (open_after most p) (with_octet was x) in
-      Each (λ e. NowAlike p es e.subject) (events most p)
+      (let es = events_of_octet most (Stands p) (with_octet was x) in
+      Each (λ e. NowAlike p es e.subject) (events A p)
       × NowAlike p es (message_key was))
   unfolding events messages
   paid_old p x was h free current room ends =
-      let es = events_of_octet most (open_after most p) (with_octet was x) in
-      let old = go (events most p) h.kept_alike (one_header most p) in
+      let es = events_of_octet most (Stands p) (with_octet was x) in
+      let old = go (events A p) h.kept_alike (one_header A p) in
       let own = each_parts (λ m. NowAlike p es (message_key m)) (cut p).whole
       (option_to_list (cut p).current)
-      (each_own (NowAlike p es) most [] (messages (cut p)) old) in (
+      (each_own (NowAlike p es) A [] (messages (cut p)) old) in (
         old,
         (subst (λ (o : Option CutMessage). Each (λ m. NowAlike p es (message_key m))
             (option_to_list o)) current own.1).0,
@@ -481,7 +589,7 @@ module _ (C : Table) (a b : Answers) (most : ℕ) where
       go : (some : List Event) → Each (λ e. KeptAlike p e.subject) some →
           Each (λ e. header_of_number (messages (cut p)) e.subject.number
           ≡ Some e.subject.header) some →
-          Each (λ e. NowAlike p (events_of_octet most (open_after most p) (with_octet was x))
+          Each (λ e. NowAlike p (events_of_octet most (Stands p) (with_octet was x))
           e.subject) some
       go [] k l = tt
       go (e ∷ some) k l = (
@@ -496,18 +604,19 @@ module _ (C : Table) (a b : Answers) (most : ℕ) where
   of_message p x now h free room ends f g = go f.from
     where
       es : List Event
-      es = events_of_octet most (open_after most p) f.m
+      es = events_of_octet most (Stands p) f.m
 
-      by : Each (λ e. NowAlike p es e.subject) (events most p) →
+      same : events_of_octet most (before_by B (events B p)) g.m ≡ es
+      same = λ j. events_of_octet most (sym (before_same p h) j) (sym (one_message p x now f g) j)
+
+      by : Each (λ e. NowAlike p es e.subject) (events A p) →
           NowAlike p es (message_key f.m) → Alike (p ++ x ∷ [])
       by old own =
-          let same : g.m ≡ f.m = sym (one_message p x now f g) in
-          dealt p x _ _ es h f.grows f.adds
-          (subst (λ (m : CutMessage). Adds B p (p ++ x ∷ []) (end_message (cut p).whole m)
-          (effects (message_reader C b) (tracked_after B p)
-          (events_of_octet most (open_after most p) m)).lines
-          (effects (message_reader C b) (tracked_after B p)
-          (events_of_octet most (open_after most p) m)).tracked) same g.adds)
+          dealt p x _ _ es h f.grows (g.grows ∙ ap (λ (z : List Event). events B p ++ z) same)
+          f.adds
+          (subst (λ (z : List Event). Adds B p (p ++ x ∷ []) (end_message (cut p).whole g.m)
+          (effects (message_reader C b) (tracked_after B p) z).lines
+          (effects (message_reader C b) (tracked_after B p) z).tracked) same g.adds)
           old (of_events p f.m old own)
 
       go : (((cut p).current ≡ None) × (f.m.payload ≡ []))
@@ -518,17 +627,41 @@ module _ (C : Table) (a b : Answers) (most : ℕ) where
           rw k.0 (ap length (append-nil (cut p).whole)) in
           let number = f.number_is in
           let both = begun_alike p f.m h k.1
-          ((sound A (is_causal (λ phase number. signatures_of C (a number) phase)) (in_turn C a)
-          p).unknown
-          f.m.number (omega (arith, count, number))) in
+          ((sound_a p).unknown f.m.number (omega (arith, count, number))) in
           by both.0 both.1
       go (inr k) =
           let both = paid_old p x k.0 h free k.1 room ends in
           by
           (subst (λ (m : CutMessage). Each (λ e. NowAlike p
-          (events_of_octet most (open_after most p) m) e.subject) (events most p)) (sym k.2) both.0)
-          (subst (λ (m : CutMessage). NowAlike p (events_of_octet most (open_after most p) m)
+          (events_of_octet most (Stands p) m) e.subject) (events A p)) (sym k.2) both.0)
+          (subst (λ (m : CutMessage). NowAlike p (events_of_octet most (Stands p) m)
           (message_key m)) (sym k.2) both.1)
+
+  -- ---- the events after the next octet
+
+  -- the next octet has the same events by both answers, since they rest on what came before it
+  pub next_same : (p : List ℕ) (x : ℕ) → Alike p → events A (p ++ x ∷ []) ≡ events B (p ++ x ∷ [])
+  unfolding events messages stopped_at of_parts
+  next_same p x h =
+      go (octet_of (cut p) (length p) x)
+      (then_is A (is_causal (λ phase number. signatures_of C (a number) phase)) (in_turn C a) p x
+      (sound_a p))
+      (then_is B (is_causal (λ phase number. signatures_of C (b number) phase)) (in_turn C b) p x
+      (sound_b p))
+    where
+      none : messages (cut (p ++ x ∷ [])) ≡ messages (cut p) →
+          events A (p ++ x ∷ []) ≡ events B (p ++ x ∷ [])
+      none e = ap (events_from A []) e ∙ (h.events_same ∙ ap (events_from B []) (sym e))
+
+      go : (o : Octet) → Then A p x o → Then B p x o →
+          events A (p ++ x ∷ []) ≡ events B (p ++ x ∷ [])
+      go AfterStop f g = none (ap messages f.2.cut_is)
+      go (Ends fault) f g = none (ap messages f.1.cut_is)
+      go (Held front) f g = none (ap messages f.2.cut_is ∙ rw f.1 refl)
+      go (Of now) f g = f.1.grows
+          ∙ ((λ j. h.events_same j
+          ++ events_of_octet most (before_same p h j) (one_message p x now f.1 g.1 j))
+          ∙ sym g.1.grows)
 
   pub step : (p : List ℕ) (x : ℕ) → Alike p → Each (AnswersAlike a b) (header_ends_at A p x) →
       Alike (p ++ x ∷ [])
@@ -580,19 +713,20 @@ module _ (C : Table) (a b : Answers) (most : ℕ) where
   unfolding state_of tally
   state_alike p h =
       let all = alike p h in
-      rw (all.lines_same, all.tracked_same) refl
+      let owner = before_same p all in
+      rw (all.lines_same, all.tracked_same, owner) refl
 
   -- an engine keeps the same of a message by both answers
   same_for : (p : List ℕ) (w : MessageKey) → KeptAlike p w →
-      IsSame C a b w (octets_of A p w.number)
-  same_for p w h = go (octets_of A p w.number) refl
+      IsSame C a b w (known_of A p w.number)
+  same_for p w h = go (known_of A p w.number) refl
     where
-      go : (o : Option (List ℕ)) → octets_of A p w.number ≡ o → IsSame C a b w o
+      go : (o : Option Kept) → known_of A p w.number ≡ o → IsSame C a b w o
       go None e = tt
-      go (Some xs) e = h xs e
+      go (Some kept) e = h kept e
 
   slots_same : (p : List ℕ) (os : List Open) → Each (λ o. KeptAlike p o.opener) os
-      → Each (λ slot. IsSame C a b slot.open_as.opener slot.octets) (slots_of (octets_of A p) os)
+      → Each (λ slot. IsSame C a b slot.open_as.opener slot.kept) (slots_of (known_of A p) os)
   unfolding slots_of
   slots_same p [] k = tt
   slots_same p (o ∷ os) k = (same_for p o.opener k.0, slots_same p os k.1)
@@ -603,9 +737,9 @@ module _ (C : Table) (a b : Answers) (most : ℕ) where
   fields_alike p f h shows =
       let kept = (alike p h).kept_alike in
       subst (Shows C b f) (state_alike p h)
-      (shows_agree C a b f (state_of A p) (slots_same p (open_after most p)
-      (opened_each (KeptAlike p) [] (events most p) tt kept))
-      (λ w owner. same_for p w (of_owner (KeptAlike p) most p w owner kept)) shows)
+      (shows_agree C a b f (state_of A p) (slots_same p (open_after A p)
+      (opened_each (KeptAlike p) [] (events A p) tt kept))
+      (λ w owner. same_for p w (of_owner (KeptAlike p) A p w owner kept)) shows)
 
   -- a stream has the same closing and totals by both answers
   pub closing_alike : (p : List ℕ) → AgreeAtHeaders C most p a b → closing A p ≡ closing B p
@@ -629,8 +763,7 @@ module _ (C : Table) (a b : Answers) (most : ℕ) where
       current_header_ends A p current octets ≡ current_header_ends B p current octets
   current_alike p octets None h = refl
   current_alike p octets (Some m) h =
-      ap (λ (c : Tracked). owner_header_ends c (owner_of_next (open_after most p) m) octets)
-      h.tracked_same
+      λ j. owner_header_ends (h.tracked_same j) (owner_of_next (before_same p h j) m) octets
 
   pub ends_at_alike : (p : List ℕ) (x : ℕ) → Alike p → header_ends_at A p x ≡ header_ends_at B p x
   unfolding header_ends_at

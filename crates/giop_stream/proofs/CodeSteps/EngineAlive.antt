@@ -1,20 +1,21 @@
 -- The invariants of every stream, by induction on its octets: those of `Soundness`; and a message
 -- that begins with its request id is not over before the id is complete.
 use Rattle.std.proofs.Common.{inl, inr, ◌⊎◌, ◌≡◌, ℕ, suc, ◌-◌, ◌<◌, ◌≤◌, true, List, [], ◌∷◌, ◌++◌, length, get_or, refl, sym, ap, ◌∙◌, Some, None, arith, append-nil}
-use Rattle.std.specs.List.{AllByRecursion as Each}
 use Rattle.std.proofs.lemmas.List.{length_push, get_or_push}
 use Rattle.giop_message.specs.Headers.{size, has_name}
-use Rattle.giop_message.specs.MessageReader.{MessageReader, End, IsCausal, IsStreamable}
+use Rattle.giop_message.specs.MessageReader.{IsCausal, IsStreamable}
 use Rattle.giop_stream.specs.Rules.{Rules}
 use Rattle.giop_stream.specs.Framing.{CutMessage, Cut, cut, messages}
-use Rattle.giop_stream.specs.Events.{Takes, Event, Rising, message_key, place, events_of_octet, events, open_after}
-use Rattle.giop_stream.specs.OpenSlots.{octets_of, Tracked, tracked_after}
-use Rattle.giop_stream.specs.Effects.{Effect, octets_then, effects, one_effect, starts, with_octet}
+use Rattle.giop_message.specs.Phases.{unbroken}
+use Rattle.giop_stream.specs.Events.{Takes, Event, octet, message_key, place, events_of_octet, events, before_by}
+use Rattle.giop_stream.specs.Lines.{Kept, nothing_kept}
+use Rattle.giop_stream.specs.PayloadOwner.{own_kept}
+use Rattle.giop_stream.specs.OpenSlots.{known_of, Tracked, tracked_after}
+use Rattle.giop_stream.specs.Effects.{Effect, known_then, effects, one_effect, starts, with_octet}
 use Rattle.giop_stream.specs.Octet.{Octet, AfterStop, Ends, Held, Of, octet_of}
 use Rattle.giop_stream.proofs.Lists.{by_growth}
 use Rattle.giop_stream.proofs.Cuts.Cutting.{stopped_at, of_parts}
 use Rattle.giop_stream.proofs.Events.MessageKinds.{named_by_four}
-use Rattle.giop_stream.proofs.Events.EventsKeep.{IsFew}
 use Rattle.giop_stream.proofs.Cuts.Start.{sound_start}
 use Rattle.giop_stream.proofs.SlotSteps.OneSlotChanges.{own_then}
 use Rattle.giop_stream.proofs.SlotSteps.Cases.{octet_own, header_begins}
@@ -23,7 +24,11 @@ use Rattle.giop_stream.proofs.StreamLines.IdBeforeEnd.{IsAlive, alive_start, nam
 use Rattle.giop_stream.proofs.Events.Soundness.{IsSound}
 use Rattle.giop_stream.proofs.CodeSteps.OneOctet.{Then, then_is}
 
-known_is : (R : Rules) (p : List ℕ) (i : ℕ) → (tracked_after R p).known i ≡ octets_of R p i
+-- these octets of a message in one piece
+abbrev kept_at : List ℕ → Kept
+kept_at xs = record { octets = xs; phase = unbroken }
+
+known_is : (R : Rules) (p : List ℕ) (i : ℕ) → (tracked_after R p).known i ≡ known_of R p i
 unfolding tracked_after
 known_is R p i = refl
 
@@ -36,60 +41,62 @@ module _ (R : Rules) (laws : IsStreamable R.reading) (p : List ℕ) (x : ℕ) (s
       → (((cut p).current ≡ None) × (m.payload ≡ []))
       ⊎ ((was : CutMessage) × ((cut p).current ≡ Some was) × (m ≡ with_octet was x)) →
       (effects R.reading (tracked_after R p)
-      (events_of_octet R.most (open_after R.most p) m)).tracked.known m.number ≡ Some m.payload
-  unfolding messages
+      (events_of_octet R.most (before_by R (events R p)) m)).tracked.known m.number ≡
+      Some (own_kept m)
+  unfolding messages octet
   kept_now m st fits lacks number name few (inl (cur, none)) =
       let free : length m.payload ≡ 0 = ap length none in
       let count : length (messages (cut p)) ≡ length (cut p).whole =
       rw cur (ap length (append-nil (cut p).whole)) in
-      let known : octets_of R p m.number ≡ Some [] =
+      let known : known_of R p m.number ≡ Some nothing_kept =
       sound.unknown m.number (omega (arith, count, number)) in
       let some : 0 < size m.header = omega (arith, lacks, free) in
       let stepped : effects R.reading (tracked_after R p)
-      (events_of_octet R.most (open_after R.most p) m) ≡
+      (events_of_octet R.most (before_by R (events R p)) m) ≡
       record { tracked = tracked_after R p; lines = starts m ∷ [] } =
-      rw (first_octet R.most (open_after R.most p) m free
+      rw (first_octet R.most (before_by R (events R p)) m free
       (omega (arith, named_by_four m.header name)) some)
-      (header_begins R.reading (tracked_after R p) m [] (known_is R p m.number ∙ known)
+      (header_begins R.reading (tracked_after R p) m nothing_kept (known_is R p m.number ∙ known)
       (named_accepted m.header name)) in
       ap (λ (q : Effect). q.tracked.known m.number) stepped
-      ∙ (known_is R p m.number ∙ (known ∙ ap Some (sym none)))
+      ∙ (known_is R p m.number ∙ (known
+      ∙ ap (λ (xs : List ℕ). Some (kept_at xs)) (sym none)))
   kept_now m st fits lacks number name few (inr (was, cur, is)) =
       rw is (next was cur (rw is at name) (rw is at few) (rw is at lacks))
     where
       next : (was : CutMessage) → (cut p).current ≡ Some was → has_name was.header ≡ true →
           length (was.payload ++ x ∷ []) < 4 → length (was.payload ++ x ∷ []) < size was.header →
           (effects R.reading (tracked_after R p)
-          (events_of_octet R.most (open_after R.most p) (with_octet was x))).tracked.known
-          was.number ≡ Some (was.payload ++ x ∷ [])
+          (events_of_octet R.most (before_by R (events R p)) (with_octet was x))).tracked.known
+          was.number ≡ Some (own_kept (with_octet was x))
       next was cur name few lacks =
           let m = with_octet was x in
           let long = length_push was.payload x in
           let four = named_by_four was.header name in
-          let known : octets_of R p was.number ≡ Some was.payload =
+          let known : known_of R p was.number ≡ Some (own_kept was) =
           alive st was cur name (omega (arith, few, long)) in
           let last : get_or m.payload (length m.payload - 1) 0 ≡ x =
           get_or_push was.payload x 0 (length m.payload - 1) (omega (arith, long)) in
           let e : Event = record { place = place m; subject = message_key was; what = Takes x } in
           let stepped : effects R.reading (tracked_after R p)
-          (events_of_octet R.most (open_after R.most p) m)
+          (events_of_octet R.most (before_by R (events R p)) m)
           ≡ one_effect R.reading (tracked_after R p) (place m) (message_key was) (Takes x) =
           rw (
-            early_octet R.most (open_after R.most p) m (omega (arith, long)) (omega (
+            early_octet R.most (before_by R (events R p)) m (omega (arith, long)) (omega (
               arith,
               few,
               four,
             ))
                 lacks,
-            octet_own R.reading (tracked_after R p) (open_after R.most p) m
+            octet_own R.reading (tracked_after R p) (before_by R (events R p)) m
                 (not_past m (omega (arith, few, four))),
             last,
           ) refl in
           ap (λ (q : Effect). q.tracked.known was.number) stepped
           ∙ (own_then R.reading (tracked_after R p) e
-          ∙ (ap (octets_then R.reading e) (known_is R p was.number ∙ known)
-          ∙ named_then R.reading laws (place m) (message_key was) was.payload x name
-          (omega (arith, few, long))))
+          ∙ (ap (known_then R.reading e) (known_is R p was.number ∙ known)
+          ∙ named_then R.reading laws (place m) (message_key was) (own_kept was) x name
+          (omega (arith, few, long)) refl))
 
   pub alive_then : (o : Octet) → Then R p x o → IsAlive R (p ++ x ∷ [])
   unfolding stopped_at of_parts
@@ -109,9 +116,9 @@ module _ (R : Rules) (laws : IsStreamable R.reading) (p : List ℕ) (x : ℕ) (s
       sym (known_is R (p ++ x ∷ []) m.number)
       ∙ (ap (λ (c : Tracked). c.known m.number) adds.tracked_after
       ∙ (ap (λ (n : CutMessage). (effects R.reading (tracked_after R p)
-      (events_of_octet R.most (open_after R.most p) one.m)).tracked.known n.number) same
+      (events_of_octet R.most (before_by R (events R p)) one.m)).tracked.known n.number) same
       ∙ (kept_now one.m h.0 one.fits s.lacks one.number_is name' few' one.from
-      ∙ ap (λ (n : CutMessage). Some n.payload) (sym same))))
+      ∙ ap (λ (n : CutMessage). Some (own_kept n)) (sym same))))
 
 -- ---- The invariants, for every stream.
 
@@ -139,33 +146,3 @@ sound R causal laws p = (kept R causal laws p).sound
 
 pub alive : (R : Rules) → IsCausal R.reading → IsStreamable R.reading → (p : List ℕ) → IsAlive R p
 alive R causal laws p = (kept R causal laws p).alive
-
--- ---- What does not depend on the reader of messages is shown with a reader that gives no lines
--- except an end.
-
-mute : MessageReader
-mute = record {
-  reads = λ phase number header xs. [];
-  closes = λ phase number header xs. (End, []) ∷ [];
-}
-
-abbrev mute_rules : ℕ → Rules
-mute_rules most = record { reading = mute; most = most }
-
-mute_causal : IsCausal mute
-unfolding mute
-mute_causal = search (arith)
-
-silent_streamable : IsStreamable mute
-unfolding mute
-silent_streamable = search (arith)
-
-pub few_open : (most : ℕ) (p : List ℕ) → length (open_after most p) ≤ most
-unfolding IsFew
-few_open most p = (sound (mute_rules most) mute_causal silent_streamable p).still_open.few
-
-pub rising_open : (most : ℕ) (p : List ℕ) → Rising (open_after most p)
-rising_open most p = (sound (mute_rules most) mute_causal silent_streamable p).rising
-
-pub early_events : (most : ℕ) (p : List ℕ) → Each (λ e. e.place ≤ length p) (events most p)
-early_events most p = (sound (mute_rules most) mute_causal silent_streamable p).places

@@ -1,7 +1,7 @@
 -- The state of a stream is the fresh state after one step for each octet, and it gives what is
 -- written at the finish.
-use Rattle.std.proofs.Common.{◌≡◌, ℕ, true, List, [], ◌∷◌, ◌++◌, length, refl, append_assoc, Option, Some, None, arith}
-use Rattle.std.specs.Prelude.{◌&&◌, nat_lt, is_none, IfSome}
+use Rattle.std.proofs.Common.{◌≡◌, ℕ, true, false, List, [], ◌∷◌, ◌++◌, length, refl, append_assoc, Option, Some, None, arith}
+use Rattle.std.specs.Prelude.{◌&&◌, not, nat_lt, is_none, IfSome}
 use Rattle.std.proofs.lemmas.Bool.{lt-ltb}
 use Rattle.std.proofs.lemmas.List.{append-nil}
 use Rattle.std.proofs.lemmas.List.Concat.{flat_map-append}
@@ -12,14 +12,16 @@ use Rattle.giop_stream.specs.Framing.{CutMessage, Cut, cut, read_of, fault_of}
 use Rattle.giop_stream.specs.Lines.{lines}
 use Rattle.giop_stream.specs.Text.{lines_text}
 use Rattle.giop_stream.specs.Stream.{start_count, fault_count, is_inside, is_truncated, text, tally, final, closing}
+use Rattle.giop_stream.specs.Events.{events, before_by}
 use Rattle.giop_stream.specs.OpenSlots.{tracked_after}
 use Rattle.giop_stream.specs.Octet.{header_of}
 use Rattle.giop_stream.specs.EngineState.{unless, state_of}
 use Rattle.giop_stream.specs.EngineStep.{fresh, step, run, run_state, is_cut_short, final_totals, finish}
 use Rattle.giop_stream.proofs.Cuts.Cutting.{of_parts}
 use Rattle.giop_stream.proofs.Events.Soundness.{CurrentFits}
-use Rattle.giop_stream.proofs.Cuts.Start.{cut_nothing, lines_nothing, octets_nothing, open_nothing}
+use Rattle.giop_stream.proofs.Cuts.Start.{cut_nothing, lines_nothing, known_nothing, open_nothing, events_nothing}
 use Rattle.giop_stream.proofs.Events.UnfinishedAtFinish.{left_is, read_by, truncated_by}
+use Rattle.giop_stream.proofs.SlotSteps.OneSlotChanges.{or_nothing}
 use Rattle.giop_stream.proofs.CodeSteps.EngineAlive.{sound, alive}
 use Rattle.giop_stream.proofs.CodeSteps.EngineStep.{steps}
 use Rattle.giop_stream.proofs.CodeSteps.NextOctet.{Steps}
@@ -30,9 +32,20 @@ stepped R causal laws p x = search (arith, steps, sound, alive)
 
 -- ---- The states and the lines, octet by octet.
 
-pub start_is : (R : Rules) → state_of R [] ≡ fresh
+mixed_nothing : (R : Rules) → (before_by R (events R [])).mixed ≡ not R.joins
+unfolding before_by
+mixed_nothing R = rw (events_nothing R) (or_nothing (not R.joins) false refl)
+
+pub start_is : (R : Rules) → state_of R [] ≡ fresh R
 unfolding state_of fresh tally of_parts tracked_after read_of start_count fault_count
-start_is R = search (arith, octets_nothing, cut_nothing, open_nothing, lines_nothing)
+start_is R = search (
+  arith,
+  known_nothing,
+  cut_nothing,
+  open_nothing,
+  mixed_nothing,
+  lines_nothing,
+)
 
 pub step_state : (R : Rules) → IsCausal R.reading → IsStreamable R.reading → (p : List ℕ) (x : ℕ) →
     state_of R (p ++ x ∷ []) ≡ (step R (state_of R p) x).state

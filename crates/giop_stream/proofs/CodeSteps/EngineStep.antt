@@ -1,18 +1,21 @@
 -- The step agrees with the definitions: from the state of a stream, it gives the lines that the
 -- octet adds, and the state of the longer stream.
-use Rattle.std.proofs.Common.{◌≡◌, ℕ, suc, ◌+◌, ◌<◌, true, List, [], ◌∷◌, ◌++◌, length, refl, sym, ap, subst, ◌∙◌, None, arith}
+use Rattle.std.proofs.Common.{inr, ◌≡◌, ℕ, suc, ◌+◌, ◌<◌, ◌≤◌, true, List, [], ◌∷◌, ◌++◌, length, refl, sym, ap, subst, ◌∙◌, None, arith}
+use Rattle.std.specs.Prelude.{nat_le}
+use Rattle.std.specs.List.{list_any}
 use Rattle.std.proofs.lemmas.Bool.{cases_lt, cases_eq, lt-ltb, le-ltb, eq-eqb, leb-true, and_parts}
 use Rattle.std.proofs.lemmas.List.{length_push}
 use Rattle.giop_message.specs.Headers.{size}
-use Rattle.giop_stream.specs.Kinds.{has_place, named_at}
+use Rattle.giop_stream.specs.Kinds.{is_any_fragment, named_at}
+use Rattle.giop_stream.specs.PayloadOwner.{has_place}
 use Rattle.giop_message.specs.MessageReader.{IsCausal, IsStreamable}
 use Rattle.giop_stream.specs.declared.status.Totals.{Totals}
 use Rattle.giop_stream.specs.Rules.{Rules}
 use Rattle.giop_stream.specs.Framing.{CutMessage, cut, messages, read_of}
-use Rattle.giop_stream.specs.Events.{key, place, opener_of, has_named, events_of_octet, open_after, Now, now_of}
+use Rattle.giop_stream.specs.Events.{Before, key, place, open_under, opener_of, has_named, events_of_octet, events_with_key, events, open_after, mixes, before_by, Now, now_of}
 use Rattle.giop_stream.specs.Lines.{StreamLine, lines}
 use Rattle.giop_stream.specs.Stream.{fault_count, tally}
-use Rattle.giop_stream.specs.OpenSlots.{tracked_after}
+use Rattle.giop_stream.specs.OpenSlots.{tracked_after, before_in}
 use Rattle.giop_stream.specs.Effects.{Effect, effects}
 use Rattle.giop_stream.specs.Octet.{Octet, AfterStop, Ends, Held, Of}
 use Rattle.giop_stream.specs.EngineState.{State, owner_of_next, state_of}
@@ -20,70 +23,84 @@ use Rattle.giop_stream.specs.EngineStep.{key_of, other_of, events_at, owner_for,
 use Rattle.giop_stream.proofs.Cuts.Cutting.{settled_messages, settle_stop}
 use Rattle.giop_stream.proofs.Cuts.CutFrom.{end_message}
 use Rattle.giop_stream.proofs.Events.MessageKinds.{any_placed}
-use Rattle.giop_stream.proofs.Events.EventsOfOctet.{quiet_one}
+use Rattle.giop_stream.proofs.Events.EventsOfOctet.{quiet_one, fragment_mixes, opener_by}
 use Rattle.giop_stream.proofs.Events.AfterMoreEvents.{count_append}
 use Rattle.giop_stream.proofs.Events.Soundness.{IsSound}
 use Rattle.giop_stream.proofs.StreamLines.IdBeforeEnd.{IsAlive}
 use Rattle.giop_stream.proofs.Events.EventsByEngine.{events_with_key_agree}
-use Rattle.giop_stream.proofs.SlotSteps.Parts.{effects_still_open}
+use Rattle.giop_stream.proofs.SlotSteps.OneSlotChanges.{or_nothing}
+use Rattle.giop_stream.proofs.SlotSteps.Alike.{effects_still_open}
 use Rattle.giop_stream.proofs.CodeSteps.OneOctet.{Adds, IsOf, Then, then_is}
+use Rattle.giop_stream.proofs.CodeSteps.WhatStands.{before_is, effects_mixed}
 use Rattle.giop_stream.proofs.CodeSteps.NextOctet.{shape, state_is, tally_by, octet_is, Steps, behind_steps, ends_steps, held_steps, Shows, shows}
 
 -- ---- The state after an octet of a message.
 
-module _ (R : Rules) (p : List ℕ) (m : CutMessage) (shows : Shows R p m) where
-  s : State
-  s = state_of R p
+module _ (R : Rules) (p : List ℕ) (m : CutMessage) (sound : IsSound R p) (shows : Shows R p m)
+  where
+    s : State
+    s = state_of R p
 
-  now : Now
-  now = now_of m
+    now : Now
+    now = now_of m
 
-  effect : Effect
-  effect = effects R.reading (tracked_after R p) (events_of_octet R.most (open_after R.most p) m)
+    effect : Effect
+    effect = effects R.reading (tracked_after R p)
+        (events_of_octet R.most (before_by R (events R p)) m)
 
-  same_name : length m.payload ≡ named_at m.header → has_place m.header ≡ true →
-      other_of s now ≡ opener_of (open_after R.most p) m
-  unfolding s now other_of opener_of state_of tracked_after
-  same_name named place = search (arith, eq-eqb, shows)
+    same_name : length m.payload ≡ named_at m.header → has_place m.header ≡ true →
+        other_of R.asks s now ≡ opener_of (before_by R (events R p)) m
+    unfolding s now other_of opener_of state_of
+    same_name named place =
+        rw (eq-eqb (length m.payload) (named_at m.header) named, before_is R p sound)
+        (ap (open_under (before_by R (events R p))) (shows.name_is named place))
 
-  effect_same : effects R.reading s.tracked (events_at R.most s now) ≡ effect
-  unfolding s now effect events_at events_of_octet state_of tracked_after
-  effect_same =
-      ap (effects R.reading (tracked_after R p))
-      (events_with_key_agree R.most (open_after R.most p) (now_of m) (key_of s now) (key m)
-      (other_of s now) (opener_of (open_after R.most p) m)
-      (λ named place. (shows.name_is named place, same_name named place)) shows.past_is)
+    effect_same : effects R.reading s.tracked (events_at R s now) ≡ effect
+    unfolding s now effect events_at events_of_octet state_of
+    effect_same =
+        ap (λ (b : Before). effects R.reading (tracked_after R p)
+        (events_with_key R.most b now (key_of s now) (other_of R.asks s now))) (before_is R p sound)
+        ∙ ap (effects R.reading (tracked_after R p))
+        (events_with_key_agree R.most (before_by R (events R p)) (now_of m) (key_of s now) (key m)
+        (other_of R.asks s now) (opener_of (before_by R (events R p)) m)
+        (λ named place. (shows.name_is named place, same_name named place)) shows.past_is)
 
-  -- after a Fragment has its place: the message that the Fragment continues
-  named_same : has_named m ≡ true → length m.payload < size m.header →
-      opener_of effect.tracked.still_open m ≡ other_of s now
-  unfolding effect now tracked_after s has_named
-  named_same named less = search (
-    arith,
-    and_parts,
-    leb-true,
-    effects_still_open,
-    quiet_one,
-    cases_eq,
-    same_name,
-    any_placed,
-    shows,
-  )
+    -- the open message that the octet's message continues or has the key of
+    named_other : is_any_fragment m.header ≡ true → named_at m.header ≤ length m.payload →
+        other_of R.asks s now ≡ opener_of (before_by R (events R p)) m
+    unfolding s now
+    named_other f named = search (arith, cases_eq, same_name, any_placed, shows)
 
-  owner_same : length m.payload < size m.header →
-      owner_of_next effect.tracked.still_open m ≡ owner_for now (other_of s now)
-  unfolding owner_of_next has_named now
-  owner_same less = search (arith, now, named_same)
+    -- after a Fragment has its place: the message that the Fragment continues
+    named_same : has_named m ≡ true → length m.payload < size m.header →
+        opener_of (before_in R.asks effect.tracked) m ≡ other_of R.asks s now
+    unfolding effect has_named before_in before_by tracked_after open_after
+    named_same named less =
+        let c = tracked_after R p in
+        let b = before_by R (events R p) in
+        let es = events_of_octet R.most b m in
+        let both = and_parts (is_any_fragment m.header)
+        (nat_le (named_at m.header) (length m.payload)) named in
+        opener_by b (before_in R.asks effect.tracked) m
+        (effects_still_open R.reading c es ∙ quiet_one R.most b.still_open b m less (inr both.0))
+        (effects_mixed R.reading c es
+        ∙ or_nothing c.mixed (list_any mixes es) (fragment_mixes R.most b m both.0))
+        ∙ sym (named_other both.0 (leb-true (named_at m.header) (length m.payload) both.1))
 
-  stepped_is : (whole : List CutMessage) (t : Totals)
-      → t ≡ record {
-        messages = m.number;
-        faults = s.totals.faults + fault_count effect.lines;
-        octets = place m;
-      }
-      → shape t (end_message whole m) effect.tracked ≡ (stepped s now effect).state
-  unfolding end_message shape stepped now
-  stepped_is whole t et = search (arith, cases_lt, lt-ltb, owner_same, le-ltb)
+    owner_same : length m.payload < size m.header →
+        owner_of_next (before_in R.asks effect.tracked) m ≡ owner_for now (other_of R.asks s now)
+    unfolding owner_of_next has_named now
+    owner_same less = search (arith, now, named_same)
+
+    stepped_is : (whole : List CutMessage) (t : Totals)
+        → t ≡ record {
+          messages = m.number;
+          faults = s.totals.faults + fault_count effect.lines;
+          octets = place m;
+        }
+        → shape R.asks t (end_message whole m) effect.tracked ≡ (stepped R.asks s now effect).state
+    unfolding end_message shape stepped now
+    stepped_is whole t et = search (arith, cases_lt, lt-ltb, owner_same, le-ltb)
 
 -- ---- The step.
 
@@ -106,19 +123,15 @@ counted : (whole : List CutMessage) (m : CutMessage) → m.number ≡ suc (lengt
 counted whole m number = search (arith, settled_messages, length_push)
 
 -- the totals after the octet of m
-pub tally_settled : (R : Rules) (p : List ℕ) (x : ℕ) (m : CutMessage) →
+pub tally_settled : (R : Rules) (p : List ℕ) (x : ℕ) (m : CutMessage) (does : Effect) →
     m.number ≡ suc (length (cut p).whole)
-    → (let effect = effects R.reading (tracked_after R p)
-    (events_of_octet R.most (open_after R.most p) m) in Adds R p (p ++ x ∷ [])
-    (end_message (cut p).whole m) effect.lines effect.tracked)
-    → (let effect = effects R.reading (tracked_after R p)
-    (events_of_octet R.most (open_after R.most p) m) in tally R (p ++ x ∷ [])
-    ≡ record {
+    → Adds R p (p ++ x ∷ []) (end_message (cut p).whole m) does.lines does.tracked
+    → tally R (p ++ x ∷ []) ≡ record {
       messages = m.number;
-      faults = fault_count (lines R p) + fault_count effect.lines;
+      faults = fault_count (lines R p) + fault_count does.lines;
       octets = suc (length p);
-    })
-tally_settled R p x m number adds = search (
+    }
+tally_settled R p x m does number adds = search (
   arith,
   tally_by,
   end_message,
@@ -138,14 +151,15 @@ module _ (R : Rules) (causal : IsCausal R.reading) (laws : IsStreamable R.readin
       let p' = p ++ x ∷ [] in
       let whole = (cut p).whole in
       let view = shows R p x sound alive m st h.from in
-      let one = effect R p m view in
-      let t = tally_settled R p x m h.number_is h.adds
+      let one = effect R p m sound view in
+      let t = tally_settled R p x m one h.number_is h.adds
       ∙ (λ j. totals m.number (fault_count (lines R p) + fault_count one.lines)
       (sym h.place_is j)) in
       subst (λ (n : Now). Steps R p p' (step_by R (state_of R p) (Of n))) h.is_now
-      (rw (effect_same R p m view) (record {
-        state = state_is R p' _ (end_message whole m) _ t h.adds.cut_is h.adds.tracked_after
-            ∙ stepped_is R p m view whole _ (counts_by R p m one.lines);
+      (rw (effect_same R p m sound view) (record {
+        state = state_is R p' h.adds.sound _ (end_message whole m) _ t h.adds.cut_is
+            h.adds.tracked_after
+            ∙ stepped_is R p m sound view whole _ (counts_by R p m one.lines);
         lines = h.adds.lines;
       }))
 

@@ -3,13 +3,12 @@
 -- the line of the request id, and the lines of the id's last octet.
 use Rattle.std.proofs.Common.{◌≡◌, ℕ, suc, ◌+◌, ◌^◌, ◌<◌, ◌≤◌, true, List, [], ◌∷◌, ◌++◌, length, refl, sym, ap, subst, ◌∙◌, append_assoc, append-nil, length-append, take_all, Option, Some, None, Result, arith}
 use Rattle.std.specs.Prelude.{OnOk}
-use Rattle.std.proofs.lemmas.Bool.{and_parts, eqb-true, le-ltb, ne_eqb}
+use Rattle.std.proofs.lemmas.Bool.{and_parts, eqb-true, le-ltb}
 use Rattle.std.proofs.lemmas.List.{length_push}
 use Rattle.giop_cdr.specs.Numbers.{num}
 use Rattle.giop_print.specs.Output.{OutLog, Writes}
 use Rattle.giop_sig.specs.Table.{Table}
 use Rattle.giop_decode.specs.Noted.{Noted}
-use Rattle.giop_message.specs.Phases.{unbroken}
 use Rattle.giop_message.specs.Headers.{minor, kind, order, size, is_fragment}
 use Rattle.giop_message.specs.MessageReader.{IsCausal}
 use Rattle.giop_message.specs.Signatures.{Answers}
@@ -22,15 +21,15 @@ use Rattle.giop_stream.specs.HeaderOctets.{wrong}
 use Rattle.giop_stream.specs.Rules.{Rules, rules_by}
 use Rattle.giop_stream.specs.Framing.{CutMessage, with_payload, limit, cut, messages}
 use Rattle.giop_stream.specs.Kinds.{named_at, refused}
-use Rattle.giop_stream.specs.Events.{Takes, MessageKey, Open, changed, message_key, id, events_at_header, events_of_octet, open_after}
-use Rattle.giop_stream.specs.Lines.{StreamLine, lines}
+use Rattle.giop_stream.specs.Events.{Takes, MessageKey, Before, Open, octet, changed, message_key, id, events_of_octet, open_after}
+use Rattle.giop_stream.specs.Lines.{StreamLine, Kept, nothing_kept, lines}
 use Rattle.giop_stream.specs.Text.{lines_text}
 use Rattle.giop_stream.specs.Stream.{fault_count}
-use Rattle.giop_stream.specs.Effects.{Effect, effects, then_effect, starts, tracked_at, lines_of, with_octet, event, effect_to}
+use Rattle.giop_stream.specs.Effects.{Effect, effects, starts, tracked_at, lines_of, with_octet, event, effect_to}
 use Rattle.giop_stream.specs.OpenSlots.{Tracked, tracked_after, IsNotOpen, slots_at}
 use Rattle.giop_stream.specs.SlotsRepresent.{SlotsRepresent}
 use Rattle.giop_stream.specs.PayloadRuns.{run_effect}
-use Rattle.giop_stream.specs.PayloadOwner.{IsBeforeOctet, IsNewest, SaysId, end_events, owner_after}
+use Rattle.giop_stream.specs.PayloadOwner.{IsBeforeOctet, IsNewest, SaysId, octet_effect, owner_after, before_with}
 use Rattle.giop_stream.specs.Continuation.{IsContinuation, IsBeforeContinuation, continuation_effect}
 use Rattle.giop_stream.specs.HeaderEndsOfStream.{run_header_ends, owner_header_ends, header_ends_from}
 use Rattle.giop_stream.specs.EngineView.{FramingView}
@@ -45,8 +44,8 @@ use Rattle.giop_stream.proofs.Cuts.CutFrom.{end_message}
 use Rattle.giop_stream.proofs.Events.AfterMoreEvents.{count_append}
 use Rattle.giop_stream.proofs.Events.Soundness.{CurrentFits, IsSound}
 use Rattle.giop_stream.proofs.Events.StepCases.{place_more, if_some}
-use Rattle.giop_stream.proofs.SlotSteps.AtHeader.{in_two, starts_faults}
-use Rattle.giop_stream.proofs.SlotSteps.Cases.{effects_none, header_begins}
+use Rattle.giop_stream.proofs.SlotSteps.AtHeader.{starts_faults}
+use Rattle.giop_stream.proofs.SlotSteps.Cases.{header_begins}
 use Rattle.giop_stream.proofs.SlotSteps.Continuing.{few_due, owned_by_none}
 use Rattle.giop_stream.proofs.SlotSteps.Ending.{owner_early}
 use Rattle.giop_stream.proofs.SlotSteps.EventsInSlots.{slots_stay}
@@ -57,11 +56,14 @@ use Rattle.giop_stream.proofs.SlotSteps.ReadingEffects.{reader_lines, take_lines
 use Rattle.giop_stream.proofs.SlotSteps.RequestIds.{fragment_says}
 use Rattle.giop_stream.proofs.CodeSteps.EngineAlive.{sound, alive}
 use Rattle.giop_stream.proofs.CodeSteps.HeaderEndSteps.{AreUntold, at_none, run_from}
-use Rattle.giop_stream.proofs.Events.MessageKinds.{named_within, fragment_not_old, fragment_four}
+use Rattle.giop_stream.proofs.Events.MessageKinds.{named_within, fragment_not_old, fragment_four, placed_named}
+use Rattle.giop_stream.proofs.StreamLines.IdBeforeEnd.{first_octet}
+use Rattle.giop_stream.proofs.CodeSteps.WhatStands.{before_is}
+use Rattle.giop_stream.proofs.CodeSteps.Runs.{with_more}
 use Rattle.giop_stream.proofs.CodeSteps.MessageEnds.{goes_on}
 use Rattle.giop_stream.proofs.CodeSteps.MessageOctets.{does_run, runs_on, all_read, header_at, no_current, knows_at, messages_at, faults_at, settled_shows}
 use Rattle.giop_stream.proofs.CodeSteps.OneOctet.{Adds, beginner, begins_is, paid_is}
-use Rattle.giop_stream.proofs.CodeSteps.PayloadRunSteps.{Within, IsRun, octets_are, run_is}
+use Rattle.giop_stream.proofs.CodeSteps.PayloadRunSteps.{Within, IsRun, before_of, takes_mixed, octets_are, run_is}
 
 -- ---- The header of a Fragment.
 
@@ -85,45 +87,49 @@ fragment_tells : (C : Table) (number : ℕ) (header : List ℕ) (n : Noted) → 
 unfolding header_event
 fragment_tells C number header n seven = rw seven refl
 
-fragment_untold : (C : Table) (w : MessageKey) (o : Option (List ℕ)) (octets : List ℕ) →
+fragment_untold : (C : Table) (w : MessageKey) (o : Option Kept) (octets : List ℕ) →
     kind w.header ≡ 7 → AreUntold C (run_header_ends w o octets)
 fragment_untold C w None octets seven = tt
-fragment_untold C w (Some xs) octets seven =
-    bodiless_ends (λ e. call_event C e ≡ None) unbroken w.number w.header seven
-    (λ n. fragment_tells C w.number w.header n seven) xs octets
+fragment_untold C w (Some kept) octets seven =
+    bodiless_ends (λ e. call_event C e ≡ None) kept.phase w.number w.header seven
+    (λ n. fragment_tells C w.number w.header n seven) kept.octets octets
 
 -- ---- The octets of a request id before the last one.
 
--- The octets add no lines, and change no slot.
+-- The octets add no lines, and change no slot; and Fragments of 1.1 are joined as before.
 record IsQuietRun (c : Tracked) (ran : Effect) : Type 0 where
   lines : ran.lines ≡ []
   slots : slots_at ran.tracked ≡ slots_at c
+  mixed : ran.tracked.mixed ≡ c.mixed
 
 module _ (C : Table) (l : Answers) (w : MessageKey) (says : SaysId w.header) where
-  quiet_run : (q xs : List ℕ) (at : ℕ) (c : Tracked) → c.known w.number ≡ Some xs →
-      length xs + length q ≤ 3 → IsNotOpen w.number c.still_open
+  quiet_run : (q : List ℕ) (kept : Kept) (at : ℕ) (c : Tracked) →
+      c.known w.number ≡ Some kept → kept.phase 12 ≡ 12 →
+      length kept.octets + length q ≤ 3 → IsNotOpen w.number c.still_open
       → IsQuietRun c (run_effect C l at c (Some w) q)
-  unfolding run_effect tracked_at changed
-  quiet_run [] xs at c known few apart = search (arith)
-  quiet_run (x ∷ q) xs at c known few apart =
+  unfolding run_effect tracked_at changed octet
+  quiet_run [] kept at c known twelve few apart = search (arith)
+  quiet_run (x ∷ q) kept at c known twelve few apart =
       let e = event (suc at) w (Takes x) in
       let one = effect_to C l (suc at) c (Some w) (Takes x) in
-      let nothing = few_due C l w.number w.header says xs x (omega (arith, few)) in
+      let nothing = few_due C l w.number w.header says kept twelve x (omega (arith, few)) in
       let silent : one.lines ≡ [] =
-      ap (λ (o : Option (List ℕ)). lines_of (message_reader C l) e o) known
-      ∙ (take_lines C l (suc at) w xs x ∙ ap (reader_lines (suc at) w.number) nothing) in
-      let kept : one.tracked.known w.number ≡ Some (xs ++ x ∷ []) =
-      own_then (message_reader C l) c e ∙ rw known (then_by C l (suc at) w xs x ∙ rw nothing refl)
+      ap (λ (o : Option Kept). lines_of (message_reader C l) e o) known
+      ∙ (take_lines C l (suc at) w kept x ∙ ap (reader_lines (suc at) w.number) nothing) in
+      let now_kept : one.tracked.known w.number ≡ Some (with_more C l kept (x ∷ [])) =
+      own_then (message_reader C l) c e
+      ∙ rw known (then_by C l (suc at) w kept x ∙ rw nothing refl)
       in
       let slots : slots_at one.tracked ≡ slots_at c =
       slots_stay (message_reader C l) c e refl apart in
-      let more = quiet_run q (xs ++ x ∷ []) (suc at) one.tracked kept
-      (omega (arith, few, length_push xs x)) apart in
+      let more = quiet_run q (with_more C l kept (x ∷ [])) (suc at) one.tracked now_kept twelve
+      (omega (arith, few, length_push kept.octets x)) apart in
       let ran = run_effect C l (suc at) one.tracked (Some w) q in
       record {
         lines = ap (λ (ls : List StreamLine). ls ++ ran.lines) silent ∙ more.lines;
         slots =
             more.slots ∙ slots;
+        mixed = more.mixed ∙ takes_mixed C l (suc at) c (Some w) x;
       }
 
 -- ---- The stream with these octets: x is the last octet of a header, q and d are the octets of a
@@ -163,32 +169,22 @@ module _ (C : Table) (l : Answers) (most : ℕ) (p : List ℕ) (x : ℕ) (q : Li
   count = search (arith, append-nil)
 
   abbrev begun : Effect
-  begun = effects R.reading c₀ (events_of_octet most c₀.still_open first)
+  begun = effects R.reading c₀ (events_of_octet most (before_of C l most p) first)
 
   first_adds : Adds R p p₁ (end_message (cut p).whole first) begun.lines begun.tracked
-  unfolding tracked_after
   first_adds = begins_is R causal (in_turn C l) p x so free none
       (le-ltb limit (suc (length p)) (omega (arith, room))) (right_at_twelve header full) full
 
   -- its start line is the only effect
   begun_is : begun ≡ record { tracked = c₀; lines = starts first ∷ [] }
-  unfolding tracked_after end_events
+  unfolding tracked_after
   begun_is =
-      in_two R c₀ first refl (fragment_not_old header fragment)
-      ∙ (ap (λ (b : Effect). then_effect b (effects R.reading b.tracked
-      (end_events b.tracked.still_open first))) header_is
-      ∙ ap (then_effect (record { tracked = c₀; lines = starts first ∷ [] }))
-      (ap (effects R.reading c₀) goes ∙ effects_none R.reading c₀))
+      ap (effects R.reading c₀) (first_octet most (before_of C l most p) first refl
+      (omega (arith, fragment_four header fragment)) (omega (arith, sized)))
+      ∙ header_begins R.reading c₀ first nothing_kept known (fragment_stands header fragment)
     where
-      known : c₀.known first.number ≡ Some []
-      known = search (arith, so, count)
-
-      header_is : effects R.reading c₀ (events_at_header first) ≡
-          record { tracked = c₀; lines = starts first ∷ [] }
-      header_is = search (arith, header_begins, known, fragment_stands)
-
-      goes : end_events c₀.still_open first ≡ []
-      goes = search (arith, ne_eqb)
+      known : c₀.known first.number ≡ Some nothing_kept
+      known = so.unknown first.number (omega (arith, count))
 
   begun_cut : cut p₁ ≡ of_parts (cut p).whole (Some first) [] None
   begun_cut = search (arith, first_adds, goes_on)
@@ -217,20 +213,24 @@ module _ (C : Table) (l : Answers) (most : ℕ) (p : List ℕ) (x : ℕ) (q : Li
   abbrev pub m₄ : CutMessage
   m₄ = with_payload first q
 
-  own : owner_of_next (open_after most p₁) first ≡ Some (message_key first)
+  own : owner_of_next (before_of C l most p₁) first ≡ Some (message_key first)
   own = search (arith, owner_early, fragment_four)
 
   quiet : IsQuietRun c₀ (run_effect C l (length p₁) c₀ (Some (message_key first)) q)
   unfolding tracked_after
   quiet =
-      quiet_run C l (message_key first) (fragment_says header fragment) q [] (length p₁) c₀
-      (so.unknown (suc (length (cut p).whole)) (omega (arith, count))) (omega (arith, three))
+      quiet_run C l (message_key first) (fragment_says header fragment) q nothing_kept (length p₁)
+      c₀ (so.unknown (suc (length (cut p).whole)) (omega (arith, count))) refl
+      (omega (arith, three))
       (each_weaker {A = Open} (λ o. o.opener.number ≤ length (messages (cut p)))
       (λ o. o.opener.number ≡ suc (length (cut p).whole) → ⊥)
-      (λ o k same. omega (arith, k, same, count)) (open_after most p) so.numbers)
+      (λ o k same. omega (arith, k, same, count)) (open_after R p) so.numbers)
 
   pub same_slots : slots_at c₄ ≡ slots_at c₀
   same_slots = search (arith, run, begun_tracked, own, quiet)
+
+  pub same_mixed : c₄.mixed ≡ c₀.mixed
+  same_mixed = search (arith, run, begun_tracked, own, quiet)
 
   pub started : lines R p₄ ≡ lines R p ++ starts first ∷ []
   started = search (arith, run, begun_lines, begun_tracked, own, quiet, append-nil)
@@ -258,9 +258,10 @@ module _ (C : Table) (l : Answers) (most : ℕ) (p : List ℕ) (x : ℕ) (q : Li
     };
     payload_count = omega (arith, three, payload_count);
     newest = if_some (λ m. length m.payload < named_at m.header →
-        IsNewest m.number (open_after most p₄))
+        IsNewest m.number (open_after R p₄))
         (cut p₄).current m₄ run.within.current (so₄.early run.within.free);
-    alive = λ name less. alive R causal (in_turn C l) p₄ run.within.free m₄ run.within.current name
+    alive = λ place less. alive R causal (in_turn C l) p₄ run.within.free m₄ run.within.current
+        (placed_named header place (fragment_not_old header fragment))
         (omega (arith, less, named_within header));
     says = λ name. fragment_says header fragment;
   }
@@ -276,13 +277,17 @@ module _ (C : Table) (l : Answers) (most : ℕ) (p : List ℕ) (x : ℕ) (q : Li
   all_do = continuation_effect C l most c₄ m₄ d
 
   abbrev last_does : Effect
-  last_does = effects R.reading c₄ (events_of_octet most c₄.still_open (with_octet m₄ d))
+  last_does = octet_effect C l most c₄ (with_octet m₄ d)
 
   pub paid : Adds R p₄ (p₄ ++ d ∷ []) (end_message (cut p₄).whole (with_octet m₄ d)) last_does.lines
       last_does.tracked
-  unfolding tracked_after
-  paid = paid_is R causal (in_turn C l) p₄ d so₄ m₄ run.within.free run.within.current
-      (le-ltb limit (suc (length p₄)) (omega (arith, room, many)))
+  paid =
+      subst (λ (b : Before). Adds R p₄ (p₄ ++ d ∷ []) (end_message (cut p₄).whole (with_octet m₄ d))
+      (effects R.reading c₄ (events_of_octet most b (with_octet m₄ d))).lines
+      (effects R.reading c₄ (events_of_octet most b (with_octet m₄ d))).tracked)
+      (sym (before_is R p₄ so₄))
+      (paid_is R causal (in_turn C l) p₄ d so₄ m₄ run.within.free run.within.current
+      (le-ltb limit (suc (length p₄)) (omega (arith, room, many))))
 
   pub all_octets : p₄ ++ d ∷ [] ≡ p ++ (x ∷ (q ++ d ∷ []))
   all_octets = search (arith, append_assoc)
@@ -381,8 +386,9 @@ module _ (C : Table) (l : Answers) (most : ℕ) (s : State) (reached : IsReached
   is_before now number head place_is payload_count = record {
     keeps = owned_by_none C l m.slots (tracked_after R' p) tracked
         (same_slots C l most p x q d runs_free no_message three full fragment sized within_limit)
+        (same_mixed C l most p x q d runs_free no_message three full fragment sized within_limit)
         (subst (λ (o : Option CutMessage). SlotsRepresent C l m.slots (tracked_after R' p)
-        (owner_of_next_in (open_after most p) o)) no_message
+        (owner_of_next_in (before_of C l most p) o)) no_message
         (knows_at C l most s reached m h free));
     before = before_last C l most p x q d runs_free no_message three full fragment sized
         within_limit now
@@ -427,13 +433,13 @@ module _ (C : Table) (l : Answers) (most : ℕ) (s : State) (reached : IsReached
       → b.stopped ≡ m.stopped → b.header ≡ m.header ++ x ∷ [] → b.payload_count ≡ 4 →
       k ≡ size (m.header ++ x ∷ [])
       → SlotsRepresent C l b.slots effect.tracked
-      (owner_after effect.tracked.still_open (with_octet message d))
+      (owner_after (before_with C l effect.tracked) (with_octet message d))
       → Shows C l f (state_of R' (p ++ octets))
   continuation_shows b f k settles messages_are faults_are octets_read stopped head payload_count
       size_is keeps =
       let p₄ = (p ++ x ∷ []) ++ q in
       let n = with_octet message d in
-      let last = effects R'.reading tracked (events_of_octet most tracked.still_open n) in
+      let last = octet_effect C l most tracked n in
       let here = fits C l most p x q d runs_free no_message three full fragment sized within_limit
       in
       let before : fault_count (lines R' p₄) ≡ fault_count (lines R' p) =

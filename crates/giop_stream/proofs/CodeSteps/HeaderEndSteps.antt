@@ -7,14 +7,13 @@ use Rattle.std.proofs.lemmas.List.{length_push}
 use Rattle.giop_checkpoint.specs.declared.fault.StreamFault.{StreamFault}
 use Rattle.giop_sig.specs.Table.{Table}
 use Rattle.giop_sig.specs.RequestList.{kept_operation}
-use Rattle.giop_message.specs.Phases.{unbroken}
 use Rattle.giop_message.specs.declared.message.Message.{Message as CodeMessage}
 use Rattle.giop_message.specs.Signatures.{RequestTable, Answer, Answers, by_list, signatures_of}
 use Rattle.giop_message.specs.Messages.{message, stage_of}
 use Rattle.giop_message.specs.ReaderOfTable.{message_reader, is_over}
 use Rattle.giop_message.specs.MessageState.{Follows}
 use Rattle.giop_message.specs.HeaderEnds.{HeaderEnd, CallEvent, header_ends, after_ends, AgreesAtEnds, call_event, after_event}
-use Rattle.giop_message.proofs.MessageLaws.{header_ends_both, over_none, octet_over, told_both, answers_first, answers_then}
+use Rattle.giop_message.proofs.MessageLaws.{is_causal, header_ends_both, over_none, octet_over, told_both, answers_first, answers_then}
 use Rattle.giop_stream.specs.declared.slots.Slot.{Slot as Contents}
 use Rattle.giop_stream.specs.declared.slots.Slots.{Slots}
 use Rattle.giop_stream.specs.HeaderOctets.{wrong}
@@ -25,18 +24,23 @@ use Rattle.giop_stream.specs.Octet.{header_of}
 use Rattle.giop_stream.specs.EngineState.{State, state_of, owner_of_next}
 use Rattle.giop_stream.specs.ViewOfState.{IsReached, Shows}
 use Rattle.giop_stream.specs.Framing.{CutMessage, Cut, limit, cut}
-use Rattle.giop_stream.specs.Events.{MessageKey, Takes, open_after}
-use Rattle.giop_stream.specs.Effects.{octets_then, with_octet, event, effect_to}
+use Rattle.giop_stream.specs.Events.{MessageKey, Takes, Before, octet, events, before_by}
+use Rattle.giop_stream.specs.Lines.{Kept}
+use Rattle.giop_stream.specs.Effects.{kept_then, known_then, with_octet, event, effect_to}
 use Rattle.giop_stream.specs.OpenSlots.{Tracked, tracked_after}
 use Rattle.giop_stream.specs.SlotsRepresent.{RepresentsMessage, SlotsRepresent, index_of}
+use Rattle.giop_stream.specs.PayloadOwner.{before_with}
 use Rattle.giop_stream.specs.HeaderEndsOfStream.{run_header_ends, owner_header_ends, current_header_ends, header_ends_at, header_ends_from}
 use Rattle.giop_stream.proofs.Cuts.Cutting.{of_parts, next, parts_by, cut_grows, next_limit, next_front, next_stopped}
 use Rattle.giop_stream.proofs.Cuts.CutFrom.{header_case}
 use Rattle.giop_stream.proofs.SlotSteps.OneSlotChanges.{own_then}
+use Rattle.giop_stream.proofs.SlotSteps.Parts.{in_turn}
+use Rattle.giop_stream.proofs.CodeSteps.EngineAlive.{sound}
+use Rattle.giop_stream.proofs.CodeSteps.WhatStands.{before_is}
 use Rattle.giop_stream.proofs.SlotSteps.ReadingEffects.{Faulty, over_then, then_by}
 use Rattle.giop_stream.proofs.SlotSteps.EventsOnSlots.{IsItself, no_key, own_has, slot_has, own_kept, slot_kept}
 use Rattle.giop_stream.proofs.CodeSteps.Runs.{over_stays}
-use Rattle.giop_stream.proofs.CodeSteps.PayloadRunSteps.{Within, within_on, octet_adds, octet_owner, begins, octets_are}
+use Rattle.giop_stream.proofs.CodeSteps.PayloadRunSteps.{Within, within_on, octet_adds, octet_owner, before_of, begins, octets_are}
 use Rattle.giop_stream.proofs.CodeSteps.MessageOctets.{runs_on, all_read, header_at, no_current, has_current}
 
 -- ---- a result
@@ -76,18 +80,19 @@ untold_ends notified C st (e ∷ es) h =
 -- if a message is over, none of its headers ends; so what holds of no header ends holds of its
 -- header ends
 pub none_ends : (P : (List ℕ → List HeaderEnd) → Type 0) (C : Table) (a : Answers) (w : MessageKey)
-    (o : Option (List ℕ)) → RepresentsMessage C a None w o → P (λ octets. []) →
+    (o : Option Kept) → RepresentsMessage C a None w o → P (λ octets. []) →
     P (run_header_ends w o)
 none_ends P C a w None k f = f
-none_ends P C a w (Some s) k f = absurd k
+none_ends P C a w (Some kept) k f = absurd k
 
 -- if a message follows octets, what holds of the header ends after those octets holds of its header
 -- ends
 pub given_ends : (P : (List ℕ → List HeaderEnd) → Type 0) (C : Table) (a : Answers)
-    (m : CodeMessage) (w : MessageKey) (o : Option (List ℕ)) → RepresentsMessage C a (Some m) w o →
-    ((s : List ℕ) → o ≡ Some s → Follows C a unbroken w.number w.header m s →
-    P (header_ends unbroken w.number w.header s)) → P (run_header_ends w o)
-given_ends P C a m w (Some s) k f = f s refl k
+    (m : CodeMessage) (w : MessageKey) (o : Option Kept) → RepresentsMessage C a (Some m) w o →
+    ((kept : Kept) → o ≡ Some kept →
+    Follows C a kept.phase w.number w.header m kept.octets →
+    P (header_ends kept.phase w.number w.header kept.octets)) → P (run_header_ends w o)
+given_ends P C a m w (Some kept) k f = f kept refl k
 given_ends P C a m w None k f = absurd k
 
 -- ---- the owner of the octets
@@ -96,7 +101,7 @@ given_ends P C a m w None k f = absurd k
 module _ (P : (List ℕ → List HeaderEnd) → Type 0) (C : Table) (a : Answers) (s : Slots)
     (c : Tracked) (who : Option MessageKey) (h : SlotsRepresent C a s c who) where
   pub own_ends : (m : Option CodeMessage) → IsItself s.owner m →
-      ((w : MessageKey) (o : Option (List ℕ)) → RepresentsMessage C a m w o →
+      ((w : MessageKey) (o : Option Kept) → RepresentsMessage C a m w o →
       P (run_header_ends w o)) → P (owner_header_ends c who)
   own_ends m e f =
       own_has C a (λ v. P (owner_header_ends c v)) s c who m e h
@@ -120,35 +125,38 @@ at_free R p x free room = search (arith, lt-ltb)
 
 module _ (C : Table) (a : Answers) where
   -- if an octet faults the message, the message is over
-  faulted_over : (w : MessageKey) (s : List ℕ) (x : ℕ) → Faulty C a w s x ≡ true
-      → is_over (stage_of (message (signatures_of C (a w.number) unbroken) w.header (s ++ x ∷ [])))
-      ≡ true
-  faulted_over w s x e = search (arith, over_stays, octet_over)
+  faulted_over : (w : MessageKey) (kept : Kept) (x : ℕ) → Faulty C a w kept x ≡ true
+      → is_over (stage_of (message (signatures_of C (a w.number) kept.phase) w.header
+      (kept.octets ++ x ∷ []))) ≡ true
+  faulted_over w kept x e = search (arith, over_stays, octet_over)
 
-  ends_on : (w : MessageKey) (s : List ℕ) (x : ℕ) (q : List ℕ) (at : ℕ) →
-      header_ends unbroken w.number w.header s (x ∷ q)
-      ≡ header_ends unbroken w.number w.header s (x ∷ [])
-      ++ run_header_ends w (octets_then (message_reader C a) (event at w (Takes x)) (Some s)) q
-  ends_on w s x q at =
-      header_ends_both unbroken w.number w.header s (x ∷ []) q
-      ∙ ap (λ (z : List HeaderEnd). header_ends unbroken w.number w.header s (x ∷ []) ++ z)
-      (go (Faulty C a w s x) refl)
+  ends_on : (w : MessageKey) (kept : Kept) (x : ℕ) (q : List ℕ) (at : ℕ) →
+      run_header_ends w (Some kept) (x ∷ q)
+      ≡ run_header_ends w (Some kept) (x ∷ [])
+      ++ run_header_ends w (known_then (message_reader C a) (event at w (Takes x)) (Some kept)) q
+  unfolding octet
+  ends_on w kept x q at =
+      header_ends_both kept.phase w.number w.header kept.octets (x ∷ []) q
+      ∙ ap (λ (z : List HeaderEnd). run_header_ends w (Some kept) (x ∷ []) ++ z)
+      (go (Faulty C a w kept x) refl)
     where
-      go : (b : Bool) → Faulty C a w s x ≡ b → header_ends unbroken w.number w.header (s ++ x ∷ [])
-          q
-          ≡ run_header_ends w (octets_then (message_reader C a) (event at w (Takes x)) (Some s)) q
+      go : (b : Bool) → Faulty C a w kept x ≡ b →
+          header_ends kept.phase w.number w.header (kept.octets ++ x ∷ []) q
+          ≡ run_header_ends w (known_then (message_reader C a) (event at w (Takes x)) (Some kept)) q
       go true e =
-          over_none C (a w.number) unbroken w.number w.header (s ++ x ∷ []) q (faulted_over w s x e)
+          over_none C (a w.number) kept.phase w.number w.header (kept.octets ++ x ∷ []) q
+          (faulted_over w kept x e)
           ∙ sym (ap (λ o. run_header_ends w o q)
-          (then_by C a at w s x ∙ ap (λ (b : Bool). if b then None else Some (s ++ x ∷ [])) e))
+          (then_by C a at w kept x
+          ∙ ap (λ (b : Bool). if b then None else Some (kept_then (Takes x) kept)) e))
       go false e = search (arith, then_by)
 
-  known_on : (w : MessageKey) (o : Option (List ℕ)) (x : ℕ) (q : List ℕ) (at : ℕ) →
+  known_on : (w : MessageKey) (o : Option Kept) (x : ℕ) (q : List ℕ) (at : ℕ) →
       run_header_ends w o (x ∷ q)
       ≡ run_header_ends w o (x ∷ []) ++ run_header_ends w
-      (octets_then (message_reader C a) (event at w (Takes x)) o) q
+      (known_then (message_reader C a) (event at w (Takes x)) o) q
   known_on w None x q at = search (arith, over_then)
-  known_on w (Some s) x q at = ends_on w s x q at
+  known_on w (Some kept) x q at = ends_on w kept x q at
 
   owner_on : (c : Tracked) (who : Option MessageKey) (x : ℕ) (q : List ℕ) (at : ℕ) →
       owner_header_ends c who (x ∷ q)
@@ -165,14 +173,14 @@ module _ (C : Table) (a : Answers) where
   ends_here : (R : Rules) (p : List ℕ) (m : CutMessage) (x : ℕ) → (cut p).stop ≡ None →
       (cut p).current ≡ Some m → length p < limit
       → header_ends_at R p x ≡ owner_header_ends (tracked_after R p)
-      (owner_of_next (open_after R.most p) m) (x ∷ [])
+      (owner_of_next (before_by R (events R p)) m) (x ∷ [])
   ends_here R p m x free current room = search (arith, at_free)
 
   -- which headers end in octets that only add to contents, and in one more octet
   pub run_from : (most : ℕ) (q p : List ℕ) (m : CutMessage) (x : ℕ) → Within p m (length q) →
       length p + length q < limit
       → owner_header_ends (tracked_after (rules_by C a most) p)
-      (owner_of_next (open_after most p) m) (q ++ x ∷ [])
+      (owner_of_next (before_of C a most p) m) (q ++ x ∷ [])
       ≡ header_ends_from (rules_by C a most) p (q ++ x ∷ [])
   unfolding header_ends_from
   run_from most [] p m x h room =
@@ -181,7 +189,7 @@ module _ (C : Table) (a : Answers) where
       ∙ ends_here R p m x h.free h.current (omega (arith, room)))
   run_from most (y ∷ q) p m x h room =
       let R = rules_by C a most in
-      let W = owner_of_next (open_after most p) m in
+      let W = owner_of_next (before_of C a most p) m in
       let p' = p ++ y ∷ [] in
       let one = octet_adds C a most p m y (length q) h in
       let who = octet_owner C a most p m y (length q) h in
@@ -363,11 +371,26 @@ told_run C a most s r m h free full octets some apart few room =
     let (q, (x, e)) = octets_are octets some in
     let all = all_read C a most s r m h free in
     rw here.1 (subst (λ (z : List ℕ). owner_header_ends (tracked_after (rules_by C a most) r.stream)
-    (owner_of_next (open_after most r.stream) here.0) z
+    (owner_of_next (before_of C a most r.stream) here.0) z
     ≡ header_ends_from (rules_by C a most) r.stream z) (sym e)
     (run_from C a most q r.stream here.0 x
     (begins C a most s r m h free here.0 here.1 octets q x e apart few room)
     (omega (arith, room, all, ap length e, length_push q x))))
+
+-- the headers that end in octets of a payload, by what is tracked
+pub run_ends : (C : Table) (a : Answers) (most : ℕ) (s : State) (r : IsReached C a most s)
+    (m : FramingView) (h : Shows C a m s)
+    (free : m.stopped ≡ None) (c : CutMessage) → (cut r.stream).current ≡ Some c →
+    (octets : List ℕ)
+    → current_header_ends (rules_by C a most) r.stream (cut r.stream).current octets
+    ≡ (let t = tracked_after (rules_by C a most) r.stream in
+    owner_header_ends t (owner_of_next (before_with C a t) c) octets)
+run_ends C a most s r m h free c current octets =
+    let R = rules_by C a most in
+    rw current (ap (λ (b : Before). owner_header_ends (tracked_after R r.stream)
+    (owner_of_next b c) octets) (sym (before_is R r.stream
+    (sound R (is_causal (λ phase number. signatures_of C (a number) phase)) (in_turn C a)
+    r.stream))))
 
 -- ---- octets after those that were taken
 

@@ -15,17 +15,17 @@ use Rattle.giop_stream.specs.declared.current.Current.{Current}
 use Rattle.giop_stream.specs.HeaderOctets.{wrong, first_wrong_octet}
 use Rattle.giop_stream.specs.Rules.{Rules, rules_by}
 use Rattle.giop_stream.specs.Framing.{CutMessage, Cut, cut, messages}
-use Rattle.giop_stream.specs.Events.{events_of_octet, open_after}
+use Rattle.giop_stream.specs.Events.{Before, events_of_octet, events, before_by}
 use Rattle.giop_stream.specs.Lines.{StreamLine, lines}
 use Rattle.giop_stream.specs.Text.{lines_text}
 use Rattle.giop_stream.specs.Stream.{fault_count, tally}
 use Rattle.giop_stream.specs.Effects.{Effect, effects}
 use Rattle.giop_stream.specs.OpenSlots.{tracked_after}
 use Rattle.giop_stream.specs.SlotsRepresent.{SlotsRepresent}
-use Rattle.giop_stream.specs.PayloadOwner.{IsBeforeMessage, owner_after}
+use Rattle.giop_stream.specs.PayloadOwner.{IsBeforeMessage, owner_after, before_with, octet_effect}
 use Rattle.giop_stream.specs.EngineView.{FramingView}
 use Rattle.giop_stream.specs.Octet.{header_of, payload_count_of}
-use Rattle.giop_stream.specs.EngineState.{State, left_of, state_of, owner_of_next_in}
+use Rattle.giop_stream.specs.EngineState.{State, left_of, state_of, owner_of_next, owner_of_next_in}
 use Rattle.giop_stream.specs.EngineStep.{step, run_state, runs}
 use Rattle.giop_stream.specs.FramingSteps.{held_on, end_message as settled}
 use Rattle.giop_stream.specs.ViewOfState.{IsReached, Shows, payload_count_in, Does}
@@ -38,6 +38,7 @@ use Rattle.giop_stream.proofs.Events.StepCases.{if_some}
 use Rattle.giop_stream.proofs.SlotSteps.Parts.{in_turn}
 use Rattle.giop_stream.proofs.Cuts.OfOctets.{header_octets, size_fits}
 use Rattle.giop_stream.proofs.CodeSteps.OneOctet.{Adds, beginner, begins_is}
+use Rattle.giop_stream.proofs.CodeSteps.WhatStands.{before_is}
 use Rattle.giop_stream.proofs.CodeSteps.EngineStep.{tally_settled}
 use Rattle.giop_stream.proofs.CodeSteps.NextOctet.{shape, state_is, read_all}
 use Rattle.giop_stream.proofs.CodeSteps.EngineAlive.{sound}
@@ -86,8 +87,7 @@ module _ (C : Table) (l : Answers) (most : ℕ) (p : List ℕ) where
   rules = rules_by C l most
 
   abbrev pub effect_of : CutMessage → Effect
-  effect_of n = effects rules.reading (tracked_after rules p)
-      (events_of_octet most (tracked_after rules p).still_open n)
+  effect_of n = octet_effect C l most (tracked_after rules p) n
 
   module _ (x : ℕ) (n : CutMessage) (fits : length n.payload ≤ size n.header)
       (number : n.number ≡ suc (length (cut p).whole))
@@ -99,7 +99,7 @@ module _ (C : Table) (l : Answers) (most : ℕ) (p : List ℕ) where
         → b.stopped ≡ None → b.header ≡ n.header → b.payload_count ≡ length n.payload →
         k ≡ size n.header
         → SlotsRepresent C l b.slots (effect_of n).tracked
-        (owner_after (effect_of n).tracked.still_open n) →
+        (owner_after (before_with C l (effect_of n).tracked) n) →
         Shows C l f (state_of rules (p ++ x ∷ []))
     unfolding shape of_parts tracked_after owner_after payload_count_in
     settled_shows b f k e messages faults octets stopped header payload_count sized keeps =
@@ -110,8 +110,9 @@ module _ (C : Table) (l : Answers) (most : ℕ) (p : List ℕ) where
           faults = fault_count (lines rules p) + fault_count (effect_of n).lines;
           octets = suc (length p);
         } = λ j. record { messages = messages j; faults = faults j; octets = octets j } in
-        subst (Shows C l f) (sym (state_is rules p' _ (end_message whole n) (effect_of n).tracked
-        (tally_settled rules p x n number adds) adds.cut_is adds.tracked_after))
+        subst (Shows C l f) (sym (state_is rules p' adds.sound _ (end_message whole n)
+        (effect_of n).tracked
+        (tally_settled rules p x n (effect_of n) number adds) adds.cut_is adds.tracked_after))
         (rw e (elim (cases_lt (length n.payload) (size n.header)) [
           | inl less ↦
               let now = adds.cut_is ∙ goes_on whole n less in
@@ -211,9 +212,19 @@ module _ (C : Table) (l : Answers) (most : ℕ) (s : State) (reached : IsReached
     all_read = search (arith, at_p, read_all, runs_on)
 
     pub knows_at : SlotsRepresent C l m.slots (tracked_after R p)
-        (owner_of_next_in (open_after most p) (cut p).current)
+        (owner_of_next_in (before_by R (events R p)) (cut p).current)
     unfolding state_of
     knows_at = at_p.slots
+
+    -- the same for the current message, by what is tracked
+    pub owned_at : (c : CutMessage) → (cut p).current ≡ Some c →
+        SlotsRepresent C l m.slots (tracked_after R p)
+        (owner_of_next (before_with C l (tracked_after R p)) c)
+    owned_at c current =
+        subst (λ (b : Before). SlotsRepresent C l m.slots (tracked_after R p) (owner_of_next b c))
+        (sym (before_is R p so))
+        (subst (λ (o : Option CutMessage). SlotsRepresent C l m.slots (tracked_after R p)
+        (owner_of_next_in (before_by R (events R p)) o)) current knows_at)
 
     -- while the header is incomplete there is no current message
     pub no_current : length m.header < 12 → (cut p).current ≡ None
@@ -280,12 +291,15 @@ module _ (C : Table) (l : Answers) (most : ℕ) (s : State) (reached : IsReached
 
     first_adds : Adds R p (p ++ x ∷ []) (end_message (cut p).whole first) beginning.lines
         beginning.tracked
-    unfolding tracked_after
     first_adds =
-        begins_is R causal (in_turn C l) p x so (runs_on ran) cur
+        subst (λ (b : Before). Adds R p (p ++ x ∷ []) (end_message (cut p).whole first)
+        (effects R.reading (tracked_after R p) (events_of_octet most b first)).lines
+        (effects R.reading (tracked_after R p) (events_of_octet most b first)).tracked)
+        (sym (before_is R p so))
+        (begins_is R causal (in_turn C l) p x so (runs_on ran) cur
         (within_limit (length p) (omega (arith, all_read ran, octets_was, room)))
         (ap wrong (sym header_now) ∙ right)
-        (ap length (sym header_now) ∙ full)
+        (ap length (sym header_now) ∙ full))
 
     count : length (messages (cut p)) ≡ length (cut p).whole
     unfolding messages
@@ -297,7 +311,7 @@ module _ (C : Table) (l : Answers) (most : ℕ) (s : State) (reached : IsReached
     pub is_first : (now : Current) → now.number ≡ b.totals.messages + 1 → now.header ≡ b.header
         → now.place ≡ b.totals.octets → now.payload_count ≡ b.payload_count
         → IsBeforeMessage C l b.slots (tracked_after R p)
-        (owner_of_next_in (open_after most p) (cut p).current) first now
+        (owner_of_next_in (before_by R (events R p)) (cut p).current) first now
     unfolding tracked_after
     is_first now number header at payload_count = search (
       arith,
@@ -331,7 +345,7 @@ module _ (C : Table) (l : Answers) (most : ℕ) (s : State) (reached : IsReached
         → b'.stopped ≡ b.stopped → b'.header ≡ b.header → b'.payload_count ≡ b.payload_count →
         k ≡ size b.header
         → SlotsRepresent C l b'.slots beginning.tracked
-        (owner_after beginning.tracked.still_open first) →
+        (owner_after (before_with C l beginning.tracked) first) →
         Shows C l f (state_of R (p ++ x ∷ []))
     begun_shows b' f k is messages faults octets stopped header payload_count sized keeps =
         settled_shows C l most p x first (omega arith) refl first_adds b' f k is

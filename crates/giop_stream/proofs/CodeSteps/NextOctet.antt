@@ -1,19 +1,20 @@
 -- The state of a stream, part by part. It says what the next octet is, and which events that octet
 -- has.
-use Rattle.std.proofs.Common.{inl, inr, ◌⊎◌, ◌≡◌, ℕ, suc, ◌-◌, ◌<◌, ◌≤◌, true, List, [], ◌∷◌, ◌++◌, length, get_or, refl, ap, ◌∙◌, Option, Some, None, arith}
+use Rattle.std.proofs.Common.{inl, inr, ◌⊎◌, ◌≡◌, ℕ, suc, ◌-◌, ◌<◌, ◌≤◌, true, List, [], ◌∷◌, ◌++◌, length, get_or, refl, sym, ap, ◌∙◌, Option, Some, None, arith}
 use Rattle.std.specs.Prelude.{IfSome}
 use Rattle.std.proofs.lemmas.Bool.{lt-ltb, ne_eqb, le-leb}
 use Rattle.std.proofs.lemmas.List.{append-nil, length_push, get_or_push, take_all}
 use Rattle.giop_message.specs.Headers.{size, has_name}
-use Rattle.giop_stream.specs.Kinds.{is_old, is_any_fragment, has_place, named_at}
+use Rattle.giop_stream.specs.Kinds.{is_old, is_any_fragment, named_at}
+use Rattle.giop_stream.specs.PayloadOwner.{has_place, own_kept}
 use Rattle.giop_checkpoint.specs.declared.fault.StreamFault.{StreamFault}
 use Rattle.giop_stream.specs.declared.status.Totals.{Totals}
-use Rattle.giop_stream.specs.Rules.{Rules}
+use Rattle.giop_stream.specs.Rules.{RequestIds, Rules}
 use Rattle.giop_stream.specs.Framing.{CutMessage, Cut, cut, messages, read_of, fault_of}
-use Rattle.giop_stream.specs.Events.{id, key, opener_of, has_named, open_after, now_of}
+use Rattle.giop_stream.specs.Events.{id, key, opener_of, has_named, events, open_after, before_by, now_of}
 use Rattle.giop_stream.specs.Lines.{stop_line, lines}
 use Rattle.giop_stream.specs.Stream.{start_count, fault_count, tally}
-use Rattle.giop_stream.specs.OpenSlots.{octets_of, Tracked, tracked_after}
+use Rattle.giop_stream.specs.OpenSlots.{known_of, Tracked, tracked_after, before_in}
 use Rattle.giop_stream.specs.Effects.{with_octet}
 use Rattle.giop_stream.specs.Octet.{octet_in, octet_of, header_of, payload_count_of}
 use Rattle.giop_stream.specs.EngineState.{State, owner_of_next, owner_of_next_in, unless, left_of, state_of}
@@ -28,23 +29,35 @@ use Rattle.giop_stream.proofs.Events.EventsByEngine.{found_under_again}
 use Rattle.giop_stream.proofs.Events.MessageKinds.{placed_named, named_four, later_new, none_old}
 use Rattle.giop_stream.proofs.SlotSteps.Parts.{same_key}
 use Rattle.giop_stream.proofs.CodeSteps.OneOctet.{Adds}
+use Rattle.giop_stream.proofs.CodeSteps.WhatStands.{before_is}
 
 -- ---- The state, from its parts.
 
-unfoldable pub shape : Totals → Cut → Tracked → State
-shape t c tracked = record {
+unfoldable pub shape : RequestIds → Totals → Cut → Tracked → State
+shape asks t c tracked = record {
   totals = t;
   stop = fault_of c.stop;
   held = unless c.stop [] (header_of c.current c.held);
   left = unless c.stop 0 (left_of c.current);
   tracked = tracked;
-  owner = owner_of_next_in tracked.still_open c.current;
+  owner = owner_of_next_in (before_in asks tracked) c.current;
 }
 
-pub state_is : (R : Rules) (p : List ℕ) (t : Totals) (c : Cut) (tracked : Tracked) → tally R p ≡ t →
-    cut p ≡ c → tracked_after R p ≡ tracked → state_of R p ≡ shape t c tracked
-unfolding state_of shape tracked_after
-state_is R p t c tracked et ec es = search (arith)
+pub state_is : (R : Rules) (p : List ℕ) → IsSound R p → (t : Totals) (c : Cut) (tracked : Tracked) →
+    tally R p ≡ t → cut p ≡ c → tracked_after R p ≡ tracked →
+    state_of R p ≡ shape R.asks t c tracked
+unfolding state_of shape
+state_is R p sound t c tracked et ec es =
+    let stands : before_by R (events R p) ≡ before_in R.asks tracked =
+    sym (before_is R p sound) ∙ ap (before_in R.asks) es in
+    λ j. record {
+      totals = et j;
+      stop = fault_of (ec j).stop;
+      held = unless (ec j).stop [] (header_of (ec j).current (ec j).held);
+      left = unless (ec j).stop 0 (left_of (ec j).current);
+      tracked = es j;
+      owner = owner_of_next_in (stands j) (ec j).current;
+    }
 
 pub tally_by : (R : Rules) (p : List ℕ) (c : Cut) (a b n : ℕ) → cut p ≡ c →
     start_count (lines R p) ≡ a
@@ -109,11 +122,24 @@ pub record Steps (R : Rules) (p p' : List ℕ) (one : Step) : Type 0 where
   pub state : state_of R p' ≡ one.state
   pub lines : lines R p' ≡ lines R p ++ one.lines
 
-module _ (R : Rules) (p : List ℕ) (x : ℕ) where
+module _ (R : Rules) (p : List ℕ) (x : ℕ) (sound : IsSound R p) where
   pub behind_steps : (found : ℕ × StreamFault) → (cut p).stop ≡ Some found →
       Adds R p (p ++ x ∷ []) (cut p) [] (tracked_after R p)
       → Steps R p (p ++ x ∷ []) (record { state = state_of R p; lines = [] })
-  behind_steps found st adds = search (arith, append-nil, read_found, tally_by, state_is)
+  unfolding tally
+  behind_steps found st adds =
+      let p' = p ++ x ∷ [] in
+      let same : lines R p' ≡ lines R p = adds.lines ∙ append-nil (lines R p) in
+      let counts : tally R p' ≡ tally R p =
+      tally_by R p' (cut p) (start_count (lines R p)) (fault_count (lines R p))
+      (read_of p (cut p).stop) adds.cut_is (ap start_count same) (ap fault_count same)
+      (read_found p' (cut p).stop found st ∙ sym (read_found p (cut p).stop found st)) in
+      record {
+        state = state_is R p' adds.sound (tally R p) (cut p) (tracked_after R p) counts adds.cut_is
+            adds.tracked_after
+            ∙ sym (state_is R p sound (tally R p) (cut p) (tracked_after R p) refl refl refl);
+        lines = adds.lines;
+      }
 
   pub ends_steps : (fault : StreamFault) → (cut p).stop ≡ None
       → Adds R p (p ++ x ∷ []) (stopped_at (suc (length p)) fault (cut p))
@@ -154,7 +180,7 @@ pub record Shows (R : Rules) (p : List ℕ) (m : CutMessage) : Type 0 where
   pub name_is : length m.payload ≡ named_at m.header → has_place m.header ≡ true →
       key_of (state_of R p) (now_of m) ≡ key m
   pub past_is : named_at m.header < length m.payload → is_any_fragment m.header ≡ true →
-      other_of (state_of R p) (now_of m) ≡ opener_of (open_after R.most p) m
+      other_of R.asks (state_of R p) (now_of m) ≡ opener_of (before_by R (events R p)) m
 
 module _ (R : Rules) (p : List ℕ) (x : ℕ) (sound : IsSound R p) (alive : IsAlive R p) where
   -- a message of 1.1 has no key
@@ -177,7 +203,7 @@ module _ (R : Rules) (p : List ℕ) (x : ℕ) (sound : IsSound R p) (alive : IsA
   unfolding id state_of tracked_after
   id_held was st cur four name =
       let long = length_push was.payload x in
-      let kept_is : octets_of R p was.number ≡ Some was.payload =
+      let kept_is : known_of R p was.number ≡ Some (own_kept was) =
       alive st was cur name (omega (arith, long, four)) in
       let last : get_or (was.payload ++ x ∷ []) (length (was.payload ++ x ∷ []) - 1) 0 ≡ x =
       get_or_push was.payload x 0 _ (omega (arith, long)) in
@@ -199,10 +225,10 @@ module _ (R : Rules) (p : List ℕ) (x : ℕ) (sound : IsSound R p) (alive : IsA
 
   past_held : (was : CutMessage) → (cut p).current ≡ Some was →
       named_at was.header < length (was.payload ++ x ∷ [])
-      → is_any_fragment was.header ≡ true → other_of (state_of R p) (now_of (with_octet was x))
-      ≡ opener_of (open_after R.most p)
-      (with_octet was x)
-  unfolding other_of state_of tracked_after owner_of_next has_named opener_of
+      → is_any_fragment was.header ≡ true
+      → other_of R.asks (state_of R p) (now_of (with_octet was x))
+      ≡ opener_of (before_by R (events R p)) (with_octet was x)
+  unfolding other_of state_of tracked_after before_by open_after owner_of_next has_named opener_of
   past_held was cur long f =
       let more : named_at was.header ≤ length was.payload =
       omega (arith, long, length_push was.payload x) in
@@ -213,7 +239,7 @@ module _ (R : Rules) (p : List ℕ) (x : ℕ) (sound : IsSound R p) (alive : IsA
         le-leb (named_at was.header) (length was.payload) more,
         same_key was x more (is_old was.header) refl,
       )
-      (found_under_again (open_after R.most p) (key was) sound.rising)
+      (found_under_again (before_by R (events R p)) (key was) sound.rising)
 
   shows_next : (was : CutMessage) → (cut p).stop ≡ None → (cut p).current ≡ Some was →
       Shows R p (with_octet was x)

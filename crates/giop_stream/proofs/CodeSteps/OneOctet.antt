@@ -2,7 +2,7 @@
 -- messages; the invariants stay.
 use native.Mathlib.Nat.{le_of_eq}
 use Rattle.std.proofs.Common.{inl, inr, ◌⊎◌, ◌≡◌, ℕ, suc, ◌+◌, ◌-◌, ◌<◌, ◌≤◌, Bool, true, false, List, [], ◌∷◌, ◌++◌, length, get_or, refl, sym, ap, subst, ◌∙◌, Option, Some, None, arith}
-use Rattle.std.specs.Prelude.{nat_lt, ◌==◌}
+use Rattle.std.specs.Prelude.{nat_lt, ◌==◌, IfSome}
 use Rattle.std.specs.List.{AllByRecursion as Each}
 use Rattle.std.proofs.lemmas.Bool.{lt-ltb, le-ltb, eq-eqb, eqb-true}
 use Rattle.std.proofs.lemmas.List.{append-nil, length_push, get_or_push}
@@ -14,10 +14,10 @@ use Rattle.giop_checkpoint.specs.declared.fault.StreamFault.TheVariants.{StreamL
 use Rattle.giop_stream.specs.HeaderOctets.{wrong}
 use Rattle.giop_stream.specs.Rules.{Rules}
 use Rattle.giop_stream.specs.Framing.{CutMessage, Cut, limit, cut, messages, fault_of}
-use Rattle.giop_stream.specs.Events.{EventKind, Event, Open, place, events_of_octet, events, open_after, joined, Now, now_of}
-use Rattle.giop_stream.specs.Lines.{StreamLine, lines_of_messages, stop_line, lines}
+use Rattle.giop_stream.specs.Events.{EventKind, Event, Open, place, events_of_octet, events_from, events, opened, open_after, joined, before_by, Now, now_of}
+use Rattle.giop_stream.specs.Lines.{StreamLine, Kept, nothing_kept, kept_of, lines_of_messages, stop_line, lines}
 use Rattle.giop_stream.specs.Stream.{start_count}
-use Rattle.giop_stream.specs.OpenSlots.{OctetsByNumber, octets_of, Tracked, tracked_after}
+use Rattle.giop_stream.specs.OpenSlots.{KeptByNumber, known_of, Tracked, tracked_after}
 use Rattle.giop_stream.proofs.StreamLines.EventsTogether.{all_lines, sorted_lines}
 use Rattle.giop_stream.specs.Effects.{effects, IsBegun, with_octet}
 use Rattle.giop_stream.specs.Octet.{Octet, AfterStop, Ends, Held, Of, front_is, octet_in, octet_of, header_of, payload_count_of}
@@ -26,16 +26,16 @@ use Rattle.giop_stream.proofs.Cuts.Cutting.{next, stopped_at, of_parts, parts_by
 use Rattle.giop_stream.proofs.Cuts.CutFrom.{end_message, header_case}
 use Rattle.giop_stream.proofs.Events.MessageKinds.{named_by_four}
 use Rattle.giop_stream.proofs.Events.EventsOfOctet.{events_of_octet_each}
-use Rattle.giop_stream.proofs.StreamLines.LinesOfOctet.{standing_each, all_lines_places}
+use Rattle.giop_stream.proofs.StreamLines.LinesOfOctet.{standing_each, all_lines_places, phase_twelve}
 use Rattle.giop_stream.proofs.Events.EventsKeep.{Below}
 use Rattle.giop_stream.proofs.StreamLines.Ordering.{Ordered, Rises, Fine, ordered_stays, are_effects}
 use Rattle.giop_stream.proofs.StreamLines.LineOrder.{events_of_octet_fine, not_past}
 use Rattle.giop_stream.proofs.Events.Sharing.{header_joined, own_joined}
 use Rattle.giop_stream.proofs.StreamLines.StartLines.{start_append, none_later, one_first}
-use Rattle.giop_stream.proofs.Events.AfterMoreEvents.{message_lines_grow, message_lines_same, octets_grow, octets_idle, open_grows, open_idle, lines_free, lines_stopped}
+use Rattle.giop_stream.proofs.Events.AfterMoreEvents.{message_lines_grow, message_lines_same, known_grow, known_idle, open_grows, open_idle, lines_free, lines_stopped}
 use Rattle.giop_stream.proofs.Events.Soundness.{Fits, IsSound, dealt_sound, events_on, events_begin}
-use Rattle.giop_stream.proofs.Events.StepCases.{quiet_sound, stop_starts, none_known, not_twelve, place_more, place_first, events_of_cut}
-use Rattle.giop_stream.proofs.Events.StepCases.{octets_are}
+use Rattle.giop_stream.proofs.CodeSteps.WhatStands.{mixed_grows}
+use Rattle.giop_stream.proofs.Events.StepCases.{quiet_sound, stop_starts, not_twelve, place_more, place_first, events_of_cut}
 
 pub record Adds (R : Rules) (p p' : List ℕ) (c : Cut) (ls : List StreamLine) (tracked : Tracked) :
     Type 0
@@ -56,12 +56,13 @@ pub record IsOf (R : Rules) (p : List ℕ) (x : ℕ) (now : Now) : Type 0 where
   pub place_is : place m ≡ suc (length p)
   pub from : (((cut p).current ≡ None) × (m.payload ≡ []))
       ⊎ ((was : CutMessage) × ((cut p).current ≡ Some was) × (m ≡ with_octet was x))
-  pub grows : events R.most (p ++ x ∷ []) ≡ events R.most p
-      ++ events_of_octet R.most (open_after R.most p) m
+  pub grows : events R (p ++ x ∷ []) ≡ events R p
+      ++ events_of_octet R.most (before_by R (events R p)) m
   pub adds : Adds R p (p ++ x ∷ []) (end_message (cut p).whole m)
-      (effects R.reading (tracked_after R p) (events_of_octet R.most (open_after R.most p) m)).lines
       (effects R.reading (tracked_after R p)
-      (events_of_octet R.most (open_after R.most p) m)).tracked
+      (events_of_octet R.most (before_by R (events R p)) m)).lines
+      (effects R.reading (tracked_after R p)
+      (events_of_octet R.most (before_by R (events R p)) m)).tracked
 
 -- the message that begins with this header, after these messages
 abbrev pub beginner : List CutMessage → ℕ → List ℕ → CutMessage
@@ -126,7 +127,7 @@ front_short front number at e = rw e refl
 
 -- ---- The lines of an effect, in their order.
 
-now_here : (R : MessageReader) (n : ℕ) (K : OctetsByNumber) (es : List Event) →
+now_here : (R : MessageReader) (n : ℕ) (K : KeptByNumber) (es : List Event) →
     Ordered (all_lines R K es) → Each (λ e. e.place ≡ n) es
     → Each (λ l. l.place ≡ n) (sorted_lines R K es)
 unfolding sorted_lines
@@ -135,10 +136,18 @@ now_here R n K es h here =
     (standing_each (λ l. l.place ≡ n) (λ i. false) (all_lines R K es)
     (all_lines_places R (λ k. k ≡ n) K es here))
 
-now_rises : (R : MessageReader) (K : OctetsByNumber) (es : List Event) → Fine (all_lines R K es) →
+now_rises : (R : MessageReader) (K : KeptByNumber) (es : List Event) → Fine (all_lines R K es) →
     Rises (sorted_lines R K es)
 unfolding sorted_lines
 now_rises R K es h = search (arith, ordered_stays, all_lines)
+
+-- ---- What is kept.
+
+-- what is kept of a message is what its events keep
+pub kept_is : (R : Rules) (p : List ℕ) (i : ℕ) (kept : Kept) → known_of R p i ≡ Some kept →
+    kept ≡ kept_of i (events R p)
+unfolding known_of
+kept_is R p i kept e = search (arith)
 
 -- ---- The cases.
 
@@ -154,50 +163,69 @@ module _ (R : Rules) (causal : IsCausal R.reading) (laws : IsStreamable R.readin
       → (c.stop ≡ None → (c.current ≡ None) × Fits (suc (length p)) c) →
       Adds R p (p ++ x ∷ []) c ls (tracked_after R p)
   unfolding tracked_after events
-  idle c ls ec ms same none here rises fits = search (
-    arith,
-    message_lines_same,
-    len,
-    lines_stopped,
-    start_append,
-    open_idle,
-    octets_idle,
-    quiet_sound,
-  )
+  idle c ls ec ms same none here rises fits =
+      let p' = p ++ x ∷ [] in
+      let ev : events R p' ≡ events R p = ap (events_from R []) (ap messages ec ∙ ms) in
+      let sd = message_lines_same R p p' len ev sound.places in
+      let more : lines R p' ≡ lines R p ++ ls =
+      lines_stopped R p' c.stop (ap (λ (k : Cut). k.stop) ec)
+      ∙ (ap (λ (ks : List StreamLine). ks ++ stop_line c.stop) sd ∙ same) in
+      record {
+        cut_is = ec;
+        lines = more;
+        here = here;
+        rises = rises;
+        tracked_after = λ j. record {
+          still_open = open_idle R p p' ev j;
+          mixed = (before_by R (ev j)).mixed;
+          known = λ i. known_idle R p p' ev sd i j;
+        };
+        sound = quiet_sound R p p' len (ap messages ec ∙ ms) ev sd
+            (ap start_count more ∙ (start_append (lines R p) ls
+            ∙ omega (arith, none)))
+            (λ st. rw ec (fits (ap (λ (k : Cut). k.stop) (sym ec) ∙ st)).1)
+            (λ st. no_current st (λ m. length m.payload < named_at m.header →
+            Below m.number (open_after R p')))
+            (λ st. no_current st (λ m. length m.payload ≤ named_at m.header →
+            joined m.number (events R p') ≡ m.payload)) sound;
+      }
+    where
+      no_current : (cut (p ++ x ∷ [])).stop ≡ None → (P : CutMessage → Type 0) →
+          IfSome (cut (p ++ x ∷ [])).current P
+      no_current st P = rw (ec, (fits (ap (λ (k : Cut). k.stop) (sym ec) ∙ st)).0) tt
 
   -- the octet is one of the message m
   deals : (m : CutMessage) (whole : List CutMessage) → cut (p ++ x ∷ []) ≡ end_message whole m
-      → events R.most (p ++ x ∷ []) ≡ events R.most p
-      ++ events_of_octet R.most (open_after R.most p) m → place m ≡ suc (length p) →
+      → events R (p ++ x ∷ []) ≡ events R p
+      ++ events_of_octet R.most (before_by R (events R p)) m → place m ≡ suc (length p) →
       m.number ≡ suc (length whole)
       → length m.header ≡ 12 → (cut p).stop ≡ None → length (messages (cut p)) ≤ suc (length whole)
-      → (length m.payload ≤ named_at m.header → Below m.number (open_after R.most p))
+      → (length m.payload ≤ named_at m.header → Below m.number (open_after R p))
       → length (messages (cut p)) + start_count
-      (sorted_lines R.reading (octets_of R p) (events_of_octet R.most (open_after R.most p) m))
+      (sorted_lines R.reading (known_of R p) (events_of_octet R.most (before_by R (events R p)) m))
       ≡ suc
       (length whole) → length m.payload ≤ size m.header →
-      (has_name m.header ≡ true → IsBegun (octets_of R p) m)
-      → (length m.payload ≤ named_at m.header → joined m.number (events R.most p)
-      ++ joined m.number (events_of_octet R.most (open_after R.most p) m) ≡ m.payload)
+      (has_name m.header ≡ true → IsBegun (known_of R p) m)
+      → (length m.payload ≤ named_at m.header → joined m.number (events R p)
+      ++ joined m.number (events_of_octet R.most (before_by R (events R p)) m) ≡ m.payload)
       → Adds R p (p ++ x ∷ []) (end_message whole m)
       (effects R.reading (tracked_after R p)
-      (events_of_octet R.most (open_after R.most p) m)).lines
+      (events_of_octet R.most (before_by R (events R p)) m)).lines
       (effects R.reading (tracked_after R p)
-      (events_of_octet R.most (open_after R.most p) m)).tracked
+      (events_of_octet R.most (before_by R (events R p)) m)).tracked
   unfolding tracked_after
   deals m whole ec ev pl nm twelve st more low starts fits begun grows =
       let p' = p ++ x ∷ [] in
-      let still_open = open_after R.most p in
-      let K = octets_of R p in
-      let es = events_of_octet R.most still_open m in
+      let b = before_by R (events R p) in
+      let K = known_of R p in
+      let es = events_of_octet R.most b m in
       let here : Each (λ e. e.place ≡ suc (length p)) es =
-      events_of_octet_each R.most (λ e. e.place ≡ suc (length p)) still_open m (λ what. pl)
+      events_of_octet_each R.most (λ e. e.place ≡ suc (length p)) b m (λ what. pl)
       (all_by (λ (o : Open). (what : EventKind) → place m ≡ suc (length p)) (λ o what. pl)
-      still_open) in
-      let sd = message_lines_grow R causal p p' es len ev sound.places here in
-      let fine = events_of_octet_fine R laws K still_open m fits begun in
-      let p1 = are_effects R.reading (record { still_open = still_open; known = K }) es fine.ordered
-      in
+      b.still_open) in
+      let sd = message_lines_grow R causal laws.phased p p' es len ev sound.places here in
+      let fine = events_of_octet_fine R laws K b m fits begun in
+      let p1 = are_effects R.reading (tracked_after R p) es fine.ordered in
       let st' : (cut p').stop ≡ None = ap (λ (c : Cut). c.stop) ec ∙ settle_stop whole m in
       record {
         cut_is = ec;
@@ -206,42 +234,61 @@ module _ (R : Rules) (causal : IsCausal R.reading) (laws : IsStreamable R.readin
             (now_here R.reading (suc (length p)) K es fine.ordered here);
         rises = subst Rises p1.lines (now_rises R.reading K es fine);
         tracked_after = λ j. record {
-          still_open = (open_grows R.most p p' es ev ∙ p1.still_open) j;
-          known = λ i. (octets_grow R p p' es (sorted_lines R.reading K es) ev sd i ∙ p1.known i)
+          still_open = (open_grows R p p' es ev ∙ p1.still_open) j;
+          mixed = (ap (λ (all : List Event). (before_by R all).mixed) ev
+              ∙ (mixed_grows R (events R p) es ∙ p1.mixed)) j;
+          known = λ i. (known_grow R p p' es (sorted_lines R.reading K es) ev sd i ∙ p1.known i)
               j;
         };
-        sound = dealt_sound R causal p p' whole m len ec ev pl nm twelve st more low starts grows
-            sound;
+        sound = dealt_sound R causal laws p p' whole m len ec ev pl nm twelve st more low
+            starts grows sound;
       }
 
   begun_by : (was : CutMessage) → (length was.payload ≤ 4 →
-      joined was.number (events R.most p) ≡ was.payload) →
-      IsBegun (octets_of R p) (with_octet was x)
-  begun_by was begun some short xs known = search (arith, octets_are, length_push)
+      joined was.number (events R p) ≡ was.payload) →
+      IsBegun (known_of R p) (with_octet was x)
+  begun_by was begun some short kept known =
+      let is = kept_is R p was.number kept known in
+      let long = length_push was.payload x in (
+        omega (
+          arith,
+          ap (λ (k : Kept). length k.octets) is,
+          ap length (begun (omega (arith, short, long))),
+          long,
+        ),
+        ap (λ (k : Kept). k.phase 12) is ∙ phase_twelve was.number (events R p),
+      )
 
   pub paid_events : (whole : List CutMessage) (was : CutMessage) (held : List ℕ) →
       cut p ≡ of_parts whole (Some was) held None
-      → nat_lt limit (suc (length p)) ≡ false → events R.most (p ++ x ∷ []) ≡ events R.most p
-      ++ events_of_octet R.most (open_after R.most p) (with_octet was x)
+      → nat_lt limit (suc (length p)) ≡ false → events R (p ++ x ∷ []) ≡ events R p
+      ++ events_of_octet R.most (before_by R (events R p)) (with_octet was x)
   unfolding of_parts messages open_after
-  paid_events whole was held ec room = search (
-    arith,
-    of_parts,
-    end_message,
-    cut_grows,
-    next_payload,
-    events_of_cut,
-    settled_messages,
-    events_on,
-  )
+  paid_events whole was held ec room =
+      let p' = p ++ x ∷ [] in
+      let st : (cut p).stop ≡ None = rw ec refl in
+      let fit : Fits (length p) (of_parts whole (Some was) held None) = rw ec at (sound.fits st) in
+      let ec' : cut p' ≡ end_message whole (with_octet was x) =
+      cut_grows p x ∙ rw ec (next_payload whole was held (length p) x room) in
+      let ev : events R p ≡ events_from R [] (whole ++ was ∷ []) =
+      events_of_cut R p (of_parts whole (Some was) held None) ec in
+      let early : length was.payload < named_at was.header →
+      Below was.number (opened [] (events R p)) =
+      rw ec at (sound.early st) in
+      events_of_cut R p' (end_message whole (with_octet was x)) ec'
+      ∙ (ap (events_from R []) (settled_messages whole (with_octet was x))
+      ∙ (events_on R whole was x fit.current.lacks
+      (λ few. subst (λ (es : List Event). Below was.number (opened [] es)) ev (early few))
+      ∙ ap (λ (es : List Event). es ++ events_of_octet R.most (before_by R es) (with_octet was x))
+      (sym ev)))
 
   paid_adds : (whole : List CutMessage) (was : CutMessage) (held : List ℕ) →
       cut p ≡ of_parts whole (Some was) held None → nat_lt limit (suc (length p)) ≡ false
       → Adds R p (p ++ x ∷ []) (end_message whole (with_octet was x))
       (effects R.reading (tracked_after R p)
-      (events_of_octet R.most (open_after R.most p) (with_octet was x))).lines
+      (events_of_octet R.most (before_by R (events R p)) (with_octet was x))).lines
       (effects R.reading (tracked_after R p)
-      (events_of_octet R.most (open_after R.most p) (with_octet was x))).tracked
+      (events_of_octet R.most (before_by R (events R p)) (with_octet was x))).tracked
   unfolding of_parts messages open_after
   paid_adds whole was held ec room =
       let c = of_parts whole (Some was) held None in
@@ -252,7 +299,7 @@ module _ (R : Rules) (causal : IsCausal R.reading) (laws : IsStreamable R.readin
       let lacks = fits.lacks in
       let long = length_push was.payload x in
       let early : length was.payload < named_at was.header →
-      Below was.number (open_after R.most p) =
+      Below was.number (open_after R p) =
       rw ec at (sound.early st) in
       let one : length (whole ++ was ∷ []) ≡ suc (length whole) =
       omega (arith, length_push whole was) in
@@ -261,9 +308,9 @@ module _ (R : Rules) (causal : IsCausal R.reading) (laws : IsStreamable R.readin
       cut_grows p x ∙ rw ec (next_payload whole was held (length p) x room) in
       let ev = paid_events whole was held ec room in
       let begun : length was.payload ≤ named_at was.header →
-      joined was.number (events R.most p) ≡ was.payload =
+      joined was.number (events R p) ≡ was.payload =
       rw ec at (sound.begun st) in
-      let starts = none_later R (octets_of R p) (open_after R.most p) m (omega (arith, long)) in
+      let starts = none_later R (known_of R p) (before_by R (events R p)) m (omega (arith, long)) in
       deals m whole ec' ev (place_more was x (length p) fits.place_is) fits.number_is fits.twelve st
       (le_of_eq count)
       (λ named. early (omega (arith, named, long))) (omega (arith, count, starts))
@@ -271,7 +318,7 @@ module _ (R : Rules) (causal : IsCausal R.reading) (laws : IsStreamable R.readin
       (λ name. begun_by was (λ few. begun (omega (arith, few, named_by_four was.header name))))
       (λ short. rw (
         begun (omega (arith, short, long)),
-        own_joined R.most (open_after R.most p) was was.payload x (not_past m short),
+        own_joined R.most (before_by R (events R p)) was was.payload x (not_past m short),
       ) refl)
 
   paid : (whole : List CutMessage) (was : CutMessage) (held : List ℕ) →
@@ -318,32 +365,37 @@ module _ (R : Rules) (causal : IsCausal R.reading) (laws : IsStreamable R.readin
   begins_events : (whole : List CutMessage) (held : List ℕ) → cut p ≡ of_parts whole None held None
       → nat_lt limit (suc (length p)) ≡ false → wrong (held ++ x ∷ []) ≡ None →
       length (held ++ x ∷ []) ≡ 12
-      → events R.most (p ++ x ∷ []) ≡ events R.most p
-      ++ events_of_octet R.most (open_after R.most p)
+      → events R (p ++ x ∷ []) ≡ events R p
+      ++ events_of_octet R.most (before_by R (events R p))
       (beginner whole (suc (length p)) (held ++ x ∷ []))
-  unfolding of_parts messages open_after header_case
-  begins_events whole held ec room right twelve = search (
-    arith,
-    header_case,
-    cut_grows,
-    next_front,
-    end_message,
-    eq-eqb,
-    events_of_cut,
-    of_parts,
-    append-nil,
-    settled_messages,
-    events_begin,
-  )
+  unfolding of_parts messages header_case
+  begins_events whole held ec room right twelve =
+      let p' = p ++ x ∷ [] in
+      let front = held ++ x ∷ [] in
+      let m = beginner whole (suc (length p)) front in
+      let none : messages (of_parts whole None held None) ≡ whole = append-nil whole in
+      let ev : events R p ≡ events_from R [] whole =
+      events_of_cut R p (of_parts whole None held None) ec ∙ ap (events_from R []) none in
+      let number : 1 + length whole ≡ suc (length whole) = omega arith in
+      let grown : cut p' ≡ header_case 1 (suc (length p)) whole (held ++ x ∷ [])
+      (wrong (held ++ x ∷ [])) (length (held ++ x ∷ []) == 12) =
+      cut_grows p x ∙ rw ec (next_front whole held (length p) x room) in
+      let ec' : cut p' ≡ end_message whole m =
+      grown ∙ rw (right, eq-eqb (length front) 12 twelve, number) refl in
+      events_of_cut R p' (end_message whole m) ec'
+      ∙ (ap (events_from R []) (settled_messages whole m)
+      ∙ (events_begin R whole m refl
+      ∙ ap (λ (es : List Event). es ++ events_of_octet R.most (before_by R es) m) (sym ev)))
 
   begins_adds : (whole : List CutMessage) (held : List ℕ) → cut p ≡ of_parts whole None held None
       → nat_lt limit (suc (length p)) ≡ false → wrong (held ++ x ∷ []) ≡ None →
       length (held ++ x ∷ []) ≡ 12
       → (let m = beginner whole (suc (length p)) (held ++ x ∷ []) in
       Adds R p (p ++ x ∷ []) (end_message whole m)
-      (effects R.reading (tracked_after R p) (events_of_octet R.most (open_after R.most p) m)).lines
       (effects R.reading (tracked_after R p)
-      (events_of_octet R.most (open_after R.most p) m)).tracked)
+      (events_of_octet R.most (before_by R (events R p)) m)).lines
+      (effects R.reading (tracked_after R p)
+      (events_of_octet R.most (before_by R (events R p)) m)).tracked)
   unfolding of_parts messages open_after header_case
   begins_adds whole held ec room right twelve =
       let c = of_parts whole None held None in
@@ -355,7 +407,7 @@ module _ (R : Rules) (causal : IsCausal R.reading) (laws : IsStreamable R.readin
       let long = length_push held x in
       let none : messages c ≡ whole = append-nil whole in
       let count : length (messages (cut p)) ≡ length whole = rw (ec, none) refl in
-      let known : octets_of R p m.number ≡ Some [] =
+      let known : known_of R p m.number ≡ Some nothing_kept =
       sound.unknown m.number (omega (arith, count)) in
       let number : 1 + length whole ≡ suc (length whole) = omega arith in
       let grown : cut (p ++ x ∷ []) ≡ header_case 1 (suc (length p)) whole front (wrong front)
@@ -364,18 +416,19 @@ module _ (R : Rules) (causal : IsCausal R.reading) (laws : IsStreamable R.readin
       let ec' : cut (p ++ x ∷ []) ≡ end_message whole m =
       grown ∙ rw (right, eq-eqb (length front) 12 twelve, number) refl in
       let ev = begins_events whole held ec room right twelve in
-      let starts = one_first R (octets_of R p) (open_after R.most p) m [] refl known in
-      let low : Below m.number (open_after R.most p) =
+      let starts = one_first R (known_of R p) (before_by R (events R p)) m nothing_kept refl known
+      in
+      let low : Below m.number (open_after R p) =
       each_weaker (λ o. o.opener.number ≤ length (messages (cut p)))
       (λ o. o.opener.number < m.number)
-      (λ o k. omega (arith, k, count)) (open_after R.most p) sound.numbers in
+      (λ o k. omega (arith, k, count)) (open_after R p) sound.numbers in
       deals m whole ec' ev (place_first (length p) m refl refl
       (omega (arith, within, long, twelve))) refl twelve st
       (omega (arith, count)) (λ four. low) (omega (arith, count, starts)) (omega arith)
       (λ name some. absurd (omega (arith, some)))
       (λ short. rw (
-        none_known R p m.number known,
-        header_joined R.most m.number (open_after R.most p) m refl,
+        sym (ap (λ (k : Kept). k.octets) (kept_is R p m.number nothing_kept known)),
+        header_joined R.most m.number (before_by R (events R p)) m refl,
       ) refl)
 
   begins : (whole : List CutMessage) (held : List ℕ) → cut p ≡ of_parts whole None held None
@@ -485,9 +538,9 @@ module _ (R : Rules) (causal : IsCausal R.reading) (laws : IsStreamable R.readin
       nat_lt limit (suc (length p)) ≡ false
       → Adds R p (p ++ x ∷ []) (end_message (cut p).whole (with_octet was x))
       (effects R.reading (tracked_after R p)
-      (events_of_octet R.most (open_after R.most p) (with_octet was x))).lines
+      (events_of_octet R.most (before_by R (events R p)) (with_octet was x))).lines
       (effects R.reading (tracked_after R p)
-      (events_of_octet R.most (open_after R.most p) (with_octet was x))).tracked
+      (events_of_octet R.most (before_by R (events R p)) (with_octet was x))).tracked
   paid_is was st cur = paid_adds (cut p).whole was (cut p).held
       (parts_by (cut p) (Some was) None cur st)
 
@@ -497,7 +550,7 @@ module _ (R : Rules) (causal : IsCausal R.reading) (laws : IsStreamable R.readin
       → (let m = beginner (cut p).whole (suc (length p)) ((cut p).held ++ x ∷ []) in
       Adds R p (p ++ x ∷ [])
       (end_message (cut p).whole m) (effects R.reading (tracked_after R p)
-      (events_of_octet R.most (open_after R.most p) m)).lines
+      (events_of_octet R.most (before_by R (events R p)) m)).lines
       (effects R.reading (tracked_after R p)
-      (events_of_octet R.most (open_after R.most p) m)).tracked)
+      (events_of_octet R.most (before_by R (events R p)) m)).tracked)
   begins_is st cur = search (arith, begins_adds, parts_by)

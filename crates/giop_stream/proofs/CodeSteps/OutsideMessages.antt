@@ -1,7 +1,7 @@
 -- An octet outside of messages: in an incomplete header, past the limit, or after a stream fault.
 -- The code does its step.
 use Rattle.std.proofs.Common.{◌≡◌, ℕ, suc, ◌+◌, ◌^◌, ◌<◌, ◌≤◌, true, false, List, [], ◌∷◌, ◌++◌, length, refl, append-nil, Option, Some, None, arith}
-use Rattle.std.specs.Prelude.{nat_lt, is_some}
+use Rattle.std.specs.Prelude.{nat_lt, not, is_some}
 use Rattle.std.proofs.lemmas.Bool.{cases_eq, lt-ltb, le-ltb, ne_eqb, false≢true}
 use Rattle.std.proofs.lemmas.List.{length_push}
 use Rattle.giop_sig.specs.Table.{Table}
@@ -9,7 +9,7 @@ use Rattle.giop_message.specs.Signatures.{Answers}
 use Rattle.giop_checkpoint.specs.declared.fault.StreamFault.{StreamFault}
 use Rattle.giop_checkpoint.specs.declared.fault.StreamFault.TheVariants.{StreamLimit}
 use Rattle.giop_stream.specs.HeaderOctets.{wrong}
-use Rattle.giop_stream.specs.Rules.{Rules, rules_by}
+use Rattle.giop_stream.specs.Rules.{Rules, joins_by, rules_by}
 use Rattle.giop_stream.specs.Framing.{limit}
 use Rattle.giop_stream.specs.Lines.{stop_line}
 use Rattle.giop_stream.specs.Text.{stop_text, lines_text}
@@ -53,11 +53,12 @@ pushed_is m x header e = search (arith)
 
 -- ---- Before the first octet.
 
-pub nothing_shown : (C : Table) (l : Answers) (m : FramingView) →
+pub nothing_shown : (C : Table) (l : Answers) (n : ℕ) (m : FramingView) →
     m.totals ≡ record { messages = 0; faults = 0; octets = 0 }
-    → m.stopped ≡ None → m.header ≡ [] → m.payload_count ≡ 0 → IsBare m.slots → Shows C l m fresh
+    → m.stopped ≡ None → m.header ≡ [] → m.payload_count ≡ 0 → IsBare m.slots →
+    m.slots.is_mixed ≡ not (joins_by C) → Shows C l m (fresh (rules_by C l n))
 unfolding fresh payload_count_in slots_of
-nothing_shown C l m totals stopped header payload_count bare = search (arith)
+nothing_shown C l n m totals stopped header payload_count bare mixed = search (arith)
 
 module _ (C : Table) (l : Answers) (most : ℕ) (m : FramingView) (s : State) (h : Shows C l m s)
   where

@@ -7,22 +7,22 @@ use Rattle.std.proofs.lemmas.List.{take-take}
 use Rattle.giop_print.specs.Output.{OutLog, Wrote, WroteFront, Writes}
 use Rattle.giop_print.proofs.Writing.{writes_failed}
 use Rattle.giop_sig.specs.Table.{Table}
-use Rattle.giop_message.specs.Phases.{unbroken}
 use Rattle.giop_message.specs.declared.message.Message.{Message}
-use Rattle.giop_message.specs.Signatures.{Answers, signatures_of}
+use Rattle.giop_message.specs.Signatures.{Answers}
 use Rattle.giop_message.specs.DueOctets.{TakesFront, StaysUndue}
 use Rattle.giop_message.specs.HeaderEnds.{HeaderEnd, CallEvent, header_ends, after_ends}
 use Rattle.giop_message.specs.Messages.{message, stage_of}
 use Rattle.giop_message.specs.ReaderOfTable.{is_over}
-use Rattle.giop_message.specs.MessageState.{due_text, Follows, FaultedAt}
+use Rattle.giop_message.specs.MessageState.{due_text, FaultedAt}
 use Rattle.giop_message.proofs.MessageLaws.{ends_over}
 use Rattle.giop_stream.specs.Events.{MessageKey}
+use Rattle.giop_stream.specs.Lines.{Kept}
 use Rattle.giop_stream.specs.SlotsRepresent.{RepresentsMessage}
 use Rattle.giop_stream.specs.DoesEffect.{DoesPart, one_if}
 use Rattle.giop_stream.specs.PayloadRuns.{run_part}
 use Rattle.giop_stream.specs.HeaderEndsOfStream.{run_header_ends}
 use Rattle.giop_stream.proofs.SlotSteps.Performing.{does_nothing, failed}
-use Rattle.giop_stream.proofs.CodeSteps.Runs.{DueOf, none_run, given_text, given_on, given_over}
+use Rattle.giop_stream.proofs.CodeSteps.Runs.{DueOf, Keeps, signed, with_more, none_run, given_text, given_on, given_over}
 
 -- if a call failed, nothing is said of its result
 pub if_err : {A E : Type 0} (P : A → Type 0) (r : Result A E) → IsErr r → IfOk r P
@@ -30,18 +30,18 @@ if_err P (Ok x) e = absurd (false≢true e)
 if_err P (Err e) failed = tt
 
 module _ (C : Table) (l : Answers) (w : MessageKey) (before : ℕ) (octets : List ℕ) where
-  abbrev Due : List ℕ → List ℕ → List ℕ
-  Due s xs = due_text (signatures_of C (l w.number) unbroken) w.number before w.header s xs
+  abbrev Due : Kept → List ℕ → List ℕ
+  Due s xs = due_text (signed C l w s) w.number before w.header s.octets xs
 
-  abbrev Ends : List ℕ → List ℕ → List HeaderEnd
-  Ends s = header_ends unbroken w.number w.header s
+  abbrev Ends : Kept → List ℕ → List HeaderEnd
+  Ends s = header_ends s.phase w.number w.header s.octets
 
-  -- P holds of each list of octets that this message follows
-  abbrev Given : Message → Option (List ℕ) → (List ℕ → Type 0) → Type 0
-  Given m o P = (s : List ℕ) → o ≡ Some s → Follows C l unbroken w.number w.header m s → P s
+  -- P holds of whatever is kept of the message, if this message follows it
+  abbrev Given : Message → Option Kept → (Kept → Type 0) → Type 0
+  Given m o P = (s : Kept) → o ≡ Some s → Keeps C l m w s → P s
 
   -- the message is over
-  module _ {E : Type 0} (o : Option (List ℕ)) (k : RepresentsMessage C l None w o)
+  module _ {E : Type 0} (o : Option Kept) (k : RepresentsMessage C l None w o)
       (Before : (List ℕ → List HeaderEnd) → List ℕ → Type 0) where
     pub over_takes : (a : OutLog) → ((xs : List ℕ) → Before (λ ys. []) xs) →
         TakesFront {E = E} (λ (r : ℕ × Bool). r.0) (Before (run_header_ends w o))
@@ -50,7 +50,7 @@ module _ (C : Table) (l : Answers) (w : MessageKey) (before : ℕ) (octets : Lis
         (run_part C l before w o xs)) (Ok (length octets, false)) octets
     over_takes a f = go o k
       where
-        go : (o : Option (List ℕ)) → RepresentsMessage C l None w o →
+        go : (o : Option Kept) → RepresentsMessage C l None w o →
             TakesFront {E = E} (λ (r : ℕ × Bool). r.0) (Before (run_header_ends w o))
             (λ xs. DoesPart {E = E} C l (λ (r : ℕ × Bool). one_if r.1) (Ok (length octets, false))
             a a None w
@@ -67,14 +67,14 @@ module _ (C : Table) (l : Answers) (w : MessageKey) (before : ℕ) (octets : Lis
         }
 
   module _ (m : Message) (a b : OutLog) where
-    due_of : (P : List ℕ → Type 0) (s xs : List ℕ) → P (Due s xs) →
+    due_of : (P : List ℕ → Type 0) (s : Kept) (xs : List ℕ) → P (Due s xs) →
         DueOf C l P m w (Some s) before xs
     due_of P s xs p z e f = let same : s ≡ z = cc in subst (λ q. P (Due q xs)) same p
 
     -- a put failed at one of the octets
     pub failed_takes : {A E A' E' : Type 0} (count faults : A → ℕ) (r : Result A E) → IsErr r →
         (message : Option Message) (Before : (List ℕ → List HeaderEnd) → List ℕ → Type 0)
-        (count' : A' → ℕ) (r' : Result A' E') (o : Option (List ℕ)) →
+        (count' : A' → ℕ) (r' : Result A' E') (o : Option Kept) →
         RepresentsMessage C l (Some m) w o →
         Given m o (λ s. TakesFront count' (Before (Ends s)) (λ xs. WroteFront a b (Due s xs)) r'
         octets) →
@@ -96,11 +96,11 @@ module _ (C : Table) (l : Answers) (w : MessageKey) (before : ℕ) (octets : Lis
 
     -- none of the octets faults the message
     pub on_takes : {E : Type 0} (m' : Message) (n : ℕ)
-        (Before : (List ℕ → List HeaderEnd) → List ℕ → Type 0) (o : Option (List ℕ)) →
+        (Before : (List ℕ → List HeaderEnd) → List ℕ → Type 0) (o : Option Kept) →
         RepresentsMessage C l (Some m) w o →
         Given m o (λ s. TakesFront {E = E} (λ (went : ℕ × Bool). went.0) (Before (Ends s))
         (λ xs. Wrote a b (Due s xs)) (Ok (n, false)) octets) →
-        Given m o (λ s. Follows C l unbroken w.number w.header m' (s ++ take n octets)) →
+        Given m o (λ s. Keeps C l m' w (with_more C l s (take n octets))) →
         TakesFront {E = E} (λ (r : ℕ × Bool). r.0) (Before (run_header_ends w o))
         (λ xs. DoesPart {E = E} C l (λ (r : ℕ × Bool). one_if r.1) (Ok (n, false)) a b (Some m') w
         (run_part C l before w o xs)) (Ok (n, false)) octets
@@ -120,15 +120,14 @@ module _ (C : Table) (l : Answers) (w : MessageKey) (before : ℕ) (octets : Lis
 
     -- One of the octets faults the message: then the message takes all of them.
     module _ {St : Type 0} (due : St → Bool) (notified : St → CallEvent → St) (st now : St) where
-      module _ (s : List ℕ) (i : ℕ)
-          (found : FaultedAt (signatures_of C (l w.number) unbroken) w.header s octets i) where
+      module _ (s : Kept) (i : ℕ)
+          (found : FaultedAt (signed C l w s) w.header s.octets octets i) where
         over_ends : (k : ℕ) → i ≤ k → Ends s (take k octets) ≡ Ends s (take i octets)
         over_ends k later =
             let same = take-take i k octets later in
             let over = subst (λ z. is_over (stage_of
-            (message (signatures_of C (l w.number) unbroken)
-            w.header (s ++ z))) ≡ true) (sym same) found.here in
-            ends_over unbroken w.number w.header s (take k octets) i C (l w.number) over ∙ ap
+            (message (signed C l w s) w.header (s.octets ++ z))) ≡ true) (sym same) found.here in
+            ends_over s.phase w.number w.header s.octets (take k octets) i C (l w.number) over ∙ ap
             (Ends s) same
 
         over_fronts : ((k : ℕ) → k < i → StaysUndue due notified C st (Ends s) (take k octets)) →
@@ -141,8 +140,8 @@ module _ (C : Table) (l : Answers) (w : MessageKey) (before : ℕ) (octets : Lis
             go (inl sooner) calm = fronts k sooner calm
             go (inr later) calm = rw (over_ends k later, ← told) (still calm)
 
-      pub fault_told : (n : ℕ) (o : Option (List ℕ)) → RepresentsMessage C l (Some m) w o →
-          Given m o (λ s. FaultedAt (signatures_of C (l w.number) unbroken) w.header s octets n) →
+      pub fault_told : (n : ℕ) (o : Option Kept) → RepresentsMessage C l (Some m) w o →
+          Given m o (λ s. FaultedAt (signed C l w s) w.header s.octets octets n) →
           Given m o (λ s. now ≡ after_ends notified C st (Ends s (take n octets))) →
           now ≡ after_ends notified C st (run_header_ends w o (take (length octets) octets))
       fault_told n None k found told = absurd k
@@ -150,12 +149,12 @@ module _ (C : Table) (l : Answers) (w : MessageKey) (before : ℕ) (octets : Lis
           rw (over_ends s n (found s refl k) (length octets) (found s refl k).within)
           (told s refl k)
 
-      pub fault_takes : {E : Type 0} (n : ℕ) (o : Option (List ℕ)) →
+      pub fault_takes : {E : Type 0} (n : ℕ) (o : Option Kept) →
           RepresentsMessage C l (Some m) w o →
           Given m o (λ s. TakesFront {E = E} (λ (went : ℕ × Bool). went.0) (StaysUndue due
           notified C st (Ends s))
           (λ xs. Wrote a b (Due s xs)) (Ok (n, true)) octets) →
-          Given m o (λ s. FaultedAt (signatures_of C (l w.number) unbroken) w.header s octets n) →
+          Given m o (λ s. FaultedAt (signed C l w s) w.header s.octets octets n) →
           Given m o (λ s. now ≡ after_ends notified C st (Ends s (take n octets))) →
           (due st ≡ false → due now ≡ false) →
           TakesFront {E = E} (λ (r : ℕ × Bool). r.0) (StaysUndue due notified C st

@@ -16,18 +16,18 @@ use Rattle.giop_message.proofs.MessageLaws.{is_causal}
 use Rattle.giop_stream.specs.declared.current.Current.{Current}
 use Rattle.giop_stream.specs.Rules.{Rules, rules_by}
 use Rattle.giop_stream.specs.Framing.{CutMessage, Cut, with_payload, limit, cut, messages}
-use Rattle.giop_stream.specs.Events.{Takes, MessageKey, Open, events_of_octet, events_at_octet, changed, open_after}
+use Rattle.giop_stream.specs.Events.{Takes, MessageKey, Before, events_of_octet, events_at_octet, events, changed, open_after, before_by}
 use Rattle.giop_stream.specs.Lines.{lines}
 use Rattle.giop_stream.specs.Text.{lines_text}
 use Rattle.giop_stream.specs.Stream.{fault_count}
-use Rattle.giop_stream.specs.Effects.{Effect, effects, tracked_at, with_octet, effect_to}
-use Rattle.giop_stream.specs.OpenSlots.{Tracked, tracked_after}
+use Rattle.giop_stream.specs.Effects.{Effect, effects, tracked_at, with_octet, event, effect_to}
+use Rattle.giop_stream.specs.OpenSlots.{Tracked, tracked_after, before_in}
 use Rattle.giop_stream.specs.SlotsRepresent.{SlotsRepresent}
 use Rattle.giop_stream.specs.PayloadRuns.{run_effect}
 use Rattle.giop_stream.specs.Further.{further}
-use Rattle.giop_stream.specs.PayloadOwner.{IsBeforeOctet, IsBeforeOctets, IsNewest, effect_before, octets_effect, owner_after}
+use Rattle.giop_stream.specs.PayloadOwner.{IsBeforeOctet, IsBeforeOctets, IsNewest, effect_before, octet_effect, octets_effect, owner_after, before_with}
 use Rattle.giop_stream.specs.EngineView.{FramingView}
-use Rattle.giop_stream.specs.EngineState.{State, state_of, owner_of_next, owner_of_next_in}
+use Rattle.giop_stream.specs.EngineState.{State, state_of, owner_of_next}
 use Rattle.giop_stream.specs.EngineStep.{runs}
 use Rattle.giop_stream.specs.FramingSteps.{end_message as settled}
 use Rattle.giop_stream.specs.ViewOfState.{IsReached, Shows, Does}
@@ -36,13 +36,16 @@ use Rattle.giop_stream.proofs.Cuts.CutFrom.{end_message}
 use Rattle.giop_stream.proofs.Events.AfterMoreEvents.{count_append}
 use Rattle.giop_stream.proofs.Events.Soundness.{CurrentFits, IsSound}
 use Rattle.giop_stream.proofs.Events.StepCases.{place_more, if_some}
-use Rattle.giop_stream.proofs.Events.MessageKinds.{named_either, named_within}
+use Rattle.giop_stream.proofs.Events.MessageKinds.{named_either, named_within, placed_named, later_new}
+use Rattle.giop_stream.proofs.SlotSteps.OneSlotChanges.{mixes_not, mixed_same}
+use Rattle.giop_stream.proofs.SlotSteps.Alike.{next_alike}
 use Rattle.giop_stream.proofs.SlotSteps.AfterOctet.{owner_elsewhere}
 use Rattle.giop_stream.proofs.SlotSteps.Parts.{in_turn, octet_does, owner_next}
 use Rattle.giop_stream.proofs.SlotSteps.RequestIds.{says_id}
 use Rattle.giop_stream.proofs.CodeSteps.OneOctet.{Adds, paid_is}
 use Rattle.giop_stream.proofs.CodeSteps.EngineAlive.{sound, alive}
-use Rattle.giop_stream.proofs.CodeSteps.MessageOctets.{does_run, runs_on, all_read, knows_at, faults_at, header_is, come_is, number_is, size_few, current_fits, right, effect_of, settled_shows}
+use Rattle.giop_stream.proofs.CodeSteps.WhatStands.{before_is}
+use Rattle.giop_stream.proofs.CodeSteps.MessageOctets.{does_run, runs_on, all_read, owned_at, faults_at, header_is, come_is, number_is, size_few, current_fits, right, effect_of, settled_shows}
 use Rattle.giop_stream.proofs.CodeSteps.MessageEnds.{goes_on}
 
 -- ---- One of the octets.
@@ -95,17 +98,17 @@ within_on p m x n h =
     }
 
 -- the octet's only event is that a message takes it
-comes_alone : (most : ℕ) (still_open : List Open) (m : CutMessage) → 0 < length m.payload →
+comes_alone : (most : ℕ) (b : Before) (m : CutMessage) → 0 < length m.payload →
     length m.payload ≢ named_at m.header → length m.payload < size m.header →
-    events_of_octet most still_open m ≡ events_at_octet still_open m
+    events_of_octet most b m ≡ events_at_octet b m
 unfolding events_of_octet
-comes_alone most still_open m some other less = search (arith, ne_eqb, append-nil)
+comes_alone most b m some other less = search (arith, ne_eqb, append-nil)
 
 -- the next octet belongs to the same message
-owner_on : (still_open : List Open) (m : CutMessage) (x : ℕ) →
+owner_on : (b : Before) (m : CutMessage) (x : ℕ) →
     length (m.payload ++ x ∷ []) ≢ named_at m.header →
-    owner_of_next still_open (with_octet m x) ≡ owner_of_next still_open m
-owner_on still_open m x other = search (arith, owner_elsewhere, ne_eqb, owner_next)
+    owner_of_next b (with_octet m x) ≡ owner_of_next b m
+owner_on b m x other = search (arith, owner_elsewhere, ne_eqb, owner_next)
 
 module _ (C : Table) (l : Answers) where
   takes_still_open : (at : ℕ) (c : Tracked) (w : Option MessageKey) (x : ℕ) →
@@ -114,56 +117,75 @@ module _ (C : Table) (l : Answers) where
   takes_still_open at c None x = refl
   takes_still_open at c (Some w) x = refl
 
+  pub takes_mixed : (at : ℕ) (c : Tracked) (w : Option MessageKey) (x : ℕ) →
+      (effect_to C l at c w (Takes x)).tracked.mixed ≡ c.mixed
+  takes_mixed at c None x = refl
+  takes_mixed at c (Some w) x =
+      mixed_same (message_reader C l) c (event at w (Takes x))
+      (mixes_not (event at w (Takes x)) refl)
+
   module _ (most : ℕ) (p : List ℕ) (m : CutMessage) (x n : ℕ) (h : Within p m (suc n)) where
+    abbrev by_these : Rules
+    by_these = rules_by C l most
+
+    is_sound : IsSound by_these p
+    is_sound =
+        sound by_these (is_causal (λ phase number. signatures_of C (l number) phase))
+        (in_turn C l) p
+
     at_hand : CurrentFits (length p) (cut p) m
     at_hand =
         if_some (CurrentFits (length p) (cut p)) (cut p).current m h.current
-        ((sound (rules_by C l most) (is_causal (λ phase number. signatures_of C (l number) phase))
-        (in_turn C l)
-        p).fits h.free).current
+        (is_sound.fits h.free).current
 
     -- the octet's effect on the message to which it belongs
     abbrev pub taken : Effect
-    taken = effect_to C l (suc (length p)) (tracked_after (rules_by C l most) p)
-        (owner_of_next (open_after most p) m) (Takes x)
+    taken = effect_to C l (suc (length p)) (tracked_after by_these p)
+        (owner_of_next (before_by by_these (events by_these p)) m) (Takes x)
 
-    octet_takes : effects (message_reader C l) (tracked_after (rules_by C l most) p)
-        (events_of_octet most (open_after most p) (with_octet m x)) ≡ taken
-    unfolding tracked_after
+    octet_takes : effects (message_reader C l) (tracked_after by_these p)
+        (events_of_octet most (before_by by_these (events by_these p)) (with_octet m x)) ≡ taken
     octet_takes =
         let last : get_or (m.payload ++ x ∷ []) (length (m.payload ++ x ∷ []) - 1) 0 ≡ x =
         get_or_push m.payload x 0 (length (m.payload ++ x ∷ []) - 1)
         (omega (arith, length_push m.payload x)) in
+        let b = before_by by_these (events by_these p) in
         let alone =
-        comes_alone most (open_after most p) (with_octet m x)
-        (omega (arith, length_push m.payload x)) (not_named p m x n h)
-        (omega (arith, h.before_last, length_push m.payload x)) in
-        rw (alone, ← owner_next (open_after most p) m x)
-        (octet_does C l (tracked_after (rules_by C l most) p) (with_octet m x) x (suc (length p))
-        last
+        comes_alone most b (with_octet m x) (omega (arith, length_push m.payload x))
+        (not_named p m x n h) (omega (arith, h.before_last, length_push m.payload x)) in
+        rw (alone, ← owner_next b m x)
+        (octet_does C l (tracked_after by_these p) b (with_octet m x) x (suc (length p)) last
         (place_more m x (length p) at_hand.place_is))
 
-    pub octet_adds : Adds (rules_by C l most) p (p ++ x ∷ [])
+    pub octet_adds : Adds by_these p (p ++ x ∷ [])
         (end_message (cut p).whole (with_octet m x)) taken.lines taken.tracked
     octet_adds =
-        let so = sound (rules_by C l most) (is_causal
-        (λ phase number. signatures_of C (l number) phase))
-        (in_turn C l) p in
         let room = le-ltb limit (suc (length p)) (omega (arith, h.room)) in
-        rw octet_takes at (paid_is (rules_by C l most)
-        (is_causal (λ phase number. signatures_of C (l number) phase)) (in_turn C l) p x so m h.free
-        h.current room)
+        rw octet_takes at (paid_is by_these
+        (is_causal (λ phase number. signatures_of C (l number) phase)) (in_turn C l) p x is_sound m
+        h.free h.current room)
 
-    pub octet_owner : owner_of_next (open_after most (p ++ x ∷ [])) (with_octet m x)
-        ≡ owner_of_next (open_after most p) m
-    unfolding tracked_after
+    pub octet_owner : owner_of_next (before_by by_these (events by_these (p ++ x ∷ [])))
+        (with_octet m x)
+        ≡ owner_of_next (before_by by_these (events by_these p)) m
+    unfolding before_in
     octet_owner =
-        let still_open : open_after most (p ++ x ∷ []) ≡ open_after most p =
-        ap (λ (c : Tracked). c.still_open) octet_adds.tracked_after
-        ∙ takes_still_open (suc (length p)) (tracked_after (rules_by C l most) p)
-        (owner_of_next (open_after most p) m) x in
-        ap (λ (open' : List Open). owner_of_next open' (with_octet m x)) still_open
-        ∙ owner_on (open_after most p) m x (not_named p m x n h)
+        let p' = p ++ x ∷ [] in
+        let w = owner_of_next (before_by by_these (events by_these p)) m in
+        let c = tracked_after by_these p in
+        let after : before_by by_these (events by_these p')
+        ≡ before_in by_these.asks taken.tracked =
+        sym (before_is by_these p' octet_adds.sound)
+        ∙ ap (before_in by_these.asks) octet_adds.tracked_after in
+        ap (λ (b : Before). owner_of_next b (with_octet m x)) after
+        ∙ (next_alike (before_in by_these.asks c) (before_in by_these.asks taken.tracked)
+        (with_octet m x)
+        (record {
+          still_open = takes_still_open (suc (length p)) c w x;
+          mixed = takes_mixed (suc (length p)) c w x;
+        })
+        ∙ (ap (λ (b : Before). owner_of_next b (with_octet m x)) (before_is by_these p is_sound)
+        ∙ owner_on (before_by by_these (events by_these p)) m x (not_named p m x n h)))
 
 -- fewer than n octets are payload of m too
 pub within_less : (p : List ℕ) (m : CutMessage) (k n : ℕ) → k ≤ n → Within p m n → Within p m k
@@ -198,6 +220,10 @@ none_begin (x ∷ xs) p m h =
 
 -- ---- All of the octets.
 
+-- what stands before the next octet of the stream p
+abbrev pub before_of : Table → Answers → ℕ → List ℕ → Before
+before_of C l most p = before_by (rules_by C l most) (events (rules_by C l most) p)
+
 -- the stream p with these octets, if m is its current message
 pub record IsRun (C : Table) (l : Answers) (most : ℕ) (p : List ℕ) (m : CutMessage) (q : List ℕ) :
     Type
@@ -205,12 +231,12 @@ pub record IsRun (C : Table) (l : Answers) (most : ℕ) (p : List ℕ) (m : CutM
   pub within : Within (p ++ q) (with_payload m (m.payload ++ q)) 0
   pub lines : lines (rules_by C l most) (p ++ q) ≡ lines
       (rules_by C l most) p ++ (run_effect C l (length p) (tracked_after (rules_by C l most) p)
-      (owner_of_next (open_after most p) m) q).lines
+      (owner_of_next (before_of C l most p) m) q).lines
   pub tracked_after : tracked_after (rules_by C l most) (p ++ q)
       ≡ (run_effect C l (length p) (tracked_after (rules_by C l most) p)
-      (owner_of_next (open_after most p) m) q).tracked
-  pub owner_of_next : owner_of_next (open_after most (p ++ q)) (with_payload m (m.payload ++ q))
-      ≡ owner_of_next (open_after most p) m
+      (owner_of_next (before_of C l most p) m) q).tracked
+  pub owner_of_next : owner_of_next (before_of C l most (p ++ q)) (with_payload m (m.payload ++ q))
+      ≡ owner_of_next (before_of C l most p) m
 
 module _ (C : Table) (l : Answers) where
   pub run_is : (most : ℕ) (q p : List ℕ) (m : CutMessage) → Within p m (length q) →
@@ -237,7 +263,7 @@ module _ (C : Table) (l : Answers) where
         tracked_after = ap (tracked_after R) (sym all)
             ∙ (more.tracked_after ∙ (λ j. (run_effect C l (at j) (one.tracked_after j) (who j)
             q).tracked));
-        owner_of_next = (λ j. owner_of_next (open_after most (sym all j))
+        owner_of_next = (λ j. owner_of_next (before_of C l most (sym all j))
             (with_payload m (sym payload j))) ∙ (more.owner_of_next ∙ who);
       }
 
@@ -338,12 +364,19 @@ module _ (C : Table) (l : Answers) (most : ℕ) (s : State) (reached : IsReached
   abbrev last_does : Effect
   last_does = effect_of C l most p' (with_octet c' x)
 
+  so_p : IsSound R p
+  so_p = sound R causal (in_turn C l) p
+
   paid : Adds R p' (p' ++ x ∷ []) (end_message (cut p').whole (with_octet c' x)) last_does.lines
       last_does.tracked
-  unfolding limit tracked_after
+  unfolding limit
   paid =
-      paid_is R causal (in_turn C l) p' x so c' run.within.free run.within.current
-      (le-ltb limit (suc (length p')) (omega (arith, room, all, one_more, length-append p q)))
+      subst (λ (b : Before). Adds R p' (p' ++ x ∷ []) (end_message (cut p').whole (with_octet c' x))
+      (effects R.reading (tracked_after R p') (events_of_octet most b (with_octet c' x))).lines
+      (effects R.reading (tracked_after R p') (events_of_octet most b (with_octet c' x))).tracked)
+      (sym (before_is R p' so))
+      (paid_is R causal (in_turn C l) p' x so c' run.within.free run.within.current
+      (le-ltb limit (suc (length p')) (omega (arith, room, all, one_more, length-append p q))))
 
   all_octets : p' ++ x ∷ [] ≡ p ++ octets
   all_octets = search (arith, append_assoc)
@@ -351,10 +384,8 @@ module _ (C : Table) (l : Answers) (most : ℕ) (s : State) (reached : IsReached
   -- ---- What the code knows.
 
   pub run_keeps : SlotsRepresent C l m.slots (tracked_after R p)
-      (owner_of_next (open_after most p) c)
-  run_keeps = subst (λ (o : Option CutMessage).
-      SlotsRepresent C l m.slots (tracked_after R p) (owner_of_next_in (open_after most p) o))
-      current (knows_at C l most s reached m h free)
+      (owner_of_next (before_with C l (tracked_after R p)) c)
+  run_keeps = owned_at C l most s reached m h free c current
 
   module _ (now : Current) (number : now.number ≡ m.totals.messages) (head : now.header ≡ m.header)
       (place_is : now.place ≡ m.totals.octets + length octets)
@@ -362,9 +393,20 @@ module _ (C : Table) (l : Answers) (most : ℕ) (s : State) (reached : IsReached
     start : now.place - suc (length q) ≡ length p
     start = search (arith, all, one_more)
 
-    ran_then : (effect_before C l (tracked_after R p) c now q).tracked ≡ tracked_after R p'
-    unfolding tracked_after
-    ran_then = search (arith, start, run)
+    -- what the octets before the last one do
+    abbrev before : Effect
+    before = effect_before C l (tracked_after R p) c now q
+
+    ran_same : before ≡ run_effect C l (length p) (tracked_after R p)
+        (owner_of_next (before_of C l most p) c) q
+    ran_same = λ j. run_effect C l (start j) (tracked_after R p)
+        (owner_of_next (before_is R p so_p j) c) q
+
+    ran_then : before.tracked ≡ tracked_after R p'
+    ran_then = ap (λ (e : Effect). e.tracked) ran_same ∙ sym run.tracked_after
+
+    ran_lines : lines R p' ≡ lines R p ++ before.lines
+    ran_lines = run.lines ∙ ap (λ (e : Effect). lines R p ++ e.lines) (sym ran_same)
 
     before_x : IsBeforeOctet (tracked_after R p') c' now x
     unfolding tracked_after
@@ -384,10 +426,11 @@ module _ (C : Table) (l : Answers) (most : ℕ) (s : State) (reached : IsReached
       };
       payload_count = omega (arith, payload_count, here, one_more, length-append c.payload q);
       newest = if_some (λ m. length m.payload < named_at m.header →
-          IsNewest m.number (open_after most p'))
+          IsNewest m.number (open_after R p'))
           (cut p').current c' run.within.current (so.early run.within.free);
-      alive = λ name less. alive R causal (in_turn C l) p' run.within.free c' run.within.current
-          name (omega (arith, less, named_within c.header));
+      alive = λ place less. alive R causal (in_turn C l) p' run.within.free c' run.within.current
+          (placed_named c.header place (later_new c.header (omega (arith, less))))
+          (omega (arith, less, named_within c.header));
       says = λ name. says_id c.header (current_fits C l most s reached m h free c current).twelve
           (right C l most s reached m h free c current).1 name;
     }
@@ -396,8 +439,11 @@ module _ (C : Table) (l : Answers) (most : ℕ) (s : State) (reached : IsReached
     unfolding tracked_after
     run_before = record {
       keeps = run_keeps;
-      rising = (sound R causal (in_turn C l) p).rising;
-      same_owner = ap (λ (t : Tracked). owner_of_next t.still_open c') ran_then ∙ run.owner_of_next;
+      rising = so_p.rising;
+      same_owner = ap (λ (t : Tracked). owner_of_next (before_with C l t) c') ran_then
+          ∙ (ap (λ (b : Before). owner_of_next b c') (before_is R p' so)
+          ∙ (run.owner_of_next
+          ∙ ap (λ (b : Before). owner_of_next b c) (sym (before_is R p so_p))));
       last = subst (λ (t : Tracked). IsBeforeOctet t c' now x) (sym ran_then) before_x;
     }
 
@@ -407,11 +453,12 @@ module _ (C : Table) (l : Answers) (most : ℕ) (s : State) (reached : IsReached
     all_do = octets_effect C l most (tracked_after R p) c now q x
 
     abbrev x_does : Tracked → Effect
-    x_does t = effects R.reading t (events_of_octet most t.still_open (with_octet c' x))
+    x_does t = octet_effect C l most t (with_octet c' x)
 
     grows : lines R (p ++ octets) ≡ lines R p ++ all_do.lines
-    unfolding tracked_after
-    grows = search (arith, all_octets, paid, run, append_assoc, start, ran_then)
+    grows = ap (lines R) (sym all_octets)
+        ∙ (paid.lines ∙ ((λ j. ran_lines j ++ (x_does (sym ran_then j)).lines)
+        ∙ append_assoc (lines R p) before.lines (x_does before.tracked).lines))
 
     pub run_does : {A E : Type 0} (result : Result A E) (before after : OutLog) (f : FramingView)
         → Writes result before after (lines_text all_do.lines) →
@@ -426,19 +473,16 @@ module _ (C : Table) (l : Answers) (most : ℕ) (s : State) (reached : IsReached
         b.header ≡ m.header
         → b.payload_count ≡ m.payload_count + length octets → k ≡ size m.header
         → SlotsRepresent C l b.slots all_do.tracked
-        (owner_after all_do.tracked.still_open (with_octet c' x)) →
+        (owner_after (before_with C l all_do.tracked) (with_octet c' x)) →
         Shows C l f (state_of R (p ++ octets))
     unfolding tracked_after
     run_shows b f k is messages faults octets stopped head_is count sized keeps =
         let n = with_octet c' x in
-        let before = run_effect C l (now.place - suc (length q)) (tracked_after R p)
-        (owner_of_next (open_after most p) c) q in
         let grown : fault_count (lines R p') ≡ fault_count (lines R p) + fault_count before.lines =
-        ap fault_count (rw (← start) at run.lines) ∙ count_append (lines R p) before.lines in
+        ap fault_count ran_lines ∙ count_append (lines R p) before.lines in
         let sum : fault_count all_do.lines ≡ fault_count before.lines + fault_count
         (x_does (tracked_after R p')).lines =
-        count_append before.lines (x_does (effect_before C l (tracked_after R p) c now
-        q).tracked).lines
+        count_append before.lines (x_does before.tracked).lines
         ∙ ap (λ (t : Tracked). fault_count before.lines + fault_count (x_does t).lines) ran_then in
         subst (λ (z : List ℕ). Shows C l f (state_of R z)) all_octets
         (settled_shows C l most p' x n (omega (
@@ -459,7 +503,7 @@ module _ (C : Table) (l : Answers) (most : ℕ) (s : State) (reached : IsReached
           length_push (c.payload ++ q) x,
         )) (sized ∙ ap size header)
         (subst (λ (t : Tracked). SlotsRepresent C l b.slots (x_does t).tracked
-        (owner_after (x_does t).tracked.still_open n)) ran_then keeps))
+        (owner_after (before_with C l (x_does t).tracked) n)) ran_then keeps))
 
 -- ---- The first n of the octets, which are those that are taken.
 
@@ -530,7 +574,7 @@ module _ (C : Table) (l : Answers) (most : ℕ) (s : State) (reached : IsReached
       b.totals.faults ≡ m.totals.faults + fault_count taken_do.lines →
       b.totals.octets ≡ now.place → b.stopped ≡ m.stopped → b.header ≡ m.header →
       b.payload_count ≡ now.payload_count → k ≡ size m.header →
-      SlotsRepresent C l b.slots taken_do.tracked (owner_after taken_do.tracked.still_open
+      SlotsRepresent C l b.slots taken_do.tracked (owner_after (before_with C l taken_do.tracked)
       (with_octet (with_payload c (c.payload ++ parts.0)) parts.1.0)) →
       Shows C l f (state_of (rules_by C l most) (reached.stream ++ xs))
   taken_shows b f k is messages faults octets_are stopped head count sized keeps =

@@ -5,7 +5,6 @@ use Rattle.std.specs.Prelude.{if◌then◌else◌, slice_get, option_map}
 use Rattle.std.proofs.lemmas.List.{take-append-drop}
 use Rattle.giop_print.specs.Output.{OutLog, Wrote}
 use Rattle.giop_sig.specs.Table.{Table}
-use Rattle.giop_message.specs.Phases.{unbroken}
 use Rattle.giop_message.specs.declared.message.Message.{Message}
 use Rattle.giop_message.specs.Signatures.{Signatures, Answers, signatures_of}
 use Rattle.giop_message.specs.Messages.{message, stage_of}
@@ -14,15 +13,15 @@ use Rattle.giop_message.specs.DueOctets.{TakesFront}
 use Rattle.giop_message.specs.HeaderEnds.{HeaderEnd}
 use Rattle.giop_message.specs.MessageState.{due_text, Follows, FaultedAt}
 use Rattle.giop_message.proofs.MessageLaws.{octet_over, text_both, text_none, text_over, text_ended, over_where_faulted, told_more, follows_goes}
-use Rattle.giop_entry_table.specs.EntryTable.{with_value}
+use Rattle.giop_entry_table.specs.OptionalIds.{with_value}
 use Rattle.giop_stream.specs.declared.slots.Slot.{Slot as Contents}
 use Rattle.giop_stream.specs.declared.slots.Slots.{Slots}
 use Rattle.giop_stream.specs.declared.slots.PayloadOwner.{PayloadOwner}
-use Rattle.giop_stream.specs.Events.{MessageKey, Takes, Rising}
-use Rattle.giop_stream.specs.Lines.{StreamLine}
+use Rattle.giop_stream.specs.Events.{MessageKey, Takes, Rising, octet}
+use Rattle.giop_stream.specs.Lines.{StreamLine, Kept}
 use Rattle.giop_stream.specs.Text.{lines_text}
 use Rattle.giop_stream.specs.Stream.{fault_count}
-use Rattle.giop_stream.specs.Effects.{Part, part_of, tracked_at, lines_of, octets_then, no_effect, no_part, event}
+use Rattle.giop_stream.specs.Effects.{Part, part_of, tracked_at, lines_of, known_then, no_effect, no_part, event}
 use Rattle.giop_stream.specs.OpenSlots.{Tracked}
 use Rattle.giop_stream.specs.SlotsRepresent.{RepresentsMessage, SlotsRepresent, index_of}
 use Rattle.giop_stream.specs.DoesEffect.{DoesEffect, DoesPart, one_if}
@@ -31,6 +30,7 @@ use Rattle.giop_stream.specs.HeaderEndsOfStream.{run_header_ends, owner_header_e
 use Rattle.giop_stream.proofs.Lists.{any_append}
 use Rattle.giop_stream.proofs.Events.AfterMoreEvents.{count_append}
 use Rattle.giop_stream.proofs.SlotSteps.ReadingEffects.{over_lines, over_then, take_text, then_by, faults_by}
+use Rattle.giop_stream.proofs.SlotSteps.OneSlotChanges.{or_nothing, mixes_not}
 use Rattle.giop_stream.proofs.SlotSteps.Performing.{text_append, performs_on}
 use Rattle.giop_stream.proofs.SlotSteps.EventsOnSlots.{Alters, IsItself, still_takes, still_alters, no_key, own_effects, slot_effects, own_has, slot_has, own_kept, slot_kept}
 
@@ -54,24 +54,30 @@ pub over_stays : (S : Signatures) (header s more : List ℕ) →
 over_stays S header s more e = search (arith, over_where_faulted, told_more, any_append)
 
 module _ (C : Table) (l : Answers) where
-  abbrev Over : MessageKey → List ℕ → Bool
-  Over w s = is_over (stage_of (message (signatures_of C (l w.number) unbroken) w.header s))
+  abbrev Over : MessageKey → Kept → Bool
+  Over w kept = is_over (stage_of
+      (message (signatures_of C (l w.number) kept.phase) w.header kept.octets))
+
+  -- what is kept with more octets
+  abbrev pub with_more : Kept → List ℕ → Kept
+  with_more kept xs = record { octets = kept.octets ++ xs; phase = kept.phase }
 
   -- ---- One octet, of a message that isn't over.
 
-  then_is : (at : ℕ) (w : MessageKey) (s : List ℕ) (x : ℕ) → Over w s ≡ false
-      → octets_then (message_reader C l) (event at w (Takes x)) (Some s)
-      ≡ (if Over w (s ++ x ∷ []) then None else Some (s ++ x ∷ []))
-  then_is at w s x e = search (arith, then_by, octet_over)
+  then_is : (at : ℕ) (w : MessageKey) (kept : Kept) (x : ℕ) → Over w kept ≡ false
+      → known_then (message_reader C l) (event at w (Takes x)) (Some kept)
+      ≡ (if Over w (with_more kept (x ∷ [])) then None else Some (with_more kept (x ∷ [])))
+  unfolding octet
+  then_is at w kept x e = search (arith, then_by, octet_over)
 
-  count_is : (at : ℕ) (w : MessageKey) (s : List ℕ) (x : ℕ) → Over w s ≡ false
-      → fault_count (lines_of (message_reader C l) (event at w (Takes x)) (Some s))
-      ≡ (if Over w (s ++ x ∷ []) then 1 else 0)
-  count_is at w s x e = search (arith, faults_by, octet_over)
+  count_is : (at : ℕ) (w : MessageKey) (kept : Kept) (x : ℕ) → Over w kept ≡ false
+      → fault_count (lines_of (message_reader C l) (event at w (Takes x)) (Some kept))
+      ≡ (if Over w (with_more kept (x ∷ [])) then 1 else 0)
+  count_is at w kept x e = search (arith, faults_by, octet_over)
 
   -- ---- A message that is over.
 
-  pub none_run : (w : MessageKey) (o : Option (List ℕ)) (before : ℕ) (xs : List ℕ) →
+  pub none_run : (w : MessageKey) (o : Option Kept) (before : ℕ) (xs : List ℕ) →
       RepresentsMessage C l None w o → run_part C l before w o xs ≡ no_part None
   unfolding run_part part_of
   none_run w None before [] k = refl
@@ -82,171 +88,193 @@ module _ (C : Table) (l : Answers) where
     none_run w None (suc
         before) xs tt,
   )
-  none_run w (Some s) before xs k = absurd k
+  none_run w (Some kept) before xs k = absurd k
 
   -- ---- A message that isn't over.
 
-  run_text : (w : MessageKey) (xs : List ℕ) (before : ℕ) (s : List ℕ) → Over w s ≡ false
-      → lines_text (run_part C l before w (Some s) xs).lines
-      ≡ due_text (signatures_of C (l w.number) unbroken) w.number before w.header s xs
+  -- one list of octets, and another after it
+  more_again : (kept : Kept) (xs ys : List ℕ) →
+      with_more (with_more kept xs) ys ≡ with_more kept (xs ++ ys)
+  more_again kept xs ys =
+      ap (λ (z : List ℕ). with_more (record kept { octets = [] }) z)
+      (append_assoc kept.octets xs ys)
+
+  none_more : (kept : Kept) → with_more kept [] ≡ kept
+  none_more kept =
+      ap (λ (z : List ℕ). with_more (record kept { octets = [] }) z) (append-nil kept.octets)
+
+  run_text : (w : MessageKey) (xs : List ℕ) (before : ℕ) (kept : Kept) → Over w kept ≡ false
+      → lines_text (run_part C l before w (Some kept) xs).lines
+      ≡ due_text (signatures_of C (l w.number) kept.phase) w.number before w.header kept.octets xs
   unfolding run_part part_of lines_text
-  run_text w [] before s e = search (arith, text_none)
-  run_text w (x ∷ xs) before s e =
-      let S = signatures_of C (l w.number) unbroken in
+  run_text w [] before kept e = search (arith, text_none)
+  run_text w (x ∷ xs) before kept e =
+      let S = signatures_of C (l w.number) kept.phase in
+      let s = kept.octets in
       let ev = event (suc before) w (Takes x) in
-      let first = lines_of (message_reader C l) ev (Some s) in
+      let first = lines_of (message_reader C l) ev (Some kept) in
       let after : List StreamLine = (run_part C l (suc before) w
-      (octets_then (message_reader C l) ev (Some s)) xs).lines in
+      (known_then (message_reader C l) ev (Some kept)) xs).lines in
       let due = due_text S w.number before w.header s (x ∷ []) in
       let more = due_text S w.number (suc before) w.header (s ++ x ∷ []) xs in
       let both : due_text S w.number before w.header s (x ∷ xs) ≡ due ++ more =
       rw (add-one) at (text_both S w.number before w.header s (x ∷ []) xs) in
       text_append first after
-      ∙ (ap (λ (t : List ℕ). t ++ lines_text after) (take_text C l before w s x)
-      ∙ (ap (λ (t : List ℕ). due ++ t) (rest (run_text w xs (suc before) (s ++ x ∷ []))
-      (Over w (s ++ x ∷ [])) refl) ∙ sym both))
+      ∙ (ap (λ (t : List ℕ). t ++ lines_text after) (take_text C l before w kept x)
+      ∙ (ap (λ (t : List ℕ). due ++ t) (rest (run_text w xs (suc before)
+      (with_more kept (x ∷ []))) (Over w (with_more kept (x ∷ []))) refl) ∙ sym both))
     where
-      Rest : Option (List ℕ) → Type 0
+      Rest : Option Kept → Type 0
       Rest o = lines_text (run_part C l (suc before) w o xs).lines
-          ≡ due_text (signatures_of C (l w.number) unbroken) w.number (suc before) w.header
-          (s ++ x ∷ []) xs
+          ≡ due_text (signatures_of C (l w.number) kept.phase) w.number (suc before) w.header
+          (kept.octets ++ x ∷ []) xs
 
-      rest : (Over w (s ++ x ∷ []) ≡ false → Rest (Some (s ++ x ∷ []))) → (b : Bool) →
-          Over w (s ++ x ∷ []) ≡ b
-          → Rest (octets_then (message_reader C l) (event (suc before) w (Takes x)) (Some s))
+      rest : (Over w (with_more kept (x ∷ [])) ≡ false → Rest (Some (with_more kept (x ∷ [])))) →
+          (b : Bool) → Over w (with_more kept (x ∷ [])) ≡ b
+          → Rest (known_then (message_reader C l) (event (suc before) w (Takes x)) (Some kept))
       rest ih true o = search (arith, then_is, none_run, text_over)
       rest ih false o = search (arith, then_is)
 
   -- if a message is over after one octet, it is over after all of them
-  over_with : (w : MessageKey) (s xs : List ℕ) (x : ℕ) → Over w (s ++ x ∷ []) ≡ true →
-      Over w (s ++ x ∷ xs) ≡ true
-  over_with w s xs x o = subst (λ (z : List ℕ). Over w z ≡ true) (append_assoc s (x ∷ []) xs)
-      (over_stays (signatures_of C (l w.number) unbroken) w.header (s ++ x ∷ []) xs o)
+  over_with : (w : MessageKey) (kept : Kept) (xs : List ℕ) (x : ℕ) →
+      Over w (with_more kept (x ∷ [])) ≡ true → Over w (with_more kept (x ∷ xs)) ≡ true
+  over_with w kept xs x o =
+      subst (λ (z : Kept). Over w z ≡ true) (more_again kept (x ∷ []) xs)
+      (over_stays (signatures_of C (l w.number) kept.phase) w.header (kept.octets ++ x ∷ []) xs o)
 
-  run_then : (w : MessageKey) (xs : List ℕ) (before : ℕ) (s : List ℕ) → Over w s ≡ false
-      → (run_part C l before w (Some s) xs).octets
-      ≡ (if Over w (s ++ xs) then None else Some (s ++ xs))
+  run_then : (w : MessageKey) (xs : List ℕ) (before : ℕ) (kept : Kept) → Over w kept ≡ false
+      → (run_part C l before w (Some kept) xs).kept
+      ≡ (if Over w (with_more kept xs) then None else Some (with_more kept xs))
   unfolding run_part part_of
-  run_then w [] before s e = rw (append-nil s, e) refl
-  run_then w (x ∷ xs) before s e = go (run_then w xs (suc before) (s ++ x ∷ []))
-      (Over w (s ++ x ∷ [])) refl
+  run_then w [] before kept e =
+      sym (ap (λ (z : Kept). if Over w z then None else Some z) (none_more kept) ∙ rw e refl)
+  run_then w (x ∷ xs) before kept e = go (run_then w xs (suc before) (with_more kept (x ∷ [])))
+      (Over w (with_more kept (x ∷ []))) refl
     where
-      Then : Option (List ℕ) → List ℕ → Type 0
-      Then o z = (run_part C l (suc before) w o xs).octets ≡ (if Over w z then None else Some z)
+      Then : Option Kept → Kept → Type 0
+      Then o z = (run_part C l (suc before) w o xs).kept ≡ (if Over w z then None else Some z)
 
-      go : (Over w (s ++ x ∷ []) ≡ false → Then (Some (s ++ x ∷ [])) ((s ++ x ∷ []) ++ xs)) →
+      go : (Over w (with_more kept (x ∷ [])) ≡ false →
+          Then (Some (with_more kept (x ∷ []))) (with_more (with_more kept (x ∷ [])) xs)) →
           (b : Bool)
-          → Over w (s ++ x ∷ []) ≡ b → Then (octets_then (message_reader C l)
-          (event (suc before) w (Takes x)) (Some s))
-          (s ++ x ∷ xs)
+          → Over w (with_more kept (x ∷ [])) ≡ b → Then (known_then (message_reader C l)
+          (event (suc before) w (Takes x)) (Some kept)) (with_more kept (x ∷ xs))
       go ih true o = rw (
-        then_is (suc before) w s x e,
+        then_is (suc before) w kept x e,
         o,
         none_run w None (suc before) xs tt,
-        over_with w s xs x o,
+        over_with w kept xs x o,
       ) refl
-      go ih false o = search (arith, then_is, append_assoc)
+      go ih false o = search (arith, then_is, more_again)
 
-  run_count : (w : MessageKey) (xs : List ℕ) (before : ℕ) (s : List ℕ) → Over w s ≡ false
-      → fault_count (run_part C l before w (Some s) xs).lines ≡ (if Over w (s ++ xs) then 1 else 0)
+  run_count : (w : MessageKey) (xs : List ℕ) (before : ℕ) (kept : Kept) → Over w kept ≡ false
+      → fault_count (run_part C l before w (Some kept) xs).lines
+      ≡ (if Over w (with_more kept xs) then 1 else 0)
   unfolding run_part part_of
-  run_count w [] before s e = rw (append-nil s, e) (unfold fault_count in refl)
-  run_count w (x ∷ xs) before s e =
+  run_count w [] before kept e = unfold fault_count in
+      sym (ap (λ (z : Kept). if Over w z then 1 else 0) (none_more kept) ∙ rw e refl)
+  run_count w (x ∷ xs) before kept e =
       let ev = event (suc before) w (Takes x) in
       let after : List StreamLine = (run_part C l (suc before) w
-      (octets_then (message_reader C l) ev (Some s)) xs).lines in
-      count_append (lines_of (message_reader C l) ev (Some s)) after
-      ∙ (ap (λ (n : ℕ). n + fault_count after) (count_is (suc before) w s x e)
-      ∙ go (run_count w xs (suc before) (s ++ x ∷ [])) (Over w (s ++ x ∷ [])) refl)
+      (known_then (message_reader C l) ev (Some kept)) xs).lines in
+      count_append (lines_of (message_reader C l) ev (Some kept)) after
+      ∙ (ap (λ (n : ℕ). n + fault_count after) (count_is (suc before) w kept x e)
+      ∙ go (run_count w xs (suc before) (with_more kept (x ∷ [])))
+      (Over w (with_more kept (x ∷ []))) refl)
     where
-      Counts : Option (List ℕ) → List ℕ → ℕ → Type 0
+      Counts : Option Kept → Kept → ℕ → Type 0
       Counts o z n = n + fault_count (run_part C l (suc before) w o xs).lines
           ≡ (if Over w z then 1 else 0)
 
-      go : (Over w (s ++ x ∷ []) ≡ false → fault_count
-          (run_part C l (suc before) w (Some (s ++ x ∷ [])) xs).lines
-          ≡ (if Over w ((s ++ x ∷ []) ++ xs) then 1 else 0))
-          → (b : Bool) → Over w (s ++ x ∷ []) ≡ b
-          → Counts (octets_then (message_reader C l) (event (suc before) w (Takes x)) (Some s))
-          (s ++ x ∷ xs)
-          (if Over w (s ++ x ∷ []) then 1 else 0)
+      go : (Over w (with_more kept (x ∷ [])) ≡ false → fault_count
+          (run_part C l (suc before) w (Some (with_more kept (x ∷ []))) xs).lines
+          ≡ (if Over w (with_more (with_more kept (x ∷ [])) xs) then 1 else 0))
+          → (b : Bool) → Over w (with_more kept (x ∷ [])) ≡ b
+          → Counts (known_then (message_reader C l) (event (suc before) w (Takes x)) (Some kept))
+          (with_more kept (x ∷ xs)) (if Over w (with_more kept (x ∷ [])) then 1 else 0)
       go ih true o = rw (
-        then_is (suc before) w s x e,
+        then_is (suc before) w kept x e,
         o,
         none_run w None (suc before) xs tt,
-        over_with w s xs x o,
+        over_with w kept xs x o,
       ) (unfold fault_count in refl)
-      go ih false o = rw (then_is (suc before) w s x e, o)
+      go ih false o = rw (then_is (suc before) w kept x e, o)
           (omega (
             arith,
-            ih o ∙ ap (λ (z : List ℕ). if Over w z then 1 else 0)
-                (append_assoc s (x ∷ []) xs),
+            ih o ∙ ap (λ (z : Kept). if Over w z then 1 else 0)
+                (more_again kept (x ∷ []) xs),
           ))
 
   -- ---- A message, if the code keeps a value of it.
 
+  -- the message follows what is kept
+  abbrev pub Keeps : Message → MessageKey → Kept → Type 0
+  Keeps m w kept = Follows C l kept.phase w.number w.header m kept.octets
+
+  -- the signatures by which the message is read
+  abbrev pub signed : MessageKey → Kept → Signatures
+  signed w kept = signatures_of C (l w.number) kept.phase
+
   -- P holds of the text that these octets add
-  abbrev pub DueOf : (List ℕ → Type 0) → Message → MessageKey → Option (List ℕ) → ℕ → List ℕ →
+  abbrev pub DueOf : (List ℕ → Type 0) → Message → MessageKey → Option Kept → ℕ → List ℕ →
       Type 0
-  DueOf P m w o before xs = (s : List ℕ) → o ≡ Some s → Follows C l unbroken w.number w.header m s →
-      P (due_text (signatures_of C (l w.number) unbroken) w.number before w.header s xs)
+  DueOf P m w o before xs = (kept : Kept) → o ≡ Some kept → Keeps m w kept →
+      P (due_text (signed w kept) w.number before w.header kept.octets xs)
 
-  goes : (m : Message) (w : MessageKey) (s : List ℕ) → Follows C l unbroken w.number w.header m s →
-      Over w s ≡ false
-  goes m w s k = search (arith, follows_goes)
+  goes : (m : Message) (w : MessageKey) (kept : Kept) → Keeps m w kept → Over w kept ≡ false
+  goes m w kept k = search (arith, follows_goes)
 
-  faulted : (w : MessageKey) (s xs : List ℕ) (n : ℕ) →
-      FaultedAt (signatures_of C (l w.number) unbroken) w.header s xs n → Over w (s ++ xs) ≡ true
-  faulted w s xs n f =
+  faulted : (w : MessageKey) (kept : Kept) (xs : List ℕ) (n : ℕ) →
+      FaultedAt (signed w kept) w.header kept.octets xs n → Over w (with_more kept xs) ≡ true
+  faulted w kept xs n f =
+      let s = kept.octets in
       let all : (s ++ take n xs) ++ drop n xs ≡ s ++ xs =
       append_assoc s (take n xs) (drop n xs)
       ∙ ap (λ (z : List ℕ). s ++ z) (take-append-drop n xs) in
-      subst (λ (z : List ℕ). Over w z ≡ true) all
-      (over_stays (signatures_of C (l w.number) unbroken) w.header (s ++ take n xs) (drop n xs)
-      f.here)
+      subst (λ (z : List ℕ). Over w (record { octets = z; phase = kept.phase }) ≡ true) all
+      (over_stays (signed w kept) w.header (s ++ take n xs) (drop n xs) f.here)
 
-  pub given_text : (P : List ℕ → Type 0) (m : Message) (w : MessageKey) (o : Option (List ℕ))
+  pub given_text : (P : List ℕ → Type 0) (m : Message) (w : MessageKey) (o : Option Kept)
       (before : ℕ) (xs : List ℕ)
       → RepresentsMessage C l (Some m) w o → DueOf P m w o before xs
       → P (lines_text (run_part C l before w o xs).lines)
-  given_text P m w (Some s) before xs k f = search (arith, run_text, goes)
+  given_text P m w (Some kept) before xs k f = search (arith, run_text, goes)
   given_text P m w None before xs k f = absurd k
 
   -- what the octets do if none of them faults the message, and if one does
-  pub given_on : {E : Type 0} (m m' : Message) (w : MessageKey) (o : Option (List ℕ)) (before : ℕ)
+  pub given_on : {E : Type 0} (m m' : Message) (w : MessageKey) (o : Option Kept) (before : ℕ)
       (xs : List ℕ) (n : ℕ) (a b : OutLog) → RepresentsMessage C l (Some m) w o →
       DueOf (Wrote a b) m w o before xs →
-      ((s : List ℕ) → o ≡ Some s → Follows C l unbroken w.number w.header m s →
-      Follows C l unbroken w.number w.header m' (s ++ xs)) →
+      ((kept : Kept) → o ≡ Some kept → Keeps m w kept → Keeps m' w (with_more kept xs)) →
       DoesPart {E = E} C l (λ (r : ℕ × Bool). one_if r.1) (Ok (n, false)) a b (Some m') w
       (run_part C l before w o xs)
-  given_on m m' w (Some s) before xs n a b k writes took =
-      let goes_before = goes m w s k in
-      let k' = took s refl k in
-      let still = goes m' w (s ++ xs) k' in
+  given_on m m' w (Some kept) before xs n a b k writes took =
+      let goes_before = goes m w kept k in
+      let k' = took kept refl k in
+      let still = goes m' w (with_more kept xs) k' in
       record {
-        text = given_text (Wrote a b) m w (Some s) before xs k writes;
-        faults = rw (run_count w xs before s goes_before, still) refl;
-        kept = rw (run_then w xs before s goes_before, still) k';
+        text = given_text (Wrote a b) m w (Some kept) before xs k writes;
+        faults = rw (run_count w xs before kept goes_before, still) refl;
+        kept = rw (run_then w xs before kept goes_before, still) k';
       }
   given_on m m' w None before xs n a b k writes took = absurd k
 
-  pub given_over : {E : Type 0} (m : Message) (w : MessageKey) (o : Option (List ℕ)) (before : ℕ)
+  pub given_over : {E : Type 0} (m : Message) (w : MessageKey) (o : Option Kept) (before : ℕ)
       (xs : List ℕ) (i n : ℕ) (a b : OutLog) → RepresentsMessage C l (Some m) w o →
       DueOf (Wrote a b) m w o before (take i xs) →
-      ((s : List ℕ) → o ≡ Some s → Follows C l unbroken w.number w.header m s →
-      FaultedAt (signatures_of C (l w.number) unbroken) w.header s xs i) →
+      ((kept : Kept) → o ≡ Some kept → Keeps m w kept →
+      FaultedAt (signed w kept) w.header kept.octets xs i) →
       DoesPart {E = E} C l (λ (r : ℕ × Bool). one_if r.1) (Ok (n, true)) a b None w (run_part C l
       before w o xs)
-  given_over m w (Some s) before xs i n a b k writes found =
-      let goes_before = goes m w s k in
-      let over = faulted w s xs i (found s refl k) in
-      let S = signatures_of C (l w.number) unbroken in
+  given_over m w (Some kept) before xs i n a b k writes found =
+      let goes_before = goes m w kept k in
+      let over = faulted w kept xs i (found kept refl k) in
       record {
-        text = given_text (Wrote a b) m w (Some s) before xs k (λ z e f.
-            rw (text_ended S w.number before w.header z xs i (found z e f).here) (writes z e f));
-        faults = rw (run_count w xs before s goes_before, over) refl;
-        kept = rw (run_then w xs before s goes_before, over) tt;
+        text = given_text (Wrote a b) m w (Some kept) before xs k (λ z e f.
+            rw (text_ended (signed w z) w.number before w.header z.octets xs i (found z e f).here)
+            (writes z e f));
+        faults = rw (run_count w xs before kept goes_before, over) refl;
+        kept = rw (run_then w xs before kept goes_before, over) tt;
       }
   given_over m w None before xs i n a b k writes found = absurd k
 
@@ -259,14 +287,16 @@ module _ (C : Table) (l : Answers) where
   run_alters w (x ∷ xs) before c =
       let R = message_reader C l in
       let e = event (suc before) w (Takes x) in
-      let one = still_alters C l (suc before) c w (Takes x) (still_takes x) in
+      let one = still_alters C l (suc before) c w (Takes x) (still_takes x)
+      (or_nothing c.mixed _ (mixes_not e refl)) in
       let more = run_alters w xs (suc before) (tracked_at R c e) in
-      let same = ap (λ (o : Option (List ℕ)). run_part C l (suc before) w o xs) one.own in
+      let same = ap (λ (o : Option Kept). run_part C l (suc before) w o xs) one.own in
       record {
         lines = ap (λ (ls : List StreamLine). lines_of R e (c.known w.number) ++ ls)
             (more.lines ∙ ap (λ (part : Part). part.lines) same);
         still_open = more.still_open ∙ one.still_open;
-        own = more.own ∙ ap (λ (part : Part). part.octets) same;
+        mixed = more.mixed ∙ one.mixed;
+        own = more.own ∙ ap (λ (part : Part). part.kept) same;
         others = λ i h. more.others i h ∙ one.others i h;
       }
 
@@ -282,7 +312,7 @@ module _ (C : Table) (l : Answers) where
       (h : SlotsRepresent C l s c owner_of_next)
       (Agrees : (List ℕ → List HeaderEnd) → Type 0)
       (Before : (List ℕ → List HeaderEnd) → List ℕ → Type 0) where
-    abbrev PartTaken : Option Message → MessageKey → Option (List ℕ) → Type 0
+    abbrev PartTaken : Option Message → MessageKey → Option Kept → Type 0
     PartTaken message w o = Agrees (run_header_ends w o) →
         TakesFront count (Before (run_header_ends w o))
         (λ xs. DoesPart C l faults r a b message w (run_part C l before w o xs)) r octets
@@ -295,11 +325,11 @@ module _ (C : Table) (l : Answers) where
     -- the octets do nothing if their message is over or they belong to none
     none_runs : (of : PayloadOwner) (own' : Option Message) → IsItself of own' → (xs : List ℕ) →
         DoesPart C l faults r a b own' no_key (run_part C l before no_key None xs) →
-        DoesEffect C l faults r a b (record { slots = s.slots; owner = of })
+        DoesEffect C l faults r a b (record { slots = s.slots; owner = of; is_mixed = s.is_mixed })
         (run_effect C l before c None xs) None
     none_runs of own' is xs does =
         rw (nobody_run xs before c) (performs_on r a b refl
-        (λ k. record { slots = h.slots; owner = rw (is.0, is.1) (over own' k) })
+        (λ k. record { slots = h.slots; mixed = h.mixed; owner = rw (is.0, is.1) (over own' k) })
         (rw (none_run no_key None before xs tt) at does))
       where
         over : (own' : Option Message) → RepresentsMessage C l own' no_key None → own' ≡ None
@@ -308,10 +338,18 @@ module _ (C : Table) (l : Answers) where
 
     pub own_takes : (of : PayloadOwner) (message own' : Option Message) → IsItself of own' →
         IsItself s.owner message →
-        ((w : MessageKey) (o : Option (List ℕ)) → RepresentsMessage C l message w o →
-        PartTaken own' w o) → Taken (record { slots = s.slots; owner = of }) owner_of_next
+        ((w : MessageKey) (o : Option Kept) → RepresentsMessage C l message w o →
+        PartTaken own' w o) → Taken (record {
+          slots = s.slots;
+          owner = of;
+          is_mixed = s.is_mixed;
+        }) owner_of_next
     own_takes of message own' is e f =
-        own_has C l (Taken (record { slots = s.slots; owner = of })) s c owner_of_next message e h
+        own_has C l (Taken (record {
+          slots = s.slots;
+          owner = of;
+          is_mixed = s.is_mixed;
+        })) s c owner_of_next message e h
         (λ none agrees. takes_weaker (none_runs of own' is) (f no_key None (rw none tt) agrees))
         (λ w k agrees. takes_weaker
         (λ xs does. own_effects C l r a b s of message own' c w _ _ is e k (run_alters w xs before
@@ -326,11 +364,13 @@ module _ (C : Table) (l : Answers) where
         PartTaken message w (c.known w.number)) → Taken (record {
           slots = with_value s.slots k (record v { message = message });
           owner = of;
+          is_mixed = s.is_mixed;
         }) owner_of_next
     slot_takes of v message k is e get rising f =
         slot_has C l (Taken (record {
           slots = with_value s.slots k (record v { message = message });
           owner = of;
+          is_mixed = s.is_mixed;
         })) s c owner_of_next k e h
         (λ w kept agrees. takes_weaker
         (λ xs does. slot_effects C l r a b s of v message c w _ _ k is e get rising kept

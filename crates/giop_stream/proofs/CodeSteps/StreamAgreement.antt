@@ -5,7 +5,6 @@ use Rattle.std.proofs.Common.{arith, ◌≡◌, ℕ, Bool, true, false, List, []
 use Rattle.std.specs.Prelude.{if◌then◌else◌, option_to_list}
 use Rattle.std.specs.List.{AllByRecursion as Each}
 use Rattle.giop_sig.specs.Table.{Table}
-use Rattle.giop_message.specs.Phases.{unbroken}
 use Rattle.giop_message.specs.Signatures.{Answers}
 use Rattle.giop_message.specs.ReaderOfTable.{message_reader}
 use Rattle.giop_message.specs.HeaderEnds.{header_noted}
@@ -14,32 +13,35 @@ use Rattle.giop_message.specs.declared.message.Message.{Message as CodeMessage}
 use Rattle.giop_stream.specs.EngineView.{FramingView}
 use Rattle.giop_stream.specs.SlotsRepresent.{OpenEntry, RepresentsMessage, AreSlots}
 use Rattle.giop_stream.specs.ViewOfState.{Shows}
-use Rattle.giop_stream.specs.Events.{Event, MessageKey, Open, EventKind, Begins, Takes, Opens, Continues, Cancelled, Faults, Closes, message_key, key, opener_of, has_named, own, header_events, events_of_octet, events_of, events_from, events, opened, open_after}
+use Rattle.giop_stream.specs.Rules.{Rules}
+use Rattle.giop_stream.specs.Events.{Event, MessageKey, Before, Open, EventKind, Begins, Takes, Opens, Continues, Seams, Cancelled, Faults, Closes, message_key, key, opener_of, has_named, own, header_events, events_of_octet, events_of, events_from, events, opened, before_by}
 use Rattle.giop_stream.specs.HeaderOctets.{fronts}
 use Rattle.giop_stream.specs.Framing.{CutMessage, with_payload, cut, messages}
-use Rattle.giop_stream.specs.Lines.{lines_of_event}
+use Rattle.giop_stream.specs.Lines.{Kept, lines_of_event}
+use Rattle.giop_stream.specs.Effects.{kept_then}
 use Rattle.giop_stream.specs.OpenSlots.{Slot, slots_at}
 use Rattle.giop_stream.specs.EngineState.{State, opener_key, owner_of_next, owner_of_next_in}
 use Rattle.giop_stream.proofs.Lists.{each_append, each_weaker}
 use Rattle.giop_stream.proofs.Cuts.Numbers.{header_of_number, own_header}
-use Rattle.giop_stream.proofs.Events.EventsOfOctet.{events_of_octet_each, opened_each}
+use Rattle.giop_stream.proofs.Events.EventsOfOctet.{opened_append, events_of_octet_each, opened_each}
 use Rattle.giop_stream.proofs.Events.EventsByEngine.{found_under}
 
--- one event, if the message has these octets in all
-pub tells_agree : (C : Table) (a b : Answers) (e : Event) (so_far later all : List ℕ)
-    (what : EventKind) → all ≡ so_far ++ later
+-- one event, if the answers agree after it
+pub tells_agree : (C : Table) (a b : Answers) (e : Event) (so_far : Kept) (what : EventKind)
     → (a e.subject.number ≡ b e.subject.number) ⊎
-    (header_noted unbroken e.subject.header all ≡ None)
-    → lines_of_event (message_reader C a) e so_far all what
-    ≡ lines_of_event (message_reader C b) e so_far all what
+    (header_noted (kept_then what so_far).phase e.subject.header (kept_then what so_far).octets
+    ≡ None)
+    → lines_of_event (message_reader C a) e so_far (kept_then what so_far) what
+    ≡ lines_of_event (message_reader C b) e so_far (kept_then what so_far) what
 unfolding lines_of_event
-tells_agree C a b e so_far later all Begins split same = refl
-tells_agree C a b e so_far later all (Takes x) split same = search (arith, map, alike_remarks)
-tells_agree C a b e so_far later all (Opens id) split same = refl
-tells_agree C a b e so_far later all (Continues i) split same = refl
-tells_agree C a b e so_far later all (Cancelled j) split same = refl
-tells_agree C a b e so_far later all (Faults fault) split same = refl
-tells_agree C a b e so_far later all Closes split same = search (
+tells_agree C a b e so_far Begins same = refl
+tells_agree C a b e so_far (Takes x) same = search (arith, map, alike_remarks)
+tells_agree C a b e so_far (Opens id) same = refl
+tells_agree C a b e so_far (Continues i) same = refl
+tells_agree C a b e so_far Seams same = refl
+tells_agree C a b e so_far (Cancelled j) same = refl
+tells_agree C a b e so_far (Faults fault) same = refl
+tells_agree C a b e so_far Closes same = search (
   arith,
   map,
   alike_closes,
@@ -50,19 +52,20 @@ tells_agree C a b e so_far later all Closes split same = search (
 
 module _ (C : Table) (a b : Answers) where
   -- if octets are kept of a message, the answers agree for it, or its header has not ended
-  abbrev pub IsSame : MessageKey → Option (List ℕ) → Type 0
+  abbrev pub IsSame : MessageKey → Option Kept → Type 0
   IsSame w None = Unit {0}
-  IsSame w (Some xs) = (a w.number ≡ b w.number) ⊎ (header_noted unbroken w.header xs ≡ None)
+  IsSame w (Some kept) = (a w.number ≡ b w.number)
+      ⊎ (header_noted kept.phase w.header kept.octets ≡ None)
 
-  kept_agree : (m : Option CodeMessage) (w : MessageKey) (o : Option (List ℕ)) → IsSame w o →
+  kept_agree : (m : Option CodeMessage) (w : MessageKey) (o : Option Kept) → IsSame w o →
       RepresentsMessage C a m w o → RepresentsMessage C b m w o
-  kept_agree (Some m) w (Some xs) same k = search (arith, follows_agree)
+  kept_agree (Some m) w (Some kept) same k = search (arith, follows_agree)
   kept_agree None w None same k = tt
   kept_agree (Some m) w None same k = absurd k
-  kept_agree None w (Some xs) same k = absurd k
+  kept_agree None w (Some kept) same k = absurd k
 
   slots_agree : (ks : List OpenEntry) (slots : List Slot) →
-      Each (λ slot. IsSame slot.open_as.opener slot.octets) slots
+      Each (λ slot. IsSame slot.open_as.opener slot.kept) slots
       → AreSlots C a ks slots → AreSlots C b ks slots
   slots_agree [] [] same k = tt
   slots_agree (x ∷ ks) (slot ∷ slots) same k = search (
@@ -75,7 +78,7 @@ module _ (C : Table) (a b : Answers) where
   slots_agree (x ∷ ks) [] same k = absurd k
 
   pub shows_agree : (f : FramingView) (s : State) →
-      Each (λ slot. IsSame slot.open_as.opener slot.octets) (slots_at s.tracked)
+      Each (λ slot. IsSame slot.open_as.opener slot.kept) (slots_at s.tracked)
       → ((w : MessageKey) → s.owner ≡ Some w → IsSame w (s.tracked.known w.number))
       → Shows C a f s → Shows C b f s
   shows_agree f s same own h = search (arith, slots_agree, kept_agree)
@@ -87,90 +90,93 @@ pub each_parts : {A : Type 0} (P : A → Type 0) (xs ys : List A) → Each P (xs
 each_parts P [] ys h = (tt, h)
 each_parts P (x ∷ xs) ys h = search (arith, each_parts P xs ys h.1)
 
-module _ (P : MessageKey → Type 0) (most : ℕ) where
+module _ (P : MessageKey → Type 0) where
   -- the first event of a message is an event of the message itself
-  first_own : (still_open : List Open) (m : CutMessage) →
-      Each (λ e. P e.subject) (events_of most still_open m) → P (message_key m)
+  first_own : (most : ℕ) (b : Before) (m : CutMessage) →
+      Each (λ e. P e.subject) (events_of most b m) → P (message_key m)
   unfolding events_of events_of_octet header_events own with_payload fronts
-  first_own still_open m h = go m.payload h
+  first_own most b m h = go m.payload h
     where
       go : (payload : List ℕ)
           → Each (λ e. P e.subject) (flat_map (λ front.
-          events_of_octet most still_open (with_payload m front)) (fronts payload)) →
+          events_of_octet most b (with_payload m front)) (fronts payload)) →
           P (message_key m)
       go [] k = k.0
       go (x ∷ xs) k = k.0
 
-  pub each_own : (still_open : List Open) (ms : List CutMessage) →
-      Each (λ e. P e.subject) (events_from most still_open ms)
+  pub each_own : (R : Rules) (past : List Event) (ms : List CutMessage) →
+      Each (λ e. P e.subject) (events_from R past ms)
       → Each (λ m. P (message_key m)) ms
   unfolding events_from
-  each_own still_open [] h = tt
-  each_own still_open (m ∷ ms) h =
-      let es = events_of most still_open m in
-      let parts = each_parts (λ e. P e.subject) es (events_from most (opened still_open es) ms) h in
-      (first_own still_open m parts.0, each_own (opened still_open es) ms parts.1)
+  each_own R past [] h = tt
+  each_own R past (m ∷ ms) h =
+      let es = events_of R.most (before_by R past) m in
+      let parts = each_parts (λ e. P e.subject) es (events_from R (past ++ es) ms) h in
+      (first_own R.most (before_by R past) m parts.0, each_own R (past ++ es) ms parts.1)
 
 -- the owner of the next octet is the current message or an open one
-pub of_owner : (P : MessageKey → Type 0) (most : ℕ) (p : List ℕ) (w : MessageKey) →
-    owner_of_next_in (open_after most p) (cut p).current ≡ Some w
-    → Each (λ e. P e.subject) (events most p) → P w
-unfolding events messages open_after owner_of_next opener_of
-of_owner P most p w owner h =
+pub of_owner : (P : MessageKey → Type 0) (R : Rules) (p : List ℕ) (w : MessageKey) →
+    owner_of_next_in (before_by R (events R p)) (cut p).current ≡ Some w
+    → Each (λ e. P e.subject) (events R p) → P w
+unfolding events messages before_by owner_of_next opener_of
+of_owner P R p w owner h =
     let own = (each_parts (λ m. P (message_key m)) (cut p).whole (option_to_list (cut p).current)
-    (each_own P most [] (messages (cut p)) h)).1 in
+    (each_own P R [] (messages (cut p)) h)).1 in
     go (cut p).current own owner
   where
-    other : (m : CutMessage) (o : Option Open) → opener_of (open_after most p) m ≡ o →
-        opener_key o ≡ Some w → P w
+    b : Before
+    b = before_by R (events R p)
+
+    other : (m : CutMessage) (o : Option Open) → opener_of b m ≡ o → opener_key o ≡ Some w → P w
     other m None e k = absurd cc
     other m (Some o) e k =
         let same : o.opener ≡ w = cc in
-        subst P same (found_under (λ o. P o.opener) (open_after most p) (key m) o
-        (opened_each P [] (events most p) tt h) e)
+        subst P same (found_under (λ o. P o.opener) b (key m) o
+        (opened_each P [] (events R p) tt h) e)
 
-    by : (m : CutMessage) → P (message_key m) → (b : Bool)
-        → (if b then opener_key (opener_of (open_after most p) m) else Some (message_key m))
+    by : (m : CutMessage) → P (message_key m) → (named : Bool)
+        → (if named then opener_key (opener_of b m) else Some (message_key m))
         ≡ Some w → P w
-    by m own true k = other m (opener_of (open_after most p) m) refl k
+    by m own true k = other m (opener_of b m) refl k
     by m own false k = search (arith)
 
     go : (current : Option CutMessage) → Each (λ m. P (message_key m)) (option_to_list current) →
-        owner_of_next_in (open_after most p) current ≡ Some w → P w
+        owner_of_next_in b current ≡ Some w → P w
     go None own k = absurd cc
     go (Some m) own k = by m own.0 (has_named m) k
 
 -- ---- What holds of each message holds of the message of each event.
 
-module _ (P : MessageKey → Type 0) (most : ℕ) where
-  of_message : (still_open : List Open) (m : CutMessage) → Each (λ o. P o.opener) still_open →
+module _ (P : MessageKey → Type 0) where
+  of_message : (most : ℕ) (b : Before) (m : CutMessage) → Each (λ o. P o.opener) b.still_open →
       P (message_key m)
-      → Each (λ e. P e.subject) (events_of most still_open m)
+      → Each (λ e. P e.subject) (events_of most b m)
   unfolding events_of
-  of_message still_open m openers own = go (fronts m.payload)
+  of_message most b m openers own = go (fronts m.payload)
     where
       go : (fs : List (List ℕ)) → Each (λ e. P e.subject)
-          (flat_map (λ front. events_of_octet most still_open (with_payload m front)) fs)
+          (flat_map (λ front. events_of_octet most b (with_payload m front)) fs)
       go [] = tt
       go (f ∷ fs) = search (arith, each_append, events_of_octet_each, each_weaker, go fs)
 
-  of_messages : (still_open : List Open) (ms : List CutMessage) →
-      Each (λ o. P o.opener) still_open →
+  of_messages : (R : Rules) (past : List Event) (ms : List CutMessage) →
+      Each (λ o. P o.opener) (opened [] past) →
       Each (λ m. P (message_key m)) ms
-      → Each (λ e. P e.subject) (events_from most still_open ms)
-  unfolding events_from
-  of_messages still_open [] openers own = tt
-  of_messages still_open (m ∷ ms) openers own =
-      let es = events_of most still_open m in
-      let first = of_message still_open m openers own.0 in
+      → Each (λ e. P e.subject) (events_from R past ms)
+  unfolding events_from before_by
+  of_messages R past [] openers own = tt
+  of_messages R past (m ∷ ms) openers own =
+      let es = events_of R.most (before_by R past) m in
+      let first = of_message R.most (before_by R past) m openers own.0 in
       each_append (λ e. P e.subject) es _ first
-      (of_messages (opened still_open es) ms (opened_each P still_open es openers first) own.1)
+      (of_messages R (past ++ es) ms
+      (rw (opened_append [] past es) (opened_each P (opened [] past) es openers first)) own.1)
 
 -- the events of one message number have one header
-pub one_header : (most : ℕ) (p : List ℕ) → Each
+pub one_header : (R : Rules) (p : List ℕ) → Each
     (λ e. header_of_number (messages (cut p)) e.subject.number ≡ Some e.subject.header)
-    (events most p)
-unfolding events
-one_header most p =
-    of_messages (λ w. header_of_number (messages (cut p)) w.number ≡ Some w.header) most []
+    (events R p)
+unfolding events opened
+one_header R p =
+    of_messages (λ w. header_of_number (messages (cut p)) w.number ≡ Some w.header) R []
     (messages (cut p)) tt (own_header p)

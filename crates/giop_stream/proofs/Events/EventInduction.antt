@@ -3,10 +3,9 @@
 use Rattle.std.proofs.Common.{arith, ℕ, Bool, true, false, List, [], ◌++◌, Option, Some, None}
 use Rattle.std.specs.Prelude.{◌==◌, if◌then◌else◌}
 use Rattle.giop_stream.specs.declared.fault.FramingFault.{FramingFault}
-use Rattle.giop_stream.specs.declared.fault.FramingFault.TheVariants.{OldFragment, IdOpen}
 use Rattle.giop_message.specs.Headers.{size}
-use Rattle.giop_stream.specs.Kinds.{named_at}
-use Rattle.giop_stream.specs.Events.{EventKind, Begins, Takes, Faults, Event, Open, Now, own, event_of_open, header_events, opens, unopened, continues, cancels, naming_events, message_end_events}
+use Rattle.giop_stream.specs.Kinds.{is_old, named_at}
+use Rattle.giop_stream.specs.Events.{EventKind, Begins, Takes, Opens, Continues, Seams, Faults, Event, Open, Before, Now, own, event_of_open, header_events, refusal, opens_unless, opens, order_fault, seams, unopened, continues, is_id, pending, cancel_of, cancels, naming_events, message_end_events}
 
 -- the events that may come after those of an octet's first part
 abbrev pub IsLater : EventKind → Type 0
@@ -29,40 +28,61 @@ pub of_header : (Q : List Event → Type 0) → IsJoined Q → (now : Now) → Q
 unfolding header_events
 of_header Q j now begins h = search (arith)
 
--- Q holds of each later event of the message itself, and of each of the open message
-pub record HoldsOf (Q : List Event → Type 0) (now : Now) (other : Option Open) : Type 0 where
+-- Q holds of each later event of the message itself, of the open message under its key, and of the
+-- one that Fragments of 1.1 continue.
+pub record HoldsOf (Q : List Event → Type 0) (b : Before) (now : Now) (other : Option Open) :
+    Type 0 where
   pub mine : (what : EventKind) → IsLater what → Q (own now what)
   pub theirs : (what : EventKind) → IsLater what → Q (event_of_open now other what)
+  pub waiting : (what : EventKind) → IsLater what → Q (event_of_open now (pending b) what)
 
-module _ (most : ℕ) (Q : List Event → Type 0) (j : IsJoined Q) (still_open : List Open) (now : Now)
-  where
-    of_opens : (key : Option ℕ) (other : Option Open) → HoldsOf Q now other →
-        Q (opens most still_open now key other)
-    of_opens None other h = h.mine (Faults OldFragment) tt
-    of_opens (Some id) None h = search (arith, either)
-    of_opens (Some id) (Some o) h = h.mine (Faults IdOpen) tt
+module _ (most : ℕ) (Q : List Event → Type 0) (j : IsJoined Q) (b : Before) (now : Now) where
+  of_opening : (key : Option ℕ) (other : Option Open) → HoldsOf Q b now other →
+      (fault : Option FramingFault) → Q (opens_unless now key fault)
+  of_opening key other h None = h.mine (Opens key) tt
+  of_opening key other h (Some fault) = h.mine (Faults fault) tt
 
-    of_continues : (key : Option ℕ) (other : Option Open) → HoldsOf Q now other →
-        Q (continues now key other)
-    of_continues key None h = h.mine (Faults (unopened key)) tt
-    of_continues key (Some o) h = search (arith, either)
+  of_opens : (key : Option ℕ) (other : Option Open) → HoldsOf Q b now other →
+      Q (opens most b now key other)
+  of_opens key other h = of_opening key other h (refusal most b key other)
 
-    of_cancels : (other : Option Open) → HoldsOf Q now other → Q (cancels now other)
-    of_cancels None h = j.none
-    of_cancels (Some o) h = search (arith, either)
+  of_continues : (key : Option ℕ) (other : Option Open) → HoldsOf Q b now other →
+      Q (continues b now key other)
+  of_continues key None h = h.mine (Faults (unopened b key)) tt
+  of_continues key (Some o) h =
+      j.both (own now (Continues o.opener.number)) (seams now o ++ order_fault now o)
+      (h.mine (Continues o.opener.number) tt)
+      (j.both (seams now o) (order_fault now o)
+      (either Q (is_old now.subject.header) _ _ (h.theirs Seams tt) j.none)
+      (search (arith, either)))
 
-    pub of_name : (key : Option ℕ) (other : Option Open) → HoldsOf Q now other →
-        Q (naming_events most still_open now key other)
-    unfolding naming_events
-    of_name key other h = search (arith, either, of_continues, of_opens, of_cancels)
+  of_cancel : (o : Option Open)
+      → ((what : EventKind) → IsLater what → Q (event_of_open now o what)) → Q (cancel_of now o)
+  of_cancel None h = j.none
+  of_cancel (Some o) h = search (arith, either)
 
-    pub of_end : (other : Option Open) → HoldsOf Q now other → Q (message_end_events now other)
-    unfolding message_end_events
-    of_end other h = search (arith, either)
+  of_pending : (test : Bool) → ((what : EventKind) → IsLater what →
+      Q (event_of_open now (pending b) what)) → Q (cancel_of now (if test then pending b else None))
+  of_pending true h = of_cancel (pending b) h
+  of_pending false h = j.none
 
-    pub of_later : (key : Option ℕ) (other : Option Open) → HoldsOf Q now other
-        → Q ((if now.payload_count == named_at now.subject.header
-        then naming_events most still_open now key other else [])
-        ++ (if now.payload_count == size now.subject.header then message_end_events now other else
-        []))
-    of_later key other h = search (arith, either, of_name, of_end)
+  of_cancels : (key : Option ℕ) (other : Option Open) → HoldsOf Q b now other →
+      Q (cancels b now key other)
+  of_cancels key None h = of_pending (is_id key b.asked) h.waiting
+  of_cancels key (Some o) h = of_cancel (Some o) h.theirs
+
+  pub of_name : (key : Option ℕ) (other : Option Open) → HoldsOf Q b now other →
+      Q (naming_events most b now key other)
+  unfolding naming_events
+  of_name key other h = search (arith, either, of_continues, of_opens, of_cancels)
+
+  pub of_end : (other : Option Open) → HoldsOf Q b now other → Q (message_end_events now other)
+  unfolding message_end_events
+  of_end other h = search (arith, either)
+
+  pub of_later : (key : Option ℕ) (other : Option Open) → HoldsOf Q b now other
+      → Q ((if now.payload_count == named_at now.subject.header
+      then naming_events most b now key other else [])
+      ++ (if now.payload_count == size now.subject.header then message_end_events now other else
+      []))
+  of_later key other h = search (arith, either, of_name, of_end)

@@ -1,12 +1,13 @@
 -- The events of an octet, computed from the fields of an engine, are the same as those computed
 -- from the message.
 use Rattle.std.proofs.Common.{◌≡◌, ℕ, ◌<◌, Bool, true, false, List, [], ◌∷◌, refl, Option, Some, None, arith}
-use Rattle.std.specs.Prelude.{◌==◌, if◌then◌else◌}
+use Rattle.std.specs.Prelude.{◌==◌, if◌then◌else◌, is_none}
 use Rattle.std.specs.List.{find, AllByRecursion as Each}
 use Rattle.std.proofs.lemmas.Bool.{cases_lt, cases_eq, le-ltb, ne_eqb, eq-eqb, eqb-true, and_right}
 use Rattle.giop_message.specs.Headers.{size}
-use Rattle.giop_stream.specs.Kinds.{is_any_fragment, has_place, named_at}
-use Rattle.giop_stream.specs.Events.{Open, Rising, Now, is_id, open_under, payload_events, naming_events, message_end_events, events_with_key}
+use Rattle.giop_stream.specs.Kinds.{is_any_fragment, named_at}
+use Rattle.giop_stream.specs.PayloadOwner.{has_place}
+use Rattle.giop_stream.specs.Events.{Open, Before, Rising, Now, is_id, pending, open_under, payload_events, naming_events, message_end_events, events_with_key}
 use Rattle.giop_stream.specs.EngineState.{opener_key}
 use Rattle.giop_stream.specs.EngineStep.{numbered}
 use Rattle.giop_stream.proofs.Events.MessageKinds.{short_fragment, unplaced}
@@ -14,19 +15,19 @@ use Rattle.giop_stream.proofs.Events.MessageKinds.{short_fragment, unplaced}
 -- ---- The key and its open message matter only at the octet with which a message has its place
 -- among the open ones, and in a Fragment after it.
 
-module _ (most : ℕ) (still_open : List Open) (now : Now) (i j : Option ℕ) (o q : Option Open) where
-  at_name : now.payload_count ≡ named_at now.subject.header → (b : Bool) →
-      has_place now.subject.header ≡ b
-      → (b ≡ true → (i ≡ j) × (o ≡ q)) → events_with_key most still_open now i o
-      ≡ events_with_key most still_open now j q
+module _ (most : ℕ) (b : Before) (now : Now) (i j : Option ℕ) (o q : Option Open) where
+  at_name : now.payload_count ≡ named_at now.subject.header → (c : Bool) →
+      has_place now.subject.header ≡ c
+      → (c ≡ true → (i ≡ j) × (o ≡ q)) → events_with_key most b now i o
+      ≡ events_with_key most b now j q
   unfolding events_with_key payload_events naming_events message_end_events
   at_name named true e h = search (arith)
   at_name named false e h = search (arith, unplaced)
 
   short_end : now.payload_count < named_at now.subject.header →
-      is_any_fragment now.subject.header ≡ true → (b : Bool) →
-      (now.payload_count == size now.subject.header) ≡ b
-      → (if b then message_end_events now o else []) ≡ (if b then message_end_events now q else [])
+      is_any_fragment now.subject.header ≡ true → (c : Bool) →
+      (now.payload_count == size now.subject.header) ≡ c
+      → (if c then message_end_events now o else []) ≡ (if c then message_end_events now q else [])
   unfolding message_end_events
   short_end few f true e = search (arith, eqb-true, short_fragment)
   short_end few f false e = refl
@@ -36,10 +37,10 @@ module _ (most : ℕ) (still_open : List Open) (now : Now) (i j : Option ℕ) (o
   unfolding payload_events
   few_octets few = search (arith, le-ltb, and_right)
 
-  elsewhere : (now.payload_count ≡ named_at now.subject.header → ⊥) → (b : Bool) →
-      is_any_fragment now.subject.header ≡ b
-      → (b ≡ true → named_at now.subject.header < now.payload_count → o ≡ q) →
-      events_with_key most still_open now i o ≡ events_with_key most still_open now j q
+  elsewhere : (now.payload_count ≡ named_at now.subject.header → ⊥) → (c : Bool) →
+      is_any_fragment now.subject.header ≡ c
+      → (c ≡ true → named_at now.subject.header < now.payload_count → o ≡ q) →
+      events_with_key most b now i o ≡ events_with_key most b now j q
   unfolding events_with_key payload_events message_end_events
   elsewhere other false f h = search (arith, ne_eqb)
   elsewhere other true f h = search (arith, cases_lt, ne_eqb, few_octets, short_end)
@@ -48,7 +49,7 @@ module _ (most : ℕ) (still_open : List Open) (now : Now) (i j : Option ℕ) (o
       has_place now.subject.header ≡ true → (i ≡ j) × (o ≡ q))
       → (named_at now.subject.header < now.payload_count → is_any_fragment now.subject.header ≡ true
       → o ≡ q) →
-      events_with_key most still_open now i o ≡ events_with_key most still_open now j q
+      events_with_key most b now i o ≡ events_with_key most b now j q
   events_with_key_agree h k = search (arith, cases_eq, at_name, elsewhere)
 
 -- ---- An open message is found by its number, since the numbers rise.
@@ -75,12 +76,23 @@ found_again test (a ∷ still_open) h = search (
       still_open h.1,
 )
 
-pub found_under : (Q : Open → Type 0) (still_open : List Open) (key : Option ℕ) (o : Open) →
-    Each Q still_open → open_under still_open key ≡ Some o → Q o
-found_under Q still_open None o h e = absurd cc
-found_under Q still_open (Some id) o h e = found_in Q (λ o. is_id id o.key) still_open o h e
+pub found_under : (Q : Open → Type 0) (b : Before) (key : Option ℕ) (o : Open) →
+    Each Q b.still_open → open_under b key ≡ Some o → Q o
+unfolding pending
+found_under Q b None o h e = go b.mixed e
+  where
+    go : (c : Bool) → (if c then None else find (λ o. is_none o.key) b.still_open) ≡ Some o → Q o
+    go true e = absurd cc
+    go false e = found_in Q (λ o. is_none o.key) b.still_open o h e
+found_under Q b (Some id) o h e = found_in Q (λ o. is_id o.key (Some id)) b.still_open o h e
 
-pub found_under_again : (still_open : List Open) (key : Option ℕ) → Rising still_open →
-    numbered still_open (opener_key (open_under still_open key)) ≡ open_under still_open key
-found_under_again still_open None h = refl
-found_under_again still_open (Some id) h = found_again (λ o. is_id id o.key) still_open h
+pub found_under_again : (b : Before) (key : Option ℕ) → Rising b.still_open →
+    numbered b.still_open (opener_key (open_under b key)) ≡ open_under b key
+unfolding pending
+found_under_again b None h = go b.mixed
+  where
+    go : (c : Bool) → (let w = if c then None else find (λ o. is_none o.key) b.still_open in
+        numbered b.still_open (opener_key w) ≡ w)
+    go true = refl
+    go false = found_again (λ o. is_none o.key) b.still_open h
+found_under_again b (Some id) h = found_again (λ o. is_id o.key (Some id)) b.still_open h

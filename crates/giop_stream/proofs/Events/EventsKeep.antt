@@ -1,13 +1,14 @@
 -- Properties of the open messages that the events of an octet keep.
 use Rattle.std.proofs.Common.{◌≡◌, ℕ, ◌<◌, ◌≤◌, Bool, true, false, cond, not, List, [], ◌∷◌, ◌++◌, length, refl, Option, Some, None, arith}
 use Rattle.std.specs.List.{filter, find, AllByRecursion as Each}
-use Rattle.std.specs.Prelude.{if◌then◌else◌}
+use Rattle.std.specs.Prelude.{if◌then◌else◌, ◌&&◌, is_none, nat_le}
 use Rattle.std.proofs.lemmas.Bool.{leb-false, eqb-true, eq-eqb}
 use Rattle.std.proofs.lemmas.List.{length_push}
 use Rattle.giop_stream.specs.declared.fault.FramingFault.{FramingFault}
-use Rattle.giop_stream.specs.Kinds.{is_old, has_fragments, named_at}
+use Rattle.giop_stream.specs.declared.fault.FramingFault.TheVariants.{OldFragment, TooManyOpen}
+use Rattle.giop_stream.specs.Kinds.{has_fragments, named_at}
 use Rattle.giop_stream.specs.Framing.{CutMessage}
-use Rattle.giop_stream.specs.Events.{EventKind, Opens, Cancelled, Faults, Closes, MessageKey, Event, Open, message_key, own, event_of_open, id, key, is_id, opener_of, opens, cancels, events_at_name, events_at_end, events_of_octet, changed, opened, Rising, now_of, naming_events, message_end_events}
+use Rattle.giop_stream.specs.Events.{EventKind, Opens, Cancelled, Faults, Closes, MessageKey, Event, Open, Before, message_key, own, event_of_open, id, key, is_id, pending, open_under, opener_of, taken, full, opens_unless, opens, cancel_of, events_at_name, events_at_end, events_of_octet, changed, opened, Rising, now_of, naming_events, message_end_events}
 use Rattle.giop_stream.proofs.Lists.{each_append, each_filter}
 use Rattle.giop_stream.proofs.Events.EventsOfOctet.{opened_append, quiet_if, quiet_header, quiet_octet, quiet_continues}
 
@@ -18,22 +19,20 @@ unfoldable pub opened_by : CutMessage → Open
 opened_by m = record { key = key m; opener = message_key m }
 
 -- the case in which m becomes open
-pub record CanOpen (most : ℕ) (still_open : List Open) (m : CutMessage) : Type 0 where
+pub record CanOpen (most : ℕ) (b : Before) (m : CutMessage) : Type 0 where
   pub named : length m.payload ≡ named_at m.header
   pub opener : has_fragments m.header ≡ true
-  pub id_is : key m ≡ Some (id m)
-  pub none : opener_of still_open m ≡ None
-  pub room : length still_open < most
+  pub none : opener_of b m ≡ None
+  pub clear : (is_none (key m) && b.mixed) ≡ false
+  pub room : length b.still_open < most
 
-pub record IsKept (most : ℕ) (Q : List Open → Type 0) (still_open : List Open) (m : CutMessage) :
-    Type
-    0 where
+pub record IsKept (most : ℕ) (Q : List Open → Type 0) (b : Before) (m : CutMessage) : Type 0 where
   pub fewer : (test : Open → Bool) (still_open : List Open) → Q still_open →
       Q (filter test still_open)
-  pub more : CanOpen most still_open m → Q still_open → Q (still_open ++ opened_by m ∷ [])
+  pub more : CanOpen most b m → Q b.still_open → Q (b.still_open ++ opened_by m ∷ [])
 
-module _ (most : ℕ) (Q : List Open → Type 0) (now : List Open) (m : CutMessage)
-    (k : IsKept most Q now m) where
+module _ (most : ℕ) (Q : List Open → Type 0) (b : Before) (m : CutMessage)
+    (k : IsKept most Q b m) where
   -- an event that opens no message keeps Q
   abbrev Plain : EventKind → Type 0
   Plain what = (still_open : List Open) (subject : MessageKey) → Q still_open →
@@ -62,9 +61,9 @@ module _ (most : ℕ) (Q : List Open → Type 0) (now : List Open) (m : CutMessa
   unfolding changed
   plain_faulted fault still_open subject q = q
 
-  kept_if : (still_open : List Open) (b : Bool) (es more : List Event) →
-      (b ≡ true → Q (opened still_open es))
-      → (b ≡ false → Q (opened still_open more)) → Q (opened still_open (if b then es else more))
+  kept_if : (still_open : List Open) (c : Bool) (es more : List Event) →
+      (c ≡ true → Q (opened still_open es))
+      → (c ≡ false → Q (opened still_open more)) → Q (opened still_open (if c then es else more))
   kept_if still_open true es more h j = h refl
   kept_if still_open false es more h j = j refl
 
@@ -72,10 +71,10 @@ module _ (most : ℕ) (Q : List Open → Type 0) (now : List Open) (m : CutMessa
   unfolding opened
   kept_none still_open q = q
 
-  kept_end : (before still_open : List Open) → Q still_open →
-      Q (opened still_open (events_at_end before m))
+  kept_end : (still_open : List Open) → Q still_open →
+      Q (opened still_open (events_at_end b m))
   unfolding message_end_events
-  kept_end before still_open q = search (
+  kept_end still_open q = search (
     arith,
     kept_if,
     plain_own,
@@ -85,42 +84,57 @@ module _ (most : ℕ) (Q : List Open → Type 0) (now : List Open) (m : CutMessa
     plain_closes,
   )
 
-  now_open : CanOpen most now m → Q now → Q (opened now (own (now_of m) (Opens (key m))))
+  now_open : CanOpen most b m → Q b.still_open →
+      Q (opened b.still_open (own (now_of m) (Opens (key m))))
   unfolding own opened changed opened_by
   now_open can q = k.more can q
 
-  kept_opens : length m.payload ≡ named_at m.header → has_fragments m.header ≡ true → Q now →
-      (w : Option Open) → opener_of now m ≡ w → (b : Bool) → is_old m.header ≡ b
-      → Q (opened now (opens most now (now_of m) (key m) w))
-  unfolding key
-  kept_opens named o q w e true old = search (arith, plain_own, plain_faulted)
-  kept_opens named o q (Some other) e false old = search (arith, plain_own, plain_faulted)
-  kept_opens named o q None e false old = search (
-    arith,
-    kept_if,
-    plain_own,
-    plain_faulted,
-    now_open,
-    leb-false,
-  )
+  kept_refused : (fault : FramingFault) → Q b.still_open →
+      Q (opened b.still_open (own (now_of m) (Faults fault)))
+  kept_refused fault q = plain_own b.still_open (Faults fault) (plain_faulted fault) q
 
-  kept_cancels : Q now → (o : Option Open) → Q (opened now (cancels (now_of m) o))
-  kept_cancels q None = kept_none now q
-  kept_cancels q (Some o) = search (arith, kept_if, plain_about, plain_cancelled, kept_none)
+  kept_room : (c d : Bool) → (is_none (key m) && b.mixed) ≡ c
+      → nat_le most (length b.still_open) ≡ d
+      → length m.payload ≡ named_at m.header → has_fragments m.header ≡ true →
+      opener_of b m ≡ None → Q b.still_open
+      → Q (opened b.still_open (opens_unless (now_of m) (key m)
+      (if c then Some OldFragment else if d then Some TooManyOpen else None)))
+  kept_room true d e full named o none q = kept_refused OldFragment q
+  kept_room false true e full named o none q = kept_refused TooManyOpen q
+  kept_room false false e full named o none q =
+      now_open (record {
+        named = named;
+        opener = o;
+        none = none;
+        clear = e;
+        room = leb-false most (length b.still_open) full;
+      }) q
 
-  pub kept_name : length m.payload ≡ named_at m.header → Q now →
-      Q (opened now (events_at_name most now m))
+  kept_opens : length m.payload ≡ named_at m.header → has_fragments m.header ≡ true →
+      Q b.still_open → (w : Option Open) → opener_of b m ≡ w →
+      Q (opened b.still_open (opens most b (now_of m) (key m) w))
+  kept_opens named o q (Some other) e = kept_refused (taken (key m)) q
+  kept_opens named o q None e = kept_room (is_none (key m) && b.mixed)
+      (nat_le most (length b.still_open)) refl refl named o e q
+
+  kept_cancel : Q b.still_open → (o : Option Open) →
+      Q (opened b.still_open (cancel_of (now_of m) o))
+  kept_cancel q None = kept_none b.still_open q
+  kept_cancel q (Some o) = search (arith, kept_if, plain_about, plain_cancelled, kept_none)
+
+  pub kept_name : length m.payload ≡ named_at m.header → Q b.still_open →
+      Q (opened b.still_open (events_at_name most b m))
   unfolding naming_events
   kept_name named q = search (
     arith,
     kept_if,
     quiet_continues,
     kept_opens,
-    kept_cancels,
+    kept_cancel,
     kept_none,
   )
 
-  kept_parts : Q now → Q (opened now (events_of_octet most now m))
+  kept_parts : Q b.still_open → Q (opened b.still_open (events_of_octet most b m))
   unfolding events_of_octet
   kept_parts q = search (
     arith,
@@ -135,10 +149,9 @@ module _ (most : ℕ) (Q : List Open → Type 0) (now : List Open) (m : CutMessa
     kept_end,
   )
 
-pub kept_events : (most : ℕ) (Q : List Open → Type 0) (still_open : List Open) (m : CutMessage) →
-    IsKept most Q still_open m → Q still_open →
-    Q (opened still_open (events_of_octet most still_open m))
-kept_events most Q still_open m k q = kept_parts most Q still_open m k q
+pub kept_events : (most : ℕ) (Q : List Open → Type 0) (b : Before) (m : CutMessage) →
+    IsKept most Q b m → Q b.still_open → Q (opened b.still_open (events_of_octet most b m))
+kept_events most Q b m k q = kept_parts most Q b m k q
 
 -- ---- The numbers of the open messages rise.
 
@@ -161,13 +174,13 @@ pub rising_push : (still_open : List Open) (o : Open) → Rising still_open →
 rising_push [] o h k = (tt, tt)
 rising_push (a ∷ still_open) o h k = search (arith, each_append, rising_push still_open o h.1 k.1)
 
-pub rising_events : (most : ℕ) (still_open : List Open) (m : CutMessage) → Rising still_open →
-    (length m.payload ≡ named_at m.header → Below m.number still_open) →
-    Rising (opened still_open (events_of_octet most still_open m))
-rising_events most still_open m r h =
-    kept_events most Rising still_open m (record {
+pub rising_events : (most : ℕ) (b : Before) (m : CutMessage) → Rising b.still_open →
+    (length m.payload ≡ named_at m.header → Below m.number b.still_open) →
+    Rising (opened b.still_open (events_of_octet most b m))
+rising_events most b m r h =
+    kept_events most Rising b m (record {
       fewer = rising_filter;
-      more = λ can q. unfold opened_by in rising_push still_open
+      more = λ can q. unfold opened_by in rising_push b.still_open
           (record { key = key m; opener = message_key m }) q (h can.named);
     }) r
 
@@ -191,13 +204,13 @@ few_push : (most : ℕ) (still_open : List Open) (o : Open) → length still_ope
 unfolding IsFew
 few_push most still_open o h = search (arith, length_push)
 
-pub few_events : (most : ℕ) (still_open : List Open) (m : CutMessage) → IsFew most still_open →
-    IsFew most (opened still_open (events_of_octet most still_open m))
-few_events most still_open m h = kept_events most (IsFew most) still_open m
+pub few_events : (most : ℕ) (b : Before) (m : CutMessage) → IsFew most b.still_open →
+    IsFew most (opened b.still_open (events_of_octet most b m))
+few_events most b m h = kept_events most (IsFew most) b m
     (record {
       fewer = few_filter most;
       more =
-          λ can q. few_push most still_open (opened_by m) can.room;
+          λ can q. few_push most b.still_open (opened_by m) can.room;
     }) h
 
 -- ---- No two open messages have the same key.
@@ -223,33 +236,46 @@ differ_push : (still_open : List Open) (o : Open) → Differ still_open →
 differ_push [] o h k = (tt, tt)
 differ_push (a ∷ still_open) o h k = search (arith, each_append, differ_push still_open o h.1 k.1)
 
--- a key is this request id exactly if the test says so
-pub key_apart : (i : ℕ) (k : Option ℕ) → is_id i k ≡ false → (k ≡ Some i → ⊥)
+-- no open message has the key of a message for which none is found
+pub key_apart : (i : ℕ) (k : Option ℕ) → is_id k (Some i) ≡ false → (k ≡ Some i → ⊥)
 key_apart i None e is = absurd cc
 key_apart i (Some id) e is = search (arith, eq-eqb)
 
-none_by : (i : ℕ) (a : Open) (still_open : List Open) (b : Bool) → is_id i a.key ≡ b
-    → (find (λ o. is_id i o.key) still_open ≡ None → Each (λ a. a.key ≡ Some i → ⊥) still_open)
-    → (if b then Some a else find (λ o. is_id i o.key) still_open) ≡ None
-    → (a.key ≡ Some i → ⊥) × Each (λ a. a.key ≡ Some i → ⊥) still_open
-none_by i a still_open true e ih k = absurd cc
-none_by i a still_open false e ih k = (key_apart i a.key e, ih k)
+keyed : (k : Option ℕ) → is_none k ≡ false → (k ≡ None → ⊥)
+keyed None e is = absurd cc
+keyed (Some id) e is = absurd cc
 
-none_found : (i : ℕ) (still_open : List Open) → find (λ o. is_id i o.key) still_open ≡ None →
-    Each (λ a. a.key ≡ Some i → ⊥) still_open
-none_found i [] h = tt
-none_found i (a ∷ still_open) h = none_by i a still_open (is_id i a.key) refl
-    (none_found i still_open) h
+none_by : (k : Option ℕ) (test : Open → Bool) → ((a : Open) → test a ≡ false → (a.key ≡ k → ⊥)) →
+    (a : Open) (still_open : List Open) (b : Bool) → test a ≡ b
+    → (find test still_open ≡ None → Each (λ a. a.key ≡ k → ⊥) still_open)
+    → (if b then Some a else find test still_open) ≡ None
+    → (a.key ≡ k → ⊥) × Each (λ a. a.key ≡ k → ⊥) still_open
+none_by k test apart a still_open true e ih h = absurd cc
+none_by k test apart a still_open false e ih h = (apart a e, ih h)
 
-pub differ_events : (most : ℕ) (still_open : List Open) (m : CutMessage) → Differ still_open →
-    Differ (opened still_open (events_of_octet most still_open m))
+none_found : (k : Option ℕ) (test : Open → Bool) →
+    ((a : Open) → test a ≡ false → (a.key ≡ k → ⊥)) → (still_open : List Open) →
+    find test still_open ≡ None → Each (λ a. a.key ≡ k → ⊥) still_open
+none_found k test apart [] h = tt
+none_found k test apart (a ∷ still_open) h = none_by k test apart a still_open (test a) refl
+    (none_found k test apart still_open) h
+
+none_under : (b : Before) (k : Option ℕ) → open_under b k ≡ None → (is_none k && b.mixed) ≡ false →
+    Each (λ a. a.key ≡ k → ⊥) b.still_open
+unfolding pending
+none_under b None none clear = none_found None (λ o. is_none o.key) (λ a. keyed a.key) b.still_open
+    (rw clear at none)
+none_under b (Some i) none clear = none_found (Some i) (λ o. is_id o.key (Some i))
+    (λ a. key_apart i a.key) b.still_open none
+
+pub differ_events : (most : ℕ) (b : Before) (m : CutMessage) → Differ b.still_open →
+    Differ (opened b.still_open (events_of_octet most b m))
 unfolding opener_of opened_by
-differ_events most still_open m h =
-    kept_events most Differ still_open m (record {
+differ_events most b m h =
+    kept_events most Differ b m (record {
       fewer = differ_filter;
-      more = λ can q. rw can.id_is (differ_push still_open
-          (record { key = Some (id m); opener = message_key m }) q
-          (none_found (id m) still_open (rw can.id_is at can.none)));
+      more = λ can q. differ_push b.still_open (record { key = key m; opener = message_key m }) q
+          (none_under b (key m) can.none can.clear);
     }) h
 
 -- ---- Each open message is an opener.
@@ -267,11 +293,11 @@ openers_push : (still_open : List Open) (o : Open) → AreOpeners still_open →
 unfolding AreOpeners
 openers_push still_open o h k = search (arith, each_append)
 
-pub openers_events : (most : ℕ) (still_open : List Open) (m : CutMessage) → AreOpeners still_open →
-    AreOpeners (opened still_open (events_of_octet most still_open m))
-openers_events most still_open m h =
-    kept_events most AreOpeners still_open m (record {
+pub openers_events : (most : ℕ) (b : Before) (m : CutMessage) → AreOpeners b.still_open →
+    AreOpeners (opened b.still_open (events_of_octet most b m))
+openers_events most b m h =
+    kept_events most AreOpeners b m (record {
       fewer = openers_filter;
-      more = λ can q. unfold opened_by in openers_push still_open
+      more = λ can q. unfold opened_by in openers_push b.still_open
           (record { key = key m; opener = message_key m }) q can.opener;
     }) h

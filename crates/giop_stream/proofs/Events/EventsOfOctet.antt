@@ -1,53 +1,46 @@
 -- The events of a stream with one more octet, and the open messages after them.
-use Rattle.std.proofs.Common.{inl, inr, ◌⊎◌, ◌≡◌, ℕ, ◌<◌, ◌≤◌, Bool, true, false, not, List, [], ◌∷◌, ◌++◌, length, refl, sym, append_assoc, Option, Some, None, arith}
-use Rattle.std.specs.List.{find, AllByRecursion as Each}
-use Rattle.std.specs.Prelude.{◌==◌, if◌then◌else◌}
+use Rattle.std.proofs.Common.{inl, inr, ◌⊎◌, ◌≡◌, ℕ, ◌<◌, ◌≤◌, Bool, true, false, not, List, [], ◌∷◌, ◌++◌, length, refl, sym, ap, ◌∙◌, append_assoc, Option, Some, None, arith}
+use Rattle.std.specs.List.{find, list_any, AllByRecursion as Each}
+use Rattle.std.specs.Prelude.{◌==◌, ◌&&◌, if◌then◌else◌, is_none}
 use Rattle.std.proofs.lemmas.Bool.{and_parts, lt-ltb, ltb-true, ltb-false, leb-false, lt-leb, le-ltb, cases_lt, ne_eqb, eqb-true}
 use Rattle.std.proofs.lemmas.List.{append-nil, length_push}
 use Rattle.std.proofs.lemmas.List.Concat.{flat_map-append}
 use Rattle.giop_stream.specs.declared.fault.FramingFault.{FramingFault}
 use Rattle.giop_stream.specs.HeaderOctets.{fronts}
 use Rattle.giop_message.specs.Headers.{size}
-use Rattle.giop_stream.specs.Kinds.{is_any_fragment, named_at}
+use Rattle.giop_stream.specs.Kinds.{is_old_opener, is_any_fragment, named_at, refused}
+use Rattle.giop_stream.specs.Rules.{Rules}
 use Rattle.giop_stream.specs.Framing.{CutMessage, with_payload}
-use Rattle.giop_stream.specs.Events.{EventKind, Begins, Takes, Opens, Continues, Cancelled, Faults, Closes, MessageKey, Event, Open, message_key, place, own, event_of_open, key, open_under, opener_of, has_named, goes_past, continues, events_at_name, events_of_octet, events_of, changed, opened, events_from, now_of, header_events, payload_events, naming_events, message_end_events, events_with_key, Now}
-use Rattle.giop_stream.proofs.Events.MessageKinds.{long_enough}
+use Rattle.giop_stream.specs.Events.{EventKind, Begins, Takes, Opens, Continues, Seams, Cancelled, Faults, Closes, MessageKey, Event, Open, Before, message_key, place, own, event_of_open, key, open_under, pending, opener_of, has_named, goes_past, order_fault, seams, unopened, continues, events_at_name, events_of_octet, events_of, changed, opened, refuses, mixes, before_by, events_from, now_of, header_events, payload_events, naming_events, message_end_events, events_with_key, Now}
+use Rattle.giop_stream.specs.declared.fault.FramingFault.TheVariants.{FragmentOrder}
+use Rattle.giop_stream.proofs.Events.MessageKinds.{long_enough, fragment_no_old, old_opener_low}
 use Rattle.giop_stream.proofs.Events.EventInduction.{IsJoined, either, of_header, of_later}
-use Rattle.giop_stream.proofs.Lists.{fronts_push, by_growth, each_append, each_filter}
+use Rattle.giop_stream.proofs.Events.KeptEvents.{OfOthers, mixed_same, before_same}
+pub use Rattle.giop_stream.proofs.Events.KeptEvents.{opened_append}
+use Rattle.giop_stream.proofs.Lists.{fronts_push, by_growth, each_append, each_filter, each_weaker, any_append}
 
-pub opened_append : (still_open : List Open) (es more : List Event) →
-    opened still_open (es ++ more) ≡ opened (opened still_open es) more
-unfolding opened
-opened_append still_open [] more = refl
-opened_append still_open (e ∷ es) more = opened_append (changed still_open e.subject e.what) es more
+pub events_from_push : (R : Rules) (past : List Event) (ms : List CutMessage) (m : CutMessage)
+    → events_from R past (ms ++ m ∷ []) ≡ events_from R past ms
+    ++ events_of R.most (before_by R (past ++ events_from R past ms)) m
+unfolding events_from
+events_from_push R past [] m = search (arith, append-nil)
+events_from_push R past (first ∷ ms) m =
+    let es = events_of R.most (before_by R past) first in
+    let more = events_from R (past ++ es) ms in
+    rw (events_from_push R (past ++ es) ms m, append_assoc past es more)
+    (sym (append_assoc es more (events_of R.most (before_by R (past ++ (es ++ more))) m)))
 
-pub events_from_push : (most : ℕ) (still_open : List Open) (ms : List CutMessage) (m : CutMessage)
-    → events_from most still_open (ms ++ m ∷ []) ≡ events_from most still_open ms
-    ++ events_of most (opened still_open (events_from most still_open ms)) m
-unfolding events_from opened
-events_from_push most still_open [] m = search (arith, append-nil)
-events_from_push most still_open (first ∷ ms) m =
-    let es = events_of most still_open first in
-    rw (
-      events_from_push most (opened still_open es) ms m,
-      opened_append still_open es (events_from most (opened still_open es) ms),
-    )
-    (sym (append_assoc es (events_from most (opened still_open es) ms)
-    (events_of most (opened (opened still_open es) (events_from most (opened still_open es) ms))
-    m)))
-
-pub events_of_push : (most : ℕ) (still_open : List Open) (m : CutMessage) (xs : List ℕ) (x : ℕ)
-    → events_of most still_open (with_payload m (xs ++ x ∷ []))
-    ≡ events_of most still_open (with_payload m xs) ++ events_of_octet most still_open
+pub events_of_push : (most : ℕ) (b : Before) (m : CutMessage) (xs : List ℕ) (x : ℕ)
+    → events_of most b (with_payload m (xs ++ x ∷ []))
+    ≡ events_of most b (with_payload m xs) ++ events_of_octet most b
     (with_payload m (xs ++ x ∷ []))
 unfolding events_of
-events_of_push most still_open m xs x = search (arith, fronts_push, flat_map-append, append-nil)
+events_of_push most b m xs x = search (arith, fronts_push, flat_map-append, append-nil)
 
-pub events_of_none : (most : ℕ) (still_open : List Open) (m : CutMessage) →
-    events_of most still_open (with_payload m [])
-    ≡ events_of_octet most still_open (with_payload m [])
+pub events_of_none : (most : ℕ) (b : Before) (m : CutMessage) →
+    events_of most b (with_payload m []) ≡ events_of_octet most b (with_payload m [])
 unfolding events_of fronts
-events_of_none most still_open m = search (arith, append-nil)
+events_of_none most b m = search (arith, append-nil)
 
 -- Events that change no open message.
 still_begins : (still_open : List Open) (subject : MessageKey) →
@@ -64,6 +57,11 @@ still_continues : (i : ℕ) (still_open : List Open) (subject : MessageKey) →
     changed still_open subject (Continues i) ≡ still_open
 unfolding changed
 still_continues i still_open subject = refl
+
+still_seams : (still_open : List Open) (subject : MessageKey) →
+    changed still_open subject Seams ≡ still_open
+unfolding changed
+still_seams still_open subject = refl
 
 pub still_faulted : (fault : FramingFault) (still_open : List Open) (subject : MessageKey) →
     changed still_open subject (Faults fault) ≡ still_open
@@ -112,10 +110,10 @@ pub quiet_octet : (still_open : List Open) (now : Now) (o : Option Open) →
 unfolding payload_events
 quiet_octet still_open now o = search (arith, quiet_if, quiet_about, still_takes, quiet_own)
 
-pub quiet_continues : (still_open : List Open) (now : Now) (key : Option ℕ) (o : Option Open) →
-    opened still_open (continues now key o) ≡ still_open
-quiet_continues still_open now key None = search (arith, quiet_own, still_faulted)
-quiet_continues still_open now key (Some o) = search (
+pub quiet_continues : (still_open : List Open) (b : Before) (now : Now) (key : Option ℕ)
+    (o : Option Open) → opened still_open (continues b now key o) ≡ still_open
+quiet_continues still_open b now key None = search (arith, quiet_own, still_faulted)
+quiet_continues still_open b now key (Some o) = search (
   arith,
   quiet_both,
   quiet_own,
@@ -123,6 +121,7 @@ quiet_continues still_open now key (Some o) = search (
   quiet_if,
   quiet_none,
   quiet_about,
+  still_seams,
   still_faulted,
 )
 
@@ -131,18 +130,18 @@ quiet_continues still_open now key (Some o) = search (
 abbrev pub IsQuiet : CutMessage → Type 0
 IsQuiet m = (length m.payload < named_at m.header) ⊎ (is_any_fragment m.header ≡ true)
 
-pub quiet_name : (most : ℕ) (still_open : List Open) (m : CutMessage) →
+pub quiet_name : (most : ℕ) (still_open : List Open) (b : Before) (m : CutMessage) →
     (length m.payload == named_at m.header) ≡ true → IsQuiet m →
-    opened still_open (events_at_name most still_open m) ≡ still_open
+    opened still_open (events_at_name most b m) ≡ still_open
 unfolding naming_events
-quiet_name most still_open m e (inl k) = search (arith, eqb-true)
-quiet_name most still_open m e (inr k) = search (arith, quiet_continues)
+quiet_name most still_open b m e (inl k) = search (arith, eqb-true)
+quiet_name most still_open b m e (inr k) = search (arith, quiet_continues)
 
-pub quiet_one : (most : ℕ) (still_open : List Open) (m : CutMessage) →
+pub quiet_one : (most : ℕ) (still_open : List Open) (b : Before) (m : CutMessage) →
     length m.payload < size m.header
-    → IsQuiet m → opened still_open (events_of_octet most still_open m) ≡ still_open
+    → IsQuiet m → opened still_open (events_of_octet most b m) ≡ still_open
 unfolding events_of_octet
-quiet_one most still_open m h k = search (
+quiet_one most still_open b m h k = search (
   arith,
   ne_eqb,
   quiet_both,
@@ -153,45 +152,263 @@ quiet_one most still_open m h k = search (
   quiet_none,
 )
 
-payload_run : (most : ℕ) (still_open : List Open) (m : CutMessage) (xs : List ℕ) →
-    length xs < size m.header → IsQuiet (with_payload m xs) →
-    opened still_open (events_of most still_open (with_payload m xs)) ≡ still_open
-payload_run most still_open m =
+-- If something holds of the events of each such octet, it holds of those of all these octets.
+early_run : (Q : List Event → Type 0) → IsJoined Q → (most : ℕ) (b : Before) (m : CutMessage) →
+    ((xs : List ℕ) → length xs < size m.header → IsQuiet (with_payload m xs) →
+    Q (events_of_octet most b (with_payload m xs))) → (xs : List ℕ) → length xs < size m.header →
+    IsQuiet (with_payload m xs) → Q (events_of most b (with_payload m xs))
+early_run Q j most b m each =
     by_growth (λ xs. length xs < size m.header → IsQuiet (with_payload m xs) →
-    opened still_open (events_of most still_open (with_payload m xs)) ≡ still_open)
-    (λ h k. rw (events_of_none most still_open m)
-    (quiet_one most still_open (with_payload m []) h k))
+    Q (events_of most b (with_payload m xs)))
+    (λ h k. rw (events_of_none most b m) (each [] h k))
     (λ xs x ih h k.
     let len = length_push xs x in
-    rw (
-      events_of_push most still_open m xs x,
-      opened_append still_open (events_of most still_open (with_payload m xs))
-          (events_of_octet most still_open (with_payload m (xs ++ x ∷ []))),
-      ih (omega arith) (elim k [ inl s ↦ inl (omega arith) | inr f ↦ inr f ]),
-    )
-    (quiet_one most still_open (with_payload m (xs ++ x ∷ [])) h k))
+    rw (events_of_push most b m xs x)
+    (j.both _ _ (ih (omega arith) (elim k [ inl s ↦ inl (omega arith) | inr f ↦ inr f ]))
+    (each (xs ++ x ∷ []) h k)))
 
--- The events of an octet are the same, whether they are computed from the messages that were open
--- before its message or from those that are open now.
-free : (most : ℕ) (still_open other : List Open) (m : CutMessage) →
-    named_at m.header < length m.payload → is_any_fragment m.header ≡ false →
-    events_of_octet most still_open m ≡ events_of_octet most other m
-unfolding events_of_octet payload_events message_end_events goes_past
-free most still_open other m h k = search (arith, ne_eqb)
+pub payload_run : (most : ℕ) (still_open : List Open) (b : Before) (m : CutMessage) (xs : List ℕ) →
+    length xs < size m.header → IsQuiet (with_payload m xs) →
+    opened still_open (events_of most b (with_payload m xs)) ≡ still_open
+payload_run most still_open b m xs h k =
+    early_run (λ es. opened still_open es ≡ still_open)
+    (record { none = quiet_none still_open; both = quiet_both still_open }) most b m
+    (λ xs. quiet_one most still_open b (with_payload m xs)) xs h k
 
-pub events_of_octet_same : (most : ℕ) (still_open : List Open) (m : CutMessage) (xs : List ℕ) (x :
-    ℕ) →
-    length xs < size m.header
-    → events_of_octet most still_open (with_payload m (xs ++ x ∷ []))
-    ≡ events_of_octet most (opened still_open (events_of most still_open (with_payload m xs)))
-    (with_payload m (xs ++ x ∷ []))
-events_of_octet_same most still_open m xs x h = search (
+-- ---- Nor is a message of 1.1 refused.
+
+-- these events refuse no message of 1.1 that Fragments may follow
+IsUnmixed : List Event → Type 0
+IsUnmixed es = list_any mixes es ≡ false
+
+unmixed_both : IsJoined IsUnmixed
+unfolding IsUnmixed
+unmixed_both = record {
+  none = refl;
+  both = λ es more h k. any_append mixes es more ∙ rw (h, k) refl;
+}
+
+unmixed_own : (now : Now) (what : EventKind) →
+    (is_old_opener now.subject.header && refuses what) ≡ false → IsUnmixed (own now what)
+unfolding IsUnmixed own mixes
+unmixed_own now what h = rw h refl
+
+and_false : (b : Bool) → (b && false) ≡ false
+and_false true = refl
+and_false false = refl
+
+unmixed_about : (now : Now) (o : Option Open) (what : EventKind) → refuses what ≡ false →
+    IsUnmixed (event_of_open now o what)
+unfolding IsUnmixed event_of_open mixes
+unmixed_about now None what h = refl
+unmixed_about now (Some o) what h = rw (h, and_false (is_old_opener o.opener.header)) refl
+
+-- a message of 1.1 that Fragments may follow isn't faulted by its header alone
+old_opener_fits : (h : List ℕ) → is_old_opener h ≡ true → refused h ≡ None
+unfolding refused
+old_opener_fits h o =
+    let low = old_opener_low h o in
+    grind arith
+
+unmixed_begins : (now : Now) → IsUnmixed (own now Begins)
+unmixed_begins now = unmixed_own now Begins (and_false (is_old_opener now.subject.header))
+
+unmixed_by : (now : Now) (b : Bool) → is_old_opener now.subject.header ≡ b →
+    IsUnmixed (header_events now)
+unfolding header_events
+unmixed_by now true o = rw (old_opener_fits now.subject.header o)
+    (unmixed_both.both (own now Begins) [] (unmixed_begins now) unmixed_both.none)
+unmixed_by now false o = of_header IsUnmixed unmixed_both now (unmixed_begins now)
+    (λ fault. unmixed_own now (Faults fault) (rw o refl))
+
+unmixed_header : (now : Now) → IsUnmixed (header_events now)
+unmixed_header now = unmixed_by now (is_old_opener now.subject.header) refl
+
+unmixed_octet : (now : Now) (o : Option Open) → IsUnmixed (payload_events now o)
+unfolding payload_events
+unmixed_octet now o = either IsUnmixed _ _ _ (unmixed_about now o (Takes now.octet) refl)
+    (unmixed_own now (Takes now.octet) (and_false (is_old_opener now.subject.header)))
+
+unmixed_continues : (b : Before) (now : Now) (key : Option ℕ) (o : Option Open) →
+    is_any_fragment now.subject.header ≡ true → IsUnmixed (continues b now key o)
+unmixed_continues b now key None f =
+    unmixed_own now (Faults (unopened b key)) (rw (fragment_no_old now.subject.header f) refl)
+unmixed_continues b now key (Some o) f =
+    unmixed_both.both (own now (Continues o.opener.number)) (seams now o ++ order_fault now o)
+    (unmixed_own now (Continues o.opener.number) (and_false (is_old_opener now.subject.header)))
+    (unmixed_both.both (seams now o) (order_fault now o)
+    (either IsUnmixed _ _ _ (unmixed_about now (Some o) Seams refl) unmixed_both.none)
+    (either IsUnmixed _ _ _ unmixed_both.none
+    (unmixed_about now (Some o) (Faults FragmentOrder) refl)))
+
+unmixed_name : (most : ℕ) (b : Before) (m : CutMessage) → IsQuiet m → (c : Bool) →
+    (length m.payload == named_at m.header) ≡ c →
+    IsUnmixed (if c then events_at_name most b m else [])
+unfolding naming_events
+unmixed_name most b m k false e = unmixed_both.none
+unmixed_name most b m (inl s) true e = absurd (omega (arith, s, eqb-true _ _ e))
+unmixed_name most b m (inr f) true e =
+    rw f (unmixed_continues b (now_of m) (key m) (opener_of b m) f)
+
+unmixed_end : (now : Now) (o : Option Open) → IsUnmixed (message_end_events now o)
+unfolding message_end_events
+unmixed_end now o = search (
   arith,
-  payload_run,
-  cases_lt,
-  free,
-  length_push,
+  either,
+  unmixed_own,
+  unmixed_about,
+  unmixed_both,
+  and_false,
 )
+
+unmixed_one : (most : ℕ) (b : Before) (m : CutMessage) → IsQuiet m →
+    IsUnmixed (events_of_octet most b m)
+unfolding events_of_octet
+unmixed_one most b m k =
+    unmixed_both.both _ _
+    (either IsUnmixed (length m.payload == 0) _ _ (unmixed_header (now_of m))
+    (unmixed_octet (now_of m) (opener_of b m)))
+    (unmixed_both.both _ _ (unmixed_name most b m k (length m.payload == named_at m.header) refl)
+    (either IsUnmixed (length m.payload == size m.header) _ _
+    (unmixed_end (now_of m) (opener_of b m)) unmixed_both.none))
+
+-- no Fragment is a message of 1.1 that Fragments may follow
+pub fragment_mixes : (most : ℕ) (b : Before) (m : CutMessage) → is_any_fragment m.header ≡ true →
+    list_any mixes (events_of_octet most b m) ≡ false
+unfolding IsUnmixed
+fragment_mixes most b m f = unmixed_one most b m (inr f)
+
+-- ---- The events of an octet are the same, whether they are computed from what stands before its
+-- message or from what stands before the octet.
+
+-- those of a Fragment need only the open messages
+pub opener_by : (b c : Before) (m : CutMessage) → c.still_open ≡ b.still_open → c.mixed ≡ b.mixed →
+    opener_of c m ≡ opener_of b m
+unfolding opener_of pending
+opener_by b c m same mixed = go (key m)
+  where
+    go : (k : Option ℕ) → open_under c k ≡ open_under b k
+    go None = rw (same, mixed) refl
+    go (Some id) = rw same refl
+
+continues_by : (b c : Before) (now : Now) (key : Option ℕ) (o : Option Open) →
+    c.mixed ≡ b.mixed → continues b now key o ≡ continues c now key o
+continues_by b c now key None mixed = rw mixed refl
+continues_by b c now key (Some o) mixed = refl
+
+fragment_same : (most : ℕ) (b c : Before) (m : CutMessage) → is_any_fragment m.header ≡ true →
+    c.still_open ≡ b.still_open → c.mixed ≡ b.mixed →
+    events_of_octet most b m ≡ events_of_octet most c m
+unfolding events_of_octet naming_events
+fragment_same most b c m f same mixed =
+    rw (
+      f,
+      opener_by b c m same mixed,
+      continues_by b c (now_of m) (key m) (opener_of b m) mixed,
+    ) refl
+
+-- those of another message need nothing after it has its place
+free : (most : ℕ) (b c : Before) (m : CutMessage) →
+    named_at m.header < length m.payload → is_any_fragment m.header ≡ false →
+    events_of_octet most b m ≡ events_of_octet most c m
+unfolding events_of_octet payload_events message_end_events goes_past
+free most b c m h k = search (arith, ne_eqb)
+
+-- before it has its place, each of its events is one of the message itself
+AreMine : CutMessage → List Event → Type 0
+AreMine m es = Each (λ e. e.subject.number ≡ m.number) es
+
+mine_both : (m : CutMessage) → IsJoined (AreMine m)
+unfolding AreMine
+mine_both m = record { none = tt; both = each_append (λ e. e.subject.number ≡ m.number) }
+
+mine_own : (m : CutMessage) (what : EventKind) → AreMine m (own (now_of m) what)
+unfolding AreMine own
+mine_own m what = (refl, tt)
+
+mine_one : (most : ℕ) (b : Before) (m : CutMessage) → length m.payload < size m.header →
+    length m.payload < named_at m.header → is_any_fragment m.header ≡ false →
+    AreMine m (events_of_octet most b m)
+unfolding events_of_octet payload_events
+mine_one most b m h k f =
+    rw (
+      ne_eqb (length m.payload) (size m.header) (λ e. omega (arith, h, e)),
+      ne_eqb (length m.payload) (named_at m.header) (λ e. omega (arith, k, e)),
+      f,
+    )
+    ((mine_both m).both _ []
+    (either (AreMine m) (length m.payload == 0) _ _
+    (of_header (AreMine m) (mine_both m) (now_of m) (mine_own m Begins)
+    (λ fault. mine_own m (Faults fault))) (mine_own m (Takes (now_of m).octet)))
+    (mine_both m).none)
+
+-- no open message is the message m, whose events these are
+of_others : (m : CutMessage) (still_open : List Open) (es : List Event) →
+    Each (λ o. o.opener.number < m.number) still_open → AreMine m es →
+    Each (λ o. OfOthers o.opener.number es) still_open
+unfolding AreMine
+of_others m still_open es low mine = each_weaker (λ o. o.opener.number < m.number)
+    (λ o. OfOthers o.opener.number es)
+    (λ o less. each_weaker (λ e. e.subject.number ≡ m.number)
+    (λ e. e.subject.number ≡ o.opener.number → ⊥) (λ e is same. omega (arith, less, is, same)) es
+    mine) still_open low
+
+module _ (R : Rules) (past : List Event) (m : CutMessage) (xs : List ℕ)
+    (few : length xs < size m.header) where
+  so_far : List Event
+  so_far = events_of R.most (before_by R past) (with_payload m xs)
+
+  at_octet : Before
+  at_octet = before_by R (past ++ so_far)
+
+  same_open : IsQuiet (with_payload m xs) → at_octet.still_open ≡ (before_by R past).still_open
+  unfolding at_octet so_far before_by
+  same_open k = opened_append [] past so_far
+      ∙ payload_run R.most (opened [] past) (before_by R past) m xs few k
+
+  same_mixed : IsQuiet (with_payload m xs) → at_octet.mixed ≡ (before_by R past).mixed
+  unfolding at_octet so_far IsUnmixed
+  same_mixed k = mixed_same R past so_far
+      (early_run IsUnmixed unmixed_both R.most (before_by R past) m
+      (λ ys h. unmixed_one R.most (before_by R past) (with_payload m ys)) xs few k)
+
+  same_early : length xs < named_at m.header → is_any_fragment m.header ≡ false →
+      Each (λ o. o.opener.number < m.number) (opened [] past) → at_octet ≡ before_by R past
+  unfolding at_octet so_far IsUnmixed AreMine
+  same_early short f low =
+      before_same R past so_far
+      (payload_run R.most (opened [] past) (before_by R past) m xs few (inl short))
+      (early_run IsUnmixed unmixed_both R.most (before_by R past) m
+      (λ ys h. unmixed_one R.most (before_by R past) (with_payload m ys)) xs few (inl short))
+      (of_others m (opened [] past) so_far low
+      (early_run (AreMine m) (mine_both m) R.most (before_by R past) m
+      (λ ys h k. elim k [
+        | inl s ↦ mine_one R.most (before_by R past) (with_payload m ys) h s f
+        | inr g ↦ absurd (let both : true ≡ false = sym g ∙ f in cc)
+      ]) xs few (inl short)))
+
+  pub events_of_octet_same : (x : ℕ) →
+      (length xs < named_at m.header → Each (λ o. o.opener.number < m.number) (opened [] past)) →
+      events_of_octet R.most (before_by R past) (with_payload m (xs ++ x ∷ []))
+      ≡ events_of_octet R.most
+      (before_by R (past ++ events_of R.most (before_by R past) (with_payload m xs)))
+      (with_payload m (xs ++ x ∷ []))
+  unfolding at_octet so_far
+  events_of_octet_same x low = go (is_any_fragment m.header) refl
+    where
+      next : CutMessage
+      next = with_payload m (xs ++ x ∷ [])
+
+      go : (b : Bool) → is_any_fragment m.header ≡ b →
+          events_of_octet R.most (before_by R past) next ≡ events_of_octet R.most at_octet next
+      go true f = fragment_same R.most (before_by R past) at_octet next f (same_open (inr f))
+          (same_mixed (inr f))
+      go false f = elim (cases_lt (length xs) (named_at m.header)) [
+        | inl short ↦ ap (λ (b : Before). events_of_octet R.most b next)
+            (sym (same_early short f (low short)))
+        | inr long ↦ free R.most (before_by R past) at_octet next
+            (omega (arith, long, length_push xs x)) f
+      ]
 
 -- If something holds of the events of the message itself and of each open message, it holds of all
 -- events of an octet.
@@ -231,16 +448,23 @@ unfolding ForSome
 found Q test [] h = tt
 found Q test (o ∷ still_open) h = search (arith, found_by, found Q test still_open h.1)
 
-found_under : (Q : Open → Type 0) (still_open : List Open) (key : Option ℕ) → Each Q still_open →
-    ForSome Q (open_under still_open key)
-unfolding ForSome
-found_under Q still_open None h = tt
-found_under Q still_open (Some id) h = search (arith, found)
+found_pending : (Q : Open → Type 0) (b : Before) → Each Q b.still_open → ForSome Q (pending b)
+unfolding ForSome pending
+found_pending Q b h = go b.mixed
+  where
+    go : (c : Bool) → ForSome Q (if c then None else find (λ o. is_none o.key) b.still_open)
+    go true = tt
+    go false = found Q (λ o. is_none o.key) b.still_open h
 
-module _ (most : ℕ) (P : Event → Type 0) (still_open : List Open) (now : Now) (key : Option ℕ)
+found_under : (Q : Open → Type 0) (b : Before) (key : Option ℕ) → Each Q b.still_open →
+    ForSome Q (open_under b key)
+found_under Q b None h = found_pending Q b h
+found_under Q b (Some id) h = search (arith, found)
+
+module _ (most : ℕ) (P : Event → Type 0) (b : Before) (now : Now) (key : Option ℕ)
     (other : Option Open)
     (h : (what : EventKind) → P (record { place = now.place; subject = now.subject; what = what }))
-    (k : ForSome (About P now) other) where
+    (k : ForSome (About P now) other) (w : ForSome (About P now) (pending b)) where
   mine : (what : EventKind) → Each P (own now what)
   mine what = own_each P now what h
 
@@ -251,36 +475,36 @@ module _ (most : ℕ) (P : Event → Type 0) (still_open : List Open) (now : Now
   unfolding payload_events
   octet_each = search (arith, either, about_each, mine)
 
-  parts_each : Each P (events_with_key most still_open now key other)
+  parts_each : Each P (events_with_key most b now key other)
   unfolding events_with_key
   parts_each =
       each_append P (if now.payload_count == 0 then header_events now else payload_events now other)
       _
       (either (Each P) (now.payload_count == 0) _ _
       (of_header (Each P) joined now (mine Begins) (λ fault. mine (Faults fault))) octet_each)
-      (of_later most (Each P) joined still_open now key other
+      (of_later most (Each P) joined b now key other
       (record {
         mine = λ what later. mine what;
-        theirs =
-            λ what later. about_each P now other what k;
+        theirs = λ what later. about_each P now other what k;
+        waiting = λ what later. about_each P now (pending b) what w;
       }))
 
-pub events_of_octet_each : (most : ℕ) (P : Event → Type 0) (still_open : List Open) (m :
-    CutMessage) →
+pub events_of_octet_each : (most : ℕ) (P : Event → Type 0) (b : Before) (m : CutMessage) →
     ((what : EventKind) → P (record { place = place m; subject = message_key m; what = what }))
     → Each (λ o. (what : EventKind) → P (record {
       place = place m;
       subject = o.opener;
       what =
           what;
-    })) still_open → Each P (events_of_octet most still_open m)
+    })) b.still_open → Each P (events_of_octet most b m)
 unfolding events_of_octet opener_of About
-events_of_octet_each most P still_open m h k =
-    parts_each most P still_open (now_of m) (key m) (opener_of still_open m) h
-    (found_under (About P (now_of m)) still_open (key m) k)
+events_of_octet_each most P b m h k =
+    parts_each most P b (now_of m) (key m) (opener_of b m) h
+    (found_under (About P (now_of m)) b (key m) k)
+    (found_pending (About P (now_of m)) b k)
 
 -- After a Fragment has its place among the open messages, no event is one of the Fragment itself.
-module _ (most : ℕ) (P : Event → Type 0) (still_open : List Open) (now : Now) (key : Option ℕ)
+module _ (most : ℕ) (P : Event → Type 0) (b : Before) (now : Now) (key : Option ℕ)
     (other : Option Open)
     (f : is_any_fragment now.subject.header ≡ true)
     (past : named_at now.subject.header < now.payload_count)
@@ -294,12 +518,11 @@ module _ (most : ℕ) (P : Event → Type 0) (still_open : List Open) (now : Now
   unfolding payload_events
   past_octet = search (arith, lt-ltb, about_each)
 
-  past_each : Each P (events_with_key most still_open now key other)
+  past_each : Each P (events_with_key most b now key other)
   unfolding events_with_key
   past_each = search (arith, ne_eqb, each_append, past_octet, either, past_end)
 
-pub events_of_octet_agree : (most : ℕ) (P : Event → Type 0) (still_open : List Open) (m :
-    CutMessage) →
+pub events_of_octet_agree : (most : ℕ) (P : Event → Type 0) (b : Before) (m : CutMessage) →
     length m.payload ≤ size m.header
     → (goes_past m ≡ false → (what : EventKind) →
     P (record { place = place m; subject = message_key m; what = what }))
@@ -308,15 +531,18 @@ pub events_of_octet_agree : (most : ℕ) (P : Event → Type 0) (still_open : Li
       subject = o.opener;
       what =
           what;
-    })) still_open → Each P (events_of_octet most still_open m)
+    })) b.still_open → Each P (events_of_octet most b m)
 unfolding events_of_octet opener_of About goes_past
-events_of_octet_agree most P still_open m long h k = go (goes_past m) refl
+events_of_octet_agree most P b m long h k = go (goes_past m) refl
   where
-    one : ForSome (About P (now_of m)) (opener_of still_open m)
+    one : ForSome (About P (now_of m)) (opener_of b m)
     one = search (arith, found_under)
 
-    go : (b : Bool) → goes_past m ≡ b → Each P (events_of_octet most still_open m)
-    go false e = search (arith, parts_each, one)
+    other : ForSome (About P (now_of m)) (pending b)
+    other = found_pending (About P (now_of m)) b k
+
+    go : (c : Bool) → goes_past m ≡ c → Each P (events_of_octet most b m)
+    go false e = search (arith, parts_each, one, other)
     go true e = search (arith, and_parts, past_each, ltb-true, one)
 
 -- a message before it has its place among the open ones

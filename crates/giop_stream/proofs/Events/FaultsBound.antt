@@ -9,12 +9,12 @@ use Rattle.giop_message.specs.MessageReader.{LineClass, Value, Call, Rest, Fault
 use Rattle.giop_stream.specs.HeaderOctets.{fronts, first_wrong_octet}
 use Rattle.giop_stream.specs.Rules.{Rules}
 use Rattle.giop_stream.specs.Framing.{CutMessage, with_payload, Cut, with_first, cut_from, limit, stop_or_limit, limited, cut, messages}
-use Rattle.giop_stream.specs.Events.{EventKind, Begins, Takes, Opens, Continues, Cancelled, Faults, Closes, Event, Open, events_of_octet, events_of, opened, events_from, events}
-use Rattle.giop_stream.specs.Lines.{Content, Said, StreamLine, line, lines_of_event, lines_of_events, by_class, in_order, ends, is_last_of, up_to_last_line, lines_of_messages, stop_line, lines}
+use Rattle.giop_stream.specs.Events.{EventKind, Begins, Takes, Opens, Continues, Seams, Cancelled, Faults, Closes, Event, Open, Before, events_of_octet, events_of, opened, before_by, events_from, events}
+use Rattle.giop_stream.specs.Lines.{Kept, Content, Said, StreamLine, line, lines_of_event, lines_of_events, by_class, in_order, ends, is_last_of, up_to_last_line, lines_of_messages, stop_line, lines}
 use Rattle.giop_stream.specs.Stream.{is_fault, fault_count, is_inside, is_truncated, tally, final}
 use Rattle.giop_stream.proofs.Lists.{each_append, each_weaker, each_map, each_filter}
 use Rattle.giop_stream.proofs.Cuts.CutFrom.{cut_wrong, cut_short, cut_open, cut_more}
-use Rattle.giop_stream.proofs.Events.EventsOfOctet.{events_of_octet_each, opened_each}
+use Rattle.giop_stream.proofs.Events.EventsOfOctet.{opened_append, events_of_octet_each, opened_each}
 use Rattle.giop_stream.proofs.StreamLines.LinesOfOctet.{classes_each}
 use Rattle.giop_stream.proofs.Events.AfterMoreEvents.{count_append}
 use Rattle.giop_stream.proofs.CodeSteps.EngineAlive.{sound}
@@ -77,37 +77,37 @@ numbered p = go (nat_lt limit (length p))
 
 -- ---- The subjects of the events and the lines have such numbers too.
 
-module _ (most : ℕ) (P : ℕ → Type 0) where
+module _ (R : Rules) (P : ℕ → Type 0) where
   abbrev Named : List Event → Type 0
   Named es = Each (λ e. P e.subject.number) es
 
   abbrev Live : List Open → Type 0
   Live still_open = Each (λ o. P o.opener.number) still_open
 
-  events_of_each : (still_open : List Open) (m : CutMessage) → P m.number → Live still_open →
-      Named (events_of most still_open m)
+  events_of_each : (b : Before) (m : CutMessage) → P m.number → Live b.still_open →
+      Named (events_of R.most b m)
   unfolding events_of
-  events_of_each still_open m h k = go (fronts m.payload)
+  events_of_each b m h k = go (fronts m.payload)
     where
-      here : (front : List ℕ) → Named (events_of_octet most still_open (with_payload m front))
+      here : (front : List ℕ) → Named (events_of_octet R.most b (with_payload m front))
       here front = search (arith, events_of_octet_each, each_weaker)
 
       go : (fs : List (List ℕ)) → Named (flat_map
-          (λ front. events_of_octet most still_open (with_payload m front)) fs)
+          (λ front. events_of_octet R.most b (with_payload m front)) fs)
       go [] = tt
       go (front ∷ fs) = search (arith, each_append, here, go fs)
 
-  events_each : (still_open : List Open) (ms : List CutMessage) → Live still_open →
+  events_each : (past : List Event) (ms : List CutMessage) → Live (opened [] past) →
       Each (λ m. P m.number) ms
-      → Named (events_from most still_open ms)
-  unfolding events_from
-  events_each still_open [] h k = tt
-  events_each still_open (m ∷ ms) h k =
-      let es = events_of most still_open m in
-      let here = events_of_each still_open m k.0 h in
-      let then_still_open = opened_each (λ subject. P subject.number) still_open es h here in
-      each_append (λ e. P e.subject.number) es (events_from most (opened still_open es) ms) here
-      (events_each (opened still_open es) ms then_still_open k.1)
+      → Named (events_from R past ms)
+  unfolding events_from before_by
+  events_each past [] h k = tt
+  events_each past (m ∷ ms) h k =
+      let es = events_of R.most (before_by R past) m in
+      let here = events_of_each (before_by R past) m k.0 h in
+      let after = opened_each (λ subject. P subject.number) (opened [] past) es h here in
+      each_append (λ e. P e.subject.number) es (events_from R (past ++ es) ms) here
+      (events_each (past ++ es) ms (rw (opened_append [] past es) after) k.1)
 
 -- a line of one of n messages, which is the message's last line if it is a fault
 record IsOne (n : ℕ) (l : StreamLine) : Type 0 where
@@ -128,13 +128,14 @@ one_said n e h Fault text = search (arith, one_line)
 one_said n e h End text = search (arith, one_line)
 
 one_each : (R : MessageReader) (n : ℕ) (e : Event) → IsNumber n e.subject.number →
-    (so_far all : List ℕ) (what : EventKind)
+    (so_far all : Kept) (what : EventKind)
     → Each (IsOne n) (lines_of_event R e so_far all what)
 unfolding lines_of_event
 one_each R n e h so_far all Begins = search (arith, one_line)
 one_each R n e h so_far all (Takes x) = search (arith, each_map, one_said)
 one_each R n e h so_far all (Opens key) = tt
 one_each R n e h so_far all (Continues i) = search (arith, one_line)
+one_each R n e h so_far all Seams = tt
 one_each R n e h so_far all (Cancelled j) = search (arith, one_line)
 one_each R n e h so_far all (Faults fault) = search (arith, one_line)
 one_each R n e h so_far all Closes = search (arith, each_map, one_said)
@@ -237,14 +238,20 @@ numbers : (p : List ℕ) → Each (λ m. IsNumber (length (messages (cut p))) m.
     (messages (cut p))
 numbers p = search (arith, each_weaker, numbered)
 
+nothing_open : (P : ℕ → Type 0) → Each (λ o. P o.opener.number) (opened [] [])
+unfolding opened
+nothing_open P = tt
+
 said_few : (R : Rules) (p : List ℕ) → fault_count (lines_of_messages R p) ≤ length
     (messages (cut p))
 unfolding lines_of_messages events
 said_few R p =
+    let none : Each (λ o. IsNumber (length (messages (cut p))) o.opener.number) (opened [] []) =
+    nothing_open (IsNumber (length (messages (cut p)))) in
     let n = length (messages (cut p)) in
-    let all = lines_of_events R.reading (events R.most p) [] (events R.most p) in
-    let ones = lines_each R.reading n (events R.most p) [] (events R.most p)
-    (events_each R.most (IsNumber n) [] (messages (cut p)) tt (numbers p)) in
+    let all = lines_of_events R.reading (events R p) [] (events R p) in
+    let ones = lines_each R.reading n (events R p) [] (events R p)
+    (events_each R (IsNumber n) [] (messages (cut p)) none (numbers p)) in
     let most = faults_free n (λ i. false) (in_order (length p) all)
     (order_each (IsOne n) (length p) all ones) in
     omega (arith, most, all_free n)

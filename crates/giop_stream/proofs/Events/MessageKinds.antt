@@ -4,7 +4,8 @@ use Rattle.std.proofs.Common.{inl, inr, ◌⊎◌, ◌≡◌, ℕ, ◌<◌, ◌�
 use Rattle.std.specs.Prelude.{nat_lt, ◌==◌, ◌||◌}
 use Rattle.std.proofs.lemmas.Bool.{cases_lt, and_from, and_parts, and_right, or_cases, or_parts, or_from, or_left, or_right, lt-ltb, ltb-true, eqb-true, ne_eqb, false_from_ne_true}
 use Rattle.giop_message.specs.Headers.{minor, kind, size, may_be_fragmented, is_opener, is_fragment, is_cancel, has_name}
-use Rattle.giop_stream.specs.Kinds.{is_old_opener, is_old_fragment, is_old, has_fragments, is_any_fragment, has_place, named_at, is_short}
+use Rattle.giop_stream.specs.Kinds.{is_old_opener, is_old_fragment, is_old, has_fragments, is_any_fragment, named_at, is_short}
+use Rattle.giop_stream.specs.PayloadOwner.{has_place}
 
 or_none : (a b : Bool) → b ≡ false → (a || b) ≡ a
 or_none true b e = refl
@@ -49,7 +50,7 @@ old_minor h e = elim (or_cases (is_old_opener h) (is_old_fragment h) e) [
   | inr f ↦ old_fragment_minor h f
 ]
 
-opener_not_old : (h : List ℕ) → is_opener h ≡ true → is_old h ≡ false
+pub opener_not_old : (h : List ℕ) → is_opener h ≡ true → is_old h ≡ false
 opener_not_old h e =
     false_from_ne_true _ (λ old. omega (arith, opener_minor h e, old_minor h old))
 
@@ -64,7 +65,7 @@ old_no_cancel h e two = elim (or_cases (is_old_opener h) (is_old_fragment h) e) 
   | inr f ↦ omega (arith, two, old_fragment_kind h f)
 ]
 
-cancel_not_old : (h : List ℕ) → is_cancel h ≡ true → is_old h ≡ false
+pub cancel_not_old : (h : List ℕ) → is_cancel h ≡ true → is_old h ≡ false
 cancel_not_old h e = false_from_ne_true _ (λ old. old_no_cancel h old (cancel_kind h e))
 
 -- a message that begins with its request id
@@ -87,7 +88,7 @@ first_is h new = or_none _ _ (or_parts (is_old_opener h) (is_old_fragment h) new
 
 -- ---- Which are.
 
-old_opener_old : (h : List ℕ) → is_old_opener h ≡ true → is_old h ≡ true
+pub old_opener_old : (h : List ℕ) → is_old_opener h ≡ true → is_old h ≡ true
 unfolding is_old
 old_opener_old h e = or_left _ _ e
 
@@ -107,6 +108,10 @@ old_kinds h e = elim (or_cases (is_old_opener h) (is_old_fragment h) e) [
 pub old_fragment_any : (h : List ℕ) → is_old_fragment h ≡ true → is_any_fragment h ≡ true
 unfolding is_any_fragment
 old_fragment_any h f = or_right _ _ f
+
+old_opener_first : (h : List ℕ) → is_old_opener h ≡ true → has_fragments h ≡ true
+unfolding has_fragments
+old_opener_first h o = or_right _ _ o
 
 pub old_opener_is : (h : List ℕ) → is_old h ≡ true → is_old_fragment h ≡ false →
     has_fragments h ≡ true
@@ -183,6 +188,11 @@ first_no_fragment h e = elim (or_cases (is_opener h) (is_old_opener h) e) [
   | inr o ↦ no_fragment h (old_opener_kind h o)
 ]
 
+-- nor does a message that is a Fragment open one of 1.1
+pub fragment_no_old : (h : List ℕ) → is_any_fragment h ≡ true → is_old_opener h ≡ false
+fragment_no_old h f = false_from_ne_true _ (λ o.
+    let both : true ≡ false = sym f ∙ first_no_fragment h (old_opener_first h o) in absurd cc)
+
 pub fragment_any : (h : List ℕ) → is_fragment h ≡ true → is_any_fragment h ≡ true
 unfolding is_any_fragment
 fragment_any h e = or_left _ _ e
@@ -240,29 +250,27 @@ other_long h g f =
 
 -- ---- Whether a message has a place.
 
-pub unplaced : (h : List ℕ) → has_place h ≡ false → (has_fragments h ≡ false)
-    × (is_any_fragment h ≡ false) × (is_cancel h ≡ false)
-unplaced h e =
-    let one = or_parts (has_fragments h || is_any_fragment h) (is_cancel h) e in
-    let two = or_parts (has_fragments h) (is_any_fragment h) one.0 in
-    (two.0, two.1, one.1)
-
-pub any_placed : (h : List ℕ) → is_any_fragment h ≡ true → has_place h ≡ true
-any_placed h e = or_left _ _ (or_right _ _ e)
-
--- a message whose place comes after its request id begins with that id
-pub placed_named : (h : List ℕ) → has_place h ≡ true → is_old h ≡ false → has_name h ≡ true
-placed_named h e new = elim (or_cases (has_fragments h || is_any_fragment h) (is_cancel h) e) [
-  | inl both ↦ elim (or_cases (has_fragments h) (is_any_fragment h) both) [
-    | inl g ↦ or_left _ _ (or_left _ _ (rw (first_is h new) at g))
-    | inr f ↦ or_left _ _ (or_right _ _ (rw (any_is h new) at f))
-  ]
-  | inr c ↦ or_right _ _ c
-]
-
 pub unnamed : (h : List ℕ) → has_name h ≡ false → (is_opener h ≡ false) × (is_fragment h ≡ false)
     × (is_cancel h ≡ false)
 unnamed h e =
     let one = or_parts (is_opener h || is_fragment h) (is_cancel h) e in
     let two = or_parts (is_opener h) (is_fragment h) one.0 in
     (two.0, two.1, one.1)
+
+pub unplaced : (h : List ℕ) → has_place h ≡ false → (has_fragments h ≡ false)
+    × (is_any_fragment h ≡ false) × (is_cancel h ≡ false)
+unplaced h e =
+    let both = or_parts (has_name h) (is_old h) e in
+    let kinds = unnamed h both.0 in
+    (first_is h both.1 ∙ kinds.0, any_is h both.1 ∙ kinds.1, kinds.2)
+
+pub any_placed : (h : List ℕ) → is_any_fragment h ≡ true → has_place h ≡ true
+unfolding is_any_fragment
+any_placed h e = elim (or_cases (is_fragment h) (is_old_fragment h) e) [
+  | inl f ↦ or_left (has_name h) (is_old h) (or_left _ _ (or_right _ _ f))
+  | inr f ↦ or_right (has_name h) (is_old h) (old_fragment_old h f)
+]
+
+-- a message whose place comes after its request id begins with that id
+pub placed_named : (h : List ℕ) → has_place h ≡ true → is_old h ≡ false → has_name h ≡ true
+placed_named h e new = sym (or_none (has_name h) (is_old h) new) ∙ e

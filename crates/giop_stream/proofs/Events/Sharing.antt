@@ -4,8 +4,9 @@ use Rattle.std.specs.Prelude.{◌==◌, if◌then◌else◌}
 use Rattle.std.proofs.lemmas.Bool.{lt-ltb, le-ltb, cases_lt, ne_eqb, eq-eqb}
 use Rattle.std.proofs.lemmas.List.{append-nil, length_push, get_or_push, take-append-le, drop-append-le, take_all, drop_all}
 use Rattle.giop_stream.specs.Kinds.{is_old, named_at}
+use Rattle.giop_stream.specs.Rules.{Rules}
 use Rattle.giop_stream.specs.Framing.{CutMessage, with_payload, cut, messages}
-use Rattle.giop_stream.specs.Events.{EventKind, Begins, Takes, Faults, Event, Open, own, event_of_open, id, key, opener_of, goes_past, events_at_header, events_at_octet, events_of_octet, events_of, opened, events_from, events, octet, joined, now_of, header_events, payload_events, Now}
+use Rattle.giop_stream.specs.Events.{EventKind, Begins, Takes, Faults, Event, Open, Before, own, event_of_open, id, key, pending, opener_of, goes_past, events_at_header, events_at_octet, events_of_octet, events_of, before_by, events_from, events, octet, joined, now_of, header_events, payload_events, Now}
 use Rattle.giop_stream.specs.Shares.{continued, share, shares}
 use Rattle.giop_stream.proofs.Lists.{by_growth}
 use Rattle.giop_stream.proofs.Events.MessageKinds.{named_four}
@@ -59,31 +60,31 @@ silent_header i now =
     (λ fault. silent_own i now (Faults fault) refl)
 
 -- What one more octet of a message gives to message i.
-events_of_octet_is : (most : ℕ) (i : ℕ) (still_open : List Open) (m : CutMessage) (first : List
-    Event)
-    → (if length m.payload == 0 then events_at_header m else events_at_octet still_open m) ≡ first →
-    joined i (events_of_octet most still_open m) ≡ joined i first
+events_of_octet_is : (most : ℕ) (i : ℕ) (b : Before) (m : CutMessage) (first : List Event)
+    → (if length m.payload == 0 then events_at_header m else events_at_octet b m) ≡ first →
+    joined i (events_of_octet most b m) ≡ joined i first
 unfolding events_of_octet IsSilent
-events_of_octet_is most i still_open m first h =
+events_of_octet_is most i b m first h =
     joined_append i (if length m.payload == 0 then events_at_header m else events_at_octet
-    still_open m) _
+    b m) _
     ∙ rw (
       h,
-      of_later most (IsSilent i) (silent_both i) still_open (now_of m) (key m)
-          (opener_of still_open m) (record {
+      of_later most (IsSilent i) (silent_both i) b (now_of m) (key m)
+          (opener_of b m) (record {
             mine = λ what later. silent_own i (now_of m) what (silent what later);
-            theirs = λ what later. silent_about i (now_of m) (opener_of still_open m) what
+            theirs = λ what later. silent_about i (now_of m) (opener_of b m) what
                 (silent what later);
+            waiting = λ what later. silent_about i (now_of m) (pending b) what (silent what later);
           }),
     ) (append-nil (joined i first))
 
-pub header_joined : (most : ℕ) (i : ℕ) (still_open : List Open) (m : CutMessage) → m.payload ≡ [] →
-    joined i (events_of_octet most still_open m) ≡ []
-header_joined most i still_open m h = search (arith, events_of_octet_is, silent_header)
+pub header_joined : (most : ℕ) (i : ℕ) (b : Before) (m : CutMessage) → m.payload ≡ [] →
+    joined i (events_of_octet most b m) ≡ []
+header_joined most i b m h = search (arith, events_of_octet_is, silent_header)
 
 -- what one more octet of m adds to the share of i
-unfoldable pub more_of : ℕ → List Open → CutMessage → ℕ → List ℕ
-more_of i still_open m x = if goes_past m then continued i (opener_of still_open m) (x ∷ []) else
+unfoldable pub more_of : ℕ → Before → CutMessage → ℕ → List ℕ
+more_of i b m x = if goes_past m then continued i (opener_of b m) (x ∷ []) else
     (if m.number == i then x ∷ [] else [])
 
 takes_if : (i : ℕ) (now : Now) (o : Option Open) (x : ℕ) (b : Bool)
@@ -93,12 +94,12 @@ unfolding octet
 takes_if i now o x true = about_is i now o (Takes x)
 takes_if i now o x false = own_is i now (Takes x)
 
-pub octet_joined : (most : ℕ) (i : ℕ) (still_open : List Open) (m : CutMessage) (xs : List ℕ) (x
+pub octet_joined : (most : ℕ) (i : ℕ) (b : Before) (m : CutMessage) (xs : List ℕ) (x
     : ℕ)
-    → joined i (events_of_octet most still_open (with_payload m (xs ++ x ∷ [])))
-    ≡ more_of i still_open (with_payload m (xs ++ x ∷ [])) x
+    → joined i (events_of_octet most b (with_payload m (xs ++ x ∷ [])))
+    ≡ more_of i b (with_payload m (xs ++ x ∷ [])) x
 unfolding more_of payload_events goes_past
-octet_joined most i still_open m xs x = search (
+octet_joined most i b m xs x = search (
   arith,
   ne_eqb,
   length_push,
@@ -109,11 +110,11 @@ octet_joined most i still_open m xs x = search (
 )
 
 -- an octet that does not come after a Fragment has its place among the open messages
-pub own_joined : (most : ℕ) (still_open : List Open) (m : CutMessage) (xs : List ℕ) (x : ℕ) →
+pub own_joined : (most : ℕ) (b : Before) (m : CutMessage) (xs : List ℕ) (x : ℕ) →
     goes_past (with_payload m (xs ++ x ∷ [])) ≡ false
-    → joined m.number (events_of_octet most still_open (with_payload m (xs ++ x ∷ []))) ≡ x ∷ []
+    → joined m.number (events_of_octet most b (with_payload m (xs ++ x ∷ []))) ≡ x ∷ []
 unfolding more_of
-own_joined most still_open m xs x h = search (arith, octet_joined, eq-eqb)
+own_joined most b m xs x h = search (arith, octet_joined, eq-eqb)
 
 cases_append : (b : Bool) (xs ys : List ℕ) → (if b then xs ++ ys else []) ≡ (if b then xs else [])
     ++ (if b then ys else [])
@@ -142,19 +143,19 @@ unfolding key
 same_key m xs x h true e = rw e refl
 same_key m xs x h false e = search (arith, same_id, named_four)
 
-same_opener : (still_open : List Open) (m : CutMessage) (xs : List ℕ) (x : ℕ) →
+same_opener : (b : Before) (m : CutMessage) (xs : List ℕ) (x : ℕ) →
     named_at m.header ≤ length xs
-    → opener_of still_open (with_payload m (xs ++ x ∷ []))
-    ≡ opener_of still_open (with_payload m xs)
+    → opener_of b (with_payload m (xs ++ x ∷ []))
+    ≡ opener_of b (with_payload m xs)
 unfolding opener_of
-same_opener still_open m xs x h = search (arith, same_key)
+same_opener b m xs x h = search (arith, same_key)
 
-share_grows : (i : ℕ) (still_open : List Open) (m : CutMessage) (xs : List ℕ) (x : ℕ)
-    → share i still_open (with_payload m (xs ++ x ∷ [])) ≡ share i still_open (with_payload m xs)
-    ++ more_of i still_open
+share_grows : (i : ℕ) (b : Before) (m : CutMessage) (xs : List ℕ) (x : ℕ)
+    → share i b (with_payload m (xs ++ x ∷ [])) ≡ share i b (with_payload m xs)
+    ++ more_of i b
     (with_payload m (xs ++ x ∷ [])) x
 unfolding share more_of goes_past
-share_grows i still_open m xs x = search (
+share_grows i b m xs x = search (
   arith,
   cases_append,
   cases_lt,
@@ -174,42 +175,38 @@ share_grows i still_open m xs x = search (
   take,
 )
 
-share_none : (i : ℕ) (still_open : List Open) (m : CutMessage) →
-    share i still_open (with_payload m []) ≡ []
+share_none : (i : ℕ) (b : Before) (m : CutMessage) →
+    share i b (with_payload m []) ≡ []
 unfolding share
-share_none i still_open m = search (arith, both_empty, continued_none)
+share_none i b m = search (arith, both_empty, continued_none)
 
-one_joined : (most : ℕ) (i : ℕ) (still_open : List Open) (m : CutMessage) →
-    joined i (events_of most still_open m) ≡ share i still_open m
-one_joined most i still_open m = by_growth
-    (λ xs. joined i (events_of most still_open (with_payload m xs))
-    ≡ share i still_open (with_payload m xs))
-    (rw (events_of_none most still_open m, share_none i still_open m)
-    (events_of_octet_is most i still_open (with_payload m []) (events_at_header (with_payload m []))
+one_joined : (most : ℕ) (i : ℕ) (b : Before) (m : CutMessage) →
+    joined i (events_of most b m) ≡ share i b m
+one_joined most i b m = by_growth
+    (λ xs. joined i (events_of most b (with_payload m xs))
+    ≡ share i b (with_payload m xs))
+    (rw (events_of_none most b m, share_none i b m)
+    (events_of_octet_is most i b (with_payload m []) (events_at_header (with_payload m []))
     refl ∙ silent_header i (now_of (with_payload m []))))
     (λ xs x ih. rw (
-      events_of_push most still_open m xs x,
-      joined_append i (events_of most still_open (with_payload m xs))
-          (events_of_octet most still_open (with_payload m (xs ++ x ∷ []))),
+      events_of_push most b m xs x,
+      joined_append i (events_of most b (with_payload m xs))
+          (events_of_octet most b (with_payload m (xs ++ x ∷ []))),
       ih,
-      octet_joined most i still_open m xs x,
-    ) (sym (share_grows i still_open m xs x)))
+      octet_joined most i b m xs x,
+    ) (sym (share_grows i b m xs x)))
     m.payload
 
-from_joined : (most : ℕ) (i : ℕ) (still_open : List Open) (ms : List CutMessage) →
-    joined i (events_from most still_open ms) ≡ shares most i still_open ms
+from_joined : (R : Rules) (i : ℕ) (past : List Event) (ms : List CutMessage) →
+    joined i (events_from R past ms) ≡ shares R i past ms
 unfolding events_from shares IsSilent
-from_joined most i still_open [] = (silent_both i).none
-from_joined most i still_open (m ∷ ms) =
-    joined_append i (events_of most still_open m)
-    (events_from most (opened still_open (events_of most still_open m)) ms)
-    ∙ rw (
-      one_joined most i still_open m,
-      from_joined most i
-          (opened still_open (events_of most still_open m)) ms,
-    ) refl
+from_joined R i past [] = (silent_both i).none
+from_joined R i past (m ∷ ms) =
+    let es = events_of R.most (before_by R past) m in
+    joined_append i es (events_from R (past ++ es) ms)
+    ∙ rw (one_joined R.most i (before_by R past) m, from_joined R i (past ++ es) ms) refl
 
-pub joined_is : (most : ℕ) (p : List ℕ) (i : ℕ) →
-    joined i (events most p) ≡ shares most i [] (messages (cut p))
+pub joined_is : (R : Rules) (p : List ℕ) (i : ℕ) →
+    joined i (events R p) ≡ shares R i [] (messages (cut p))
 unfolding events
-joined_is most p i = search (arith, from_joined)
+joined_is R p i = search (arith, from_joined)

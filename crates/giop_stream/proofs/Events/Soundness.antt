@@ -1,29 +1,31 @@
 -- The invariants of a stream, which each octet keeps: where its events are, how its messages are
 -- numbered, which messages may be open, and how many octets of the current message have come.
-use Rattle.std.proofs.Common.{◌≡◌, ℕ, suc, ◌+◌, ◌<◌, ◌≤◌, false, List, [], ◌∷◌, ◌++◌, length, refl, sym, ap, subst, ◌∙◌, append_assoc, Some, None, arith}
+use Rattle.std.proofs.Common.{inl, ◌≡◌, ℕ, suc, ◌+◌, ◌<◌, ◌≤◌, false, List, [], ◌∷◌, ◌++◌, length, refl, sym, ap, subst, ◌∙◌, append_assoc, Some, None, arith}
 use Rattle.std.specs.Prelude.{IfSome}
 use Rattle.std.specs.List.{list_any, AllByRecursion as Each}
-use Rattle.std.proofs.lemmas.Bool.{ltb-true}
+use Rattle.std.proofs.lemmas.Bool.{ltb-true, ne_eqb}
 use Rattle.giop_message.specs.Headers.{size}
 use Rattle.giop_stream.specs.Kinds.{named_at}
 use Rattle.std.proofs.lemmas.List.{length_push}
 use Rattle.giop_stream.specs.Rules.{Rules}
 use Rattle.giop_stream.specs.Framing.{CutMessage, with_payload, Cut, cut, messages}
-use Rattle.giop_message.specs.MessageReader.{MessageReader, IsCausal}
-use Rattle.giop_stream.specs.Events.{EventKind, Event, Open, place, events_of_octet, opened, events_from, events, open_after, joined, Rising}
-use Rattle.giop_stream.specs.Lines.{StreamLine, is_last_of, lines}
-use Rattle.giop_stream.specs.Stream.{start_count}
-use Rattle.giop_stream.specs.OpenSlots.{OctetsByNumber, octets_of}
+use Rattle.giop_message.specs.MessageReader.{MessageReader, IsCausal, IsStreamable}
+use Rattle.giop_stream.specs.Events.{EventKind, Event, Open, Before, place, events_of_octet, events_of, opened, has_ended, before_by, events_from, events, open_after, joined, Rising}
+use Rattle.giop_stream.specs.Lines.{StreamLine, nothing_kept, is_last_of, lines}
+use Rattle.giop_stream.specs.Stream.{start_count, is_over}
+use Rattle.giop_stream.specs.OpenSlots.{KeptByNumber, known_of}
 use Rattle.giop_stream.specs.Effects.{kept_with, kept_after}
-use Rattle.giop_stream.proofs.StreamLines.EventsTogether.{sorted_lines}
+use Rattle.giop_stream.proofs.StreamLines.EventsTogether.{kept_through, sorted_lines}
 use Rattle.giop_stream.proofs.Lists.{each_append, each_weaker, all_by}
 use Rattle.giop_stream.proofs.Cuts.Cutting.{settle_stop, settled_messages}
 use Rattle.giop_stream.proofs.Cuts.CutFrom.{end_message}
-use Rattle.giop_stream.proofs.Events.EventsOfOctet.{opened_append, events_from_push, events_of_push, events_of_none, events_of_octet_same, events_of_octet_each, opened_each, quiet_one}
+use Rattle.giop_stream.proofs.Events.KeptEvents.{OfOthers}
+use Rattle.giop_stream.proofs.StreamLines.Ended.{over_grows}
+use Rattle.giop_stream.proofs.Events.EventsOfOctet.{opened_append, payload_run, events_from_push, events_of_push, events_of_none, events_of_octet_same, events_of_octet_each, opened_each, quiet_one}
 use Rattle.giop_stream.proofs.Events.EventsKeep.{Below, rising_events, IsFew, few_events, Differ, differ_events, AreOpeners, openers_events}
-use Rattle.giop_stream.proofs.StreamLines.LinesOfOctet.{joined_append, written_each, none_last, none_joined}
+use Rattle.giop_stream.proofs.StreamLines.LinesOfOctet.{joined_append, written_each, none_last}
 use Rattle.giop_stream.proofs.StreamLines.StartLines.{start_append}
-use Rattle.giop_stream.proofs.Events.AfterMoreEvents.{message_lines_grow, octets_grow, open_grows, lines_free}
+use Rattle.giop_stream.proofs.Events.AfterMoreEvents.{message_lines_grow, known_grow, open_grows, lines_free}
 
 -- ---- The invariants.
 pub record CurrentFits (n : ℕ) (c : Cut) (m : CutMessage) : Type 0 where
@@ -46,35 +48,36 @@ pub record AreSound (most : ℕ) (still_open : List Open) : Type 0 where
   pub openers : AreOpeners still_open
 
 pub record IsSound (R : Rules) (p : List ℕ) : Type 0 where
-  pub places : Each (λ e. e.place ≤ length p) (events R.most p)
-  pub numbers : Each (λ o. o.opener.number ≤ length (messages (cut p))) (open_after R.most p)
-  pub unknown : (i : ℕ) → length (messages (cut p)) < i → octets_of R p i ≡ Some []
+  pub places : Each (λ e. e.place ≤ length p) (events R p)
+  pub numbers : Each (λ o. o.opener.number ≤ length (messages (cut p))) (open_after R p)
+  pub unknown : (i : ℕ) → length (messages (cut p)) < i → known_of R p i ≡ Some nothing_kept
   pub starts : start_count (lines R p) ≡ length (messages (cut p))
   pub fits : (cut p).stop ≡ None → Fits (length p) (cut p)
-  pub rising : Rising (open_after R.most p)
+  pub rising : Rising (open_after R p)
   pub early : (cut p).stop ≡ None → IfSome (cut p).current
-      (λ m. length m.payload < named_at m.header → Below m.number (open_after R.most p))
-  pub still_open : AreSound R.most (open_after R.most p)
+      (λ m. length m.payload < named_at m.header → Below m.number (open_after R p))
+  pub still_open : AreSound R.most (open_after R p)
   pub begun : (cut p).stop ≡ None → IfSome (cut p).current
       (λ m. length m.payload ≤ named_at m.header →
-      joined m.number (events R.most p) ≡ m.payload)
+      joined m.number (events R p) ≡ m.payload)
+  pub over : (i : ℕ) → is_over R p i ≡ has_ended R i [] (events R p)
 
-settled_fits : (n : ℕ) (whole : List CutMessage) (m : CutMessage) → place m ≡ n →
+pub settled_fits : (n : ℕ) (whole : List CutMessage) (m : CutMessage) → place m ≡ n →
     m.number ≡ suc (length whole) → length m.header ≡ 12 → Fits n (end_message whole m)
 unfolding end_message
 settled_fits n whole m h k t = search (arith, ltb-true)
 
-settled_length : (whole : List CutMessage) (m : CutMessage) →
+pub settled_length : (whole : List CutMessage) (m : CutMessage) →
     length (messages (end_message whole m)) ≡ suc (length whole)
 settled_length whole m = search (arith, settled_messages, length_push)
 
-settled_early : (most : ℕ) (whole : List CutMessage) (m : CutMessage) (still_open : List Open) →
-    (length m.payload ≤ named_at m.header → Below m.number still_open)
+pub settled_early : (most : ℕ) (whole : List CutMessage) (m : CutMessage) (b : Before) →
+    (length m.payload ≤ named_at m.header → Below m.number b.still_open)
     → IfSome (end_message whole m).current
     (λ m. length m.payload < named_at m.header → Below m.number
-    (opened still_open (events_of_octet most still_open m)))
+    (opened b.still_open (events_of_octet most b m)))
 unfolding end_message
-settled_early most whole m still_open h = search (arith, quiet_one, ltb-true)
+settled_early most whole m b h = search (arith, quiet_one, ltb-true)
 
 pub settled_current : (whole : List CutMessage) (m : CutMessage) (P Q : CutMessage → Type 0) →
     (P m → Q m)
@@ -87,36 +90,45 @@ pub settled_if : (whole : List CutMessage) (m : CutMessage) (Q : CutMessage → 
 unfolding end_message
 settled_if whole m Q h = search (arith)
 
-still_unknown : (K : OctetsByNumber) (es : List Event) (ls : List StreamLine) (i : ℕ) →
-    K i ≡ Some [] →
-    joined i es ≡ []
-    → list_any (is_last_of i) ls ≡ false → kept_after (kept_with K es) ls i ≡ Some []
-unfolding kept_after kept_with
-still_unknown K es ls i h k j = rw (j, h, k) refl
+through_others : (known : KeptByNumber) (es : List Event) (i : ℕ) → OfOthers i es →
+    kept_through known es i ≡ known i
+unfolding kept_through kept_with
+through_others known [] i h = refl
+through_others known (e ∷ es) i h =
+    through_others (kept_with known e) es i h.1 ∙ rw (ne_eqb e.subject.number i h.0) refl
 
-pub dealt_sound : (R : Rules) → IsCausal R.reading →
+still_unknown : (known : KeptByNumber) (es : List Event) (ls : List StreamLine) (i : ℕ) →
+    known i ≡ Some nothing_kept → OfOthers i es
+    → list_any (is_last_of i) ls ≡ false →
+    kept_after (kept_through known es) ls i ≡ Some nothing_kept
+unfolding kept_after
+still_unknown known es ls i h k j = rw (through_others known es i k, h, j) refl
+
+pub dealt_sound : (R : Rules) → IsCausal R.reading → IsStreamable R.reading →
     (p p' : List ℕ) (whole : List CutMessage) (m : CutMessage)
-    → length p' ≡ suc (length p) → cut p' ≡ end_message whole m → events R.most p' ≡ events R.most p
-    ++ events_of_octet R.most (open_after R.most p) m
+    → length p' ≡ suc (length p) → cut p' ≡ end_message whole m → events R p' ≡ events R p
+    ++ events_of_octet R.most (before_by R (events R p)) m
     → place m ≡ suc (length p) → m.number ≡ suc (length whole) → length m.header ≡ 12 →
     (cut p).stop ≡ None
     → length (messages (cut p)) ≤ suc (length whole) →
-    (length m.payload ≤ named_at m.header → Below m.number (open_after R.most p))
+    (length m.payload ≤ named_at m.header → Below m.number (open_after R p))
     → length (messages (cut p)) + start_count
-    (sorted_lines R.reading (octets_of R p) (events_of_octet R.most (open_after R.most p) m))
+    (sorted_lines R.reading (known_of R p) (events_of_octet R.most (before_by R (events R p)) m))
     ≡ suc (length whole)
-    → (length m.payload ≤ named_at m.header → joined m.number (events R.most p)
-    ++ joined m.number (events_of_octet R.most (open_after R.most p) m) ≡ m.payload)
+    → (length m.payload ≤ named_at m.header → joined m.number (events R p)
+    ++ joined m.number (events_of_octet R.most (before_by R (events R p)) m) ≡ m.payload)
     → IsSound R p → IsSound R p'
-dealt_sound R causal p p' whole m len ec ev pl nm twelve st more low starts grows sound =
-    let still_open = open_after R.most p in
-    let K = octets_of R p in
-    let es = events_of_octet R.most still_open m in
+unfolding before_by open_after
+dealt_sound R causal laws p p' whole m len ec ev pl nm twelve st more low starts grows sound =
+    let b = before_by R (events R p) in
+    let still_open = opened [] (events R p) in
+    let K = known_of R p in
+    let es = events_of_octet R.most b m in
     let ls = sorted_lines R.reading K es in
     let all = suc (length whole) in
     let count : length (messages (cut p')) ≡ all = rw ec (settled_length whole m) in
     let here : Each (λ e. e.place ≡ suc (length p)) es =
-    events_of_octet_each R.most (λ e. e.place ≡ suc (length p)) still_open m (λ what. pl)
+    events_of_octet_each R.most (λ e. e.place ≡ suc (length p)) b m (λ what. pl)
     (all_by (λ (o : Open). (what : EventKind) → place m ≡ suc (length p)) (λ o what. pl) still_open)
     in
     let old : Each (λ o. o.opener.number ≤ all) still_open =
@@ -124,74 +136,90 @@ dealt_sound R causal p p' whole m len ec ev pl nm twelve st more low starts grow
     (λ o h. omega arith) still_open sound.numbers in
     let mine : m.number ≤ all = omega arith in
     let owner_of_next : Each (λ e. e.subject.number ≤ all) es =
-    events_of_octet_each R.most (λ e. e.subject.number ≤ all) still_open m (λ what. mine)
+    events_of_octet_each R.most (λ e. e.subject.number ≤ all) b m (λ what. mine)
     (each_weaker (λ o. o.opener.number ≤ all) _ (λ o h what. h) still_open old) in
-    let sd = message_lines_grow R causal p p' es len ev sound.places here in
+    let sd = message_lines_grow R causal laws.phased p p' es len ev sound.places here in
     let now_free : (cut p').stop ≡ None = rw ec (settle_stop whole m) in
     let ln : lines R p' ≡ lines R p ++ ls =
     lines_free R p' now_free ∙ (sd ∙ rw (lines_free R p st) refl) in
     let sc : start_count (lines R p') ≡ start_count (lines R p) + start_count ls =
     ap start_count ln ∙ start_append (lines R p) ls in
-    let opens = open_grows R.most p p' es ev in
+    let opens = open_grows R p p' es ev in
     record {
-      places = rw (ev, len) (each_append (λ e. e.place ≤ suc (length p)) (events R.most p) es
+      places = rw (ev, len) (each_append (λ e. e.place ≤ suc (length p)) (events R p) es
           (each_weaker (λ e. e.place ≤ length p) (λ e. e.place ≤ suc (length p))
-          (λ e h. omega arith) (events R.most p) sound.places)
+          (λ e h. omega arith) (events R p) sound.places)
           (each_weaker (λ e. e.place ≡ suc (length p)) (λ e. e.place ≤ suc (length p))
           (λ e h. omega arith) es here));
-      numbers = rw (count, open_grows R.most p p' es ev)
+      numbers = rw (count, open_grows R p p' es ev)
           (opened_each (λ subject. subject.number ≤ all) still_open es old owner_of_next);
       unknown = λ i h.
           let below : Each (λ e. e.subject.number < i) es =
           each_weaker (λ e. e.subject.number ≤ all) (λ e. e.subject.number < i)
           (λ e k. omega arith) es owner_of_next in
-          octets_grow R p p' es ls ev sd i
-          ∙ still_unknown K es ls i (sound.unknown i (omega arith)) (none_joined i es below)
+          let others : OfOthers i es =
+          each_weaker (λ e. e.subject.number < i) (λ e. e.subject.number ≡ i → ⊥)
+          (λ e k same. omega (arith, k, same)) es below in
+          known_grow R p p' es ls ev sd i
+          ∙ still_unknown K es ls i (sound.unknown i (omega arith)) others
           (none_last i ls (now_each R.reading (λ k. k < i) K es below));
       starts = sc ∙ (rw (sound.starts) starts ∙ sym count);
       fits = λ st. rw (ec, len) (settled_fits (suc (length p)) whole m pl nm twelve);
-      rising = rw (open_grows R.most p p' es ev)
-          (rising_events R.most still_open m sound.rising (λ named. low (omega arith)));
+      rising = rw (open_grows R p p' es ev)
+          (rising_events R.most b m sound.rising (λ named. low (omega arith)));
       early = λ st.
-          let grows = open_grows R.most p p' es ev in
+          let grows = open_grows R p p' es ev in
           rw ec (settled_current whole m (λ m. length m.payload < named_at m.header →
-          Below m.number (opened still_open (events_of_octet R.most still_open m)))
+          Below m.number (opened still_open (events_of_octet R.most b m)))
           (λ m. length m.payload < named_at m.header →
-          Below m.number (open_after R.most p'))
+          Below m.number (open_after R p'))
           (λ k short. subst (Below m.number) (sym grows) (k short))
-          (settled_early R.most whole m still_open low));
+          (settled_early R.most whole m b low));
       still_open = rw opens (record {
-        few = few_events R.most still_open m sound.still_open.few;
-        differ = differ_events R.most still_open m sound.still_open.differ;
-        openers = openers_events R.most still_open m sound.still_open.openers;
+        few = few_events R.most b m sound.still_open.few;
+        differ = differ_events R.most b m sound.still_open.differ;
+        openers = openers_events R.most b m sound.still_open.openers;
       });
       begun = λ st. rw (ec, ev) (settled_if whole m
           (λ m. length m.payload ≤ named_at m.header →
-          joined m.number (events R.most p ++ es) ≡ m.payload)
-          (λ short. joined_append m.number (events R.most p) es ∙ grows short));
+          joined m.number (events R p ++ es) ≡ m.payload)
+          (λ short. joined_append m.number (events R p) es ∙ grows short));
+      over = λ i. over_grows R laws p p' es i ev sd (sound.over i);
     }
   where
-    now_each : (R : MessageReader) (P : ℕ → Type 0) (known : OctetsByNumber) (es : List Event) →
+    now_each : (R : MessageReader) (P : ℕ → Type 0) (known : KeptByNumber) (es : List Event) →
         Each (λ e. P e.subject.number) es
         → Each (λ l. P l.number) (sorted_lines R known es)
     now_each R P known es h = unfold sorted_lines in written_each R P known es h
 
 -- The events and the open messages after a message has one more octet.
-pub events_on : (most : ℕ) (whole : List CutMessage) (m : CutMessage) (x : ℕ) →
-    length m.payload < size m.header
-    → (let es = events_from most [] (whole ++ m ∷ []) in let m' =
-    with_payload m (m.payload ++ x ∷ []) in events_from most []
-    (whole ++ m' ∷ []) ≡ es ++ events_of_octet most (opened [] es) m')
-events_on most whole m x h = search (
-  arith,
-  events_from_push,
-  opened_append,
-  events_of_push,
-  events_of_octet_same,
-  append_assoc,
-)
+pub events_on : (R : Rules) (whole : List CutMessage) (m : CutMessage) (x : ℕ) →
+    length m.payload < size m.header →
+    (length m.payload < named_at m.header →
+    Below m.number (opened [] (events_from R [] (whole ++ m ∷ []))))
+    → (let es = events_from R [] (whole ++ m ∷ []) in let m' =
+    with_payload m (m.payload ++ x ∷ []) in events_from R []
+    (whole ++ m' ∷ []) ≡ es ++ events_of_octet R.most (before_by R es) m')
+events_on R whole m x few low =
+    let past = events_from R [] whole in
+    let b = before_by R past in
+    let one = events_of R.most b m in
+    let next = with_payload m (m.payload ++ x ∷ []) in
+    let so_far : events_from R [] (whole ++ m ∷ []) ≡ past ++ one =
+    events_from_push R [] whole m in
+    let first : length m.payload < named_at m.header → Below m.number (opened [] past) =
+    λ short. subst (Below m.number) (opened_append [] past one
+    ∙ payload_run R.most (opened [] past) b m m.payload few (inl short))
+    (rw so_far at (low short)) in
+    events_from_push R [] whole next
+    ∙ rw (
+      so_far,
+      events_of_push R.most b m m.payload x,
+      events_of_octet_same R past m m.payload few x first,
+    )
+    (sym (append_assoc past one (events_of_octet R.most (before_by R (past ++ one)) next)))
 
-pub events_begin : (most : ℕ) (whole : List CutMessage) (m : CutMessage) → m.payload ≡ []
-    → events_from most [] (whole ++ m ∷ []) ≡ events_from most [] whole
-    ++ events_of_octet most (opened [] (events_from most [] whole)) m
-events_begin most whole m h = search (arith, events_of_none, events_from_push)
+pub events_begin : (R : Rules) (whole : List CutMessage) (m : CutMessage) → m.payload ≡ []
+    → events_from R [] (whole ++ m ∷ []) ≡ events_from R [] whole
+    ++ events_of_octet R.most (before_by R (events_from R [] whole)) m
+events_begin R whole m h = search (arith, events_of_none, events_from_push)

@@ -11,12 +11,12 @@ use Rattle.giop_stream.specs.Kinds.{has_fragments, is_any_fragment, named_at}
 use Rattle.giop_stream.specs.Rules.{Rules}
 use Rattle.giop_stream.specs.Framing.{CutMessage, with_payload, Cut, cut, messages}
 use Rattle.giop_message.specs.MessageReader.{IsCausal, IsEnding, IsStreamable}
-use Rattle.giop_stream.specs.Events.{EventKind, Event, Open, place, events_of_octet, opened, events, open_after}
+use Rattle.giop_stream.specs.Events.{EventKind, Event, Open, place, events_of_octet, opened, before_by, events, open_after}
 use Rattle.giop_stream.specs.Lines.{is_last_of, lines_of_messages}
 use Rattle.giop_stream.specs.Stream.{is_over, first_messages}
 use Rattle.giop_stream.specs.Effects.{with_octet}
 use Rattle.giop_stream.specs.Octet.{Octet, AfterStop, Ends, Held, Of}
-use Rattle.giop_stream.specs.OpenSlots.{octets_of}
+use Rattle.giop_stream.specs.OpenSlots.{known_of}
 use Rattle.giop_stream.proofs.StreamLines.EventsTogether.{sorted_lines}
 use Rattle.giop_stream.proofs.Lists.{by_growth, each_weaker, all_by}
 use Rattle.giop_stream.proofs.Cuts.Cutting.{stopped_at, of_parts, settled_messages}
@@ -40,11 +40,11 @@ tail_now still_open (Some m) = tail_of still_open m
 
 pub record IsComplete (R : Rules) (p : List ℕ) : Type 0 where
   pub kept : alive (is_over R p) (first_messages (messages (cut p)))
-      ≡ alive (is_over R p) (numbers_of (open_after R.most p)
-      ++ tail_now (open_after R.most p) (cut p).current)
+      ≡ alive (is_over R p) (numbers_of (open_after R p)
+      ++ tail_now (open_after R p) (cut p).current)
   pub named : IfSome (cut p).current (λ m. has_fragments m.header ≡ true →
       named_at m.header ≤ length m.payload →
-      Known (is_over R p) (open_after R.most p) m)
+      Known (is_over R p) (open_after R p) m)
 
 over_same : (R : Rules) (p p' : List ℕ) → lines_of_messages R p' ≡ lines_of_messages R p →
     is_over R p' ≡ is_over R p
@@ -53,7 +53,7 @@ over_same R p p' sd = search (arith)
 
 complete_quiet : (R : Rules) (p p' : List ℕ) → messages (cut p') ≡ messages (cut p) →
     (cut p').current ≡ (cut p).current
-    → events R.most p' ≡ events R.most p → lines_of_messages R p' ≡ lines_of_messages R p →
+    → events R p' ≡ events R p → lines_of_messages R p' ≡ lines_of_messages R p →
     IsComplete R p → IsComplete R p'
 complete_quiet R p p' ms cur ev sd complete = search (arith, open_idle, over_same)
 
@@ -130,27 +130,29 @@ stays_is : (over : ℕ → Bool) (m : CutMessage) (still_open : List Open) (es :
 unfolding Stays
 stays_is over m still_open es h = h
 
-complete_deal : (R : Rules) → IsCausal R.reading → IsEnding R.reading →
+complete_deal : (R : Rules) → IsCausal R.reading → IsStreamable R.reading → IsEnding R.reading →
     (p p' : List ℕ) (whole : List CutMessage) (m : CutMessage)
-    → length p' ≡ suc (length p) → cut p' ≡ end_message whole m → events R.most p' ≡ events R.most p
-    ++ events_of_octet R.most (open_after R.most p) m
-    → Each (λ e. e.place ≤ length p) (events R.most p) → place m ≡ suc (length p)
+    → length p' ≡ suc (length p) → cut p' ≡ end_message whole m → events R p' ≡ events R p
+    ++ events_of_octet R.most (before_by R (events R p)) m
+    → Each (λ e. e.place ≤ length p) (events R p) → place m ≡ suc (length p)
     → length m.payload ≤ size m.header → (length m.payload ≡ named_at m.header →
-    Below m.number (open_after R.most p))
+    Below m.number (open_after R p))
     → alive (is_over R p) (first_messages whole ++ head_of m)
-    ≡ alive (is_over R p) (base (open_after R.most p) m)
+    ≡ alive (is_over R p) (base (open_after R p) m)
     → (has_fragments m.header ≡ true → named_at m.header < length m.payload →
-    Known (is_over R p) (open_after R.most p) m)
+    Known (is_over R p) (open_after R p) m)
     → IsComplete R p'
-complete_deal R causal ending p p' whole m len ec ev old pl fits low start known =
-    let still_open = open_after R.most p in
-    let es = events_of_octet R.most still_open m in
-    let ls = sorted_lines R.reading (octets_of R p) es in
+unfolding before_by open_after
+complete_deal R causal laws ending p p' whole m len ec ev old pl fits low start known =
+    let b = before_by R (events R p) in
+    let still_open = opened [] (events R p) in
+    let es = events_of_octet R.most b m in
+    let ls = sorted_lines R.reading (known_of R p) es in
     let here : Each (λ e. e.place ≡ suc (length p)) es =
-    events_of_octet_each R.most (λ e. e.place ≡ suc (length p)) still_open m (λ what. pl)
+    events_of_octet_each R.most (λ e. e.place ≡ suc (length p)) b m (λ what. pl)
     (all_by (λ (o : Open). (what : EventKind) → place m ≡ suc (length p)) (λ o what. pl) still_open)
     in
-    let sd = message_lines_grow R causal p p' es len ev old here in
+    let sd = message_lines_grow R causal laws.phased p p' es len ev old here in
     let over = is_over R p' in
     let d : Each (Dead over) es = dead R ending p p' es sd in
     let mix : (i : ℕ) → over i ≡ (is_over R p i || list_any (is_last_of i) ls) =
@@ -164,19 +166,19 @@ complete_deal R causal ending p p' whole m len ec ev old pl fits low start known
     let one : alive over (first_messages whole ++ head_of m) ≡ alive over (base still_open m) =
     alive_same (is_over R p) over (λ i. list_any (is_last_of i) ls)
     (first_messages whole ++ head_of m) (base still_open m) mix start in
-    let two = stays_events R.most over m still_open low d in
+    let two = stays_events R.most over m b still_open low d in
     let three = settled_kept over whole m (opened still_open es)
-    (λ full f. done_known R.most over m still_open f (omega arith) after d) in
+    (λ full f. done_known R.most over m b still_open f (omega arith) after d) in
     let named' : IfSome (end_message whole m).current
     (λ m. has_fragments m.header ≡ true → named_at m.header ≤ length m.payload →
     Known over (opened still_open es) m) =
     settled_if whole m (λ m. has_fragments m.header ≡ true → named_at m.header ≤ length m.payload →
     Known over (opened still_open es) m)
-    (λ o long. opener_known R.most over m still_open o long fits (after o) d) in
+    (λ o long. opener_known R.most over m b still_open o long fits (after o) d) in
     record {
-      kept = rw (ms, ec, open_grows R.most p p' es ev)
+      kept = rw (ms, ec, open_grows R p p' es ev)
           (one ∙ (sym (stays_is over m still_open es two) ∙ three));
-      named = rw (ec, open_grows R.most p p' es ev) named';
+      named = rw (ec, open_grows R p p' es ev) named';
     }
 
 known_same : (over : ℕ → Bool) (still_open : List Open) (m : CutMessage) (xs : List ℕ) →
@@ -194,13 +196,14 @@ first_base over still_open hs m low h = search (arith, not_open, alive, numbers_
 -- what must hold of the message m to which the octet belongs
 record Ready (R : Rules) (p : List ℕ) (m : CutMessage) : Type 0 where
   start : alive (is_over R p) (first_messages (cut p).whole ++ head_of m)
-      ≡ alive (is_over R p) (base (open_after R.most p) m)
-  low : length m.payload ≡ named_at m.header → Below m.number (open_after R.most p)
+      ≡ alive (is_over R p) (base (open_after R p) m)
+  low : length m.payload ≡ named_at m.header → Below m.number (open_after R p)
   known : has_fragments m.header ≡ true → named_at m.header < length m.payload →
-      Known (is_over R p) (open_after R.most p) m
+      Known (is_over R p) (open_after R p) m
 
-module _ (R : Rules) (causal : IsCausal R.reading) (ending : IsEnding R.reading) (p : List ℕ)
-    (x : ℕ) (sound : IsSound R p) (complete : IsComplete R p) where
+module _ (R : Rules) (causal : IsCausal R.reading) (laws : IsStreamable R.reading)
+    (ending : IsEnding R.reading) (p : List ℕ) (x : ℕ) (sound : IsSound R p)
+    (complete : IsComplete R p) where
   ready_first : (m : CutMessage) → (cut p).current ≡ None → m.payload ≡ [] →
       m.number ≡ suc (length (cut p).whole) → Ready R p m
   unfolding messages tail_now
@@ -252,7 +255,7 @@ module _ (R : Rules) (causal : IsCausal R.reading) (ending : IsEnding R.reading)
   complete_then (Of now) h =
       let one = h.1 in
       let r = ready one.m h.0 one.number_is one.from in
-      complete_deal R causal ending p (p ++ x ∷ []) (cut p).whole one.m len one.adds.cut_is
+      complete_deal R causal laws ending p (p ++ x ∷ []) (cut p).whole one.m len one.adds.cut_is
       one.grows sound.places one.place_is one.fits r.low r.start r.known
 
 complete_start : (R : Rules) → IsComplete R []
@@ -263,4 +266,4 @@ pub complete : (R : Rules) → IsCausal R.reading → IsStreamable R.reading →
     (p : List ℕ) → IsComplete R p
 complete R causal laws ending = by_growth (IsComplete R) (complete_start R)
     (λ p x h. let so = sound R causal laws p in
-    complete_then R causal ending p x so h _ (then_is R causal laws p x so))
+    complete_then R causal laws ending p x so h _ (then_is R causal laws p x so))

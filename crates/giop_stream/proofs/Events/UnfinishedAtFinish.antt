@@ -9,27 +9,28 @@ use Rattle.giop_stream.specs.Framing.{CutMessage, Cut, cut, read_of}
 use Rattle.giop_message.specs.MessageReader.{IsCausal, IsEnding, IsStreamable}
 use Rattle.giop_stream.specs.Text.{truncated_line}
 use Rattle.giop_stream.specs.Stream.{is_inside, is_over, unfinished}
-use Rattle.giop_stream.specs.Events.{Open, message_key, key, opener_of, has_named, events, open_after, joined}
-use Rattle.giop_stream.specs.OpenSlots.{OctetsByNumber, octets_of, is_open, slots_of, Tracked, tracked_after, left_by, left_open}
+use Rattle.giop_stream.specs.Events.{Open, Before, message_key, key, opener_of, has_named, opened, before_by, events, open_after}
+use Rattle.giop_stream.specs.OpenSlots.{KeptByNumber, known_of, is_open, slots_of, Tracked, tracked_after, left_by, left_open}
 use Rattle.giop_stream.specs.EngineState.{opener_key, owner_of_next, owner_of_next_in, state_of}
 use Rattle.giop_stream.specs.EngineStep.{left_current, left_over}
 use Rattle.giop_stream.proofs.Lists.{each_weaker}
-use Rattle.giop_stream.proofs.StreamLines.LastLines.{octets_known}
+use Rattle.giop_stream.specs.Lines.{Kept, kept_of}
+use Rattle.giop_stream.proofs.StreamLines.LastLines.{known_is}
 use Rattle.giop_stream.proofs.StreamLines.FirstMessages.{numbers_of, tail_of, alive}
 use Rattle.giop_stream.proofs.Events.EventsByEngine.{found_under}
 use Rattle.giop_stream.proofs.Events.UnfinishedAreOpen.{tail_now, alive_append, complete}
 
 -- The message numbers that an engine has at the finish are those of the unfinished messages.
-one_left : (over : ℕ → Bool) (xs : OctetsByNumber) (i : ℕ) (rest : List ℕ) →
+one_left : (over : ℕ → Bool) (xs : KeptByNumber) (i : ℕ) (rest : List ℕ) →
     ((i : ℕ) → over i ≡ true → xs i ≡ None)
-    → ((i : ℕ) → over i ≡ false → (ys : List ℕ) × (xs i ≡ Some ys)) → (b : Bool) → over i ≡ b
+    → ((i : ℕ) → over i ≡ false → (kept : Kept) × (xs i ≡ Some kept)) → (b : Bool) → over i ≡ b
     → left_by i (xs i) ++ rest ≡ cond (not (over i)) (i ∷ rest) rest
 one_left over xs i rest h k true e = rw (h i e, e) refl
 one_left over xs i rest h k false e = search (arith)
 
-slots_left : (over : ℕ → Bool) (xs : OctetsByNumber) (still_open : List Open) →
+slots_left : (over : ℕ → Bool) (xs : KeptByNumber) (still_open : List Open) →
     ((i : ℕ) → over i ≡ true → xs i ≡ None)
-    → ((i : ℕ) → over i ≡ false → (ys : List ℕ) × (xs i ≡ Some ys))
+    → ((i : ℕ) → over i ≡ false → (kept : Kept) × (xs i ≡ Some kept))
     → flat_map left_open (slots_of xs still_open) ≡ alive over (numbers_of still_open)
 unfolding slots_of left_open alive numbers_of
 slots_left over xs [] h k = refl
@@ -54,60 +55,63 @@ all_open [] = tt
 all_open (o ∷ still_open) = search (arith, eq-eqb, each_weaker, or_right, all_open still_open)
 
 -- if the owner of the next octets isn't open, it is the current message
-current_left : (over : ℕ → Bool) (c : Tracked) (current : Option CutMessage)
-    → ((i : ℕ) → over i ≡ true → c.known i ≡ None) →
-    ((i : ℕ) → over i ≡ false → (ys : List ℕ) × (c.known i ≡ Some ys))
-    → left_current c (owner_of_next_in c.still_open current)
+current_left : (over : ℕ → Bool) (b : Before) (c : Tracked) (current : Option CutMessage)
+    → b.still_open ≡ c.still_open → ((i : ℕ) → over i ≡ true → c.known i ≡ None) →
+    ((i : ℕ) → over i ≡ false → (kept : Kept) × (c.known i ≡ Some kept))
+    → left_current c (owner_of_next_in b current)
     ≡ alive over (tail_now c.still_open current)
 unfolding left_current owner_of_next has_named opener_of alive tail_now tail_of
-current_left over c None h k = refl
-current_left over c (Some m) h k = go (is_any_fragment m.header) refl
+current_left over b c None same h k = refl
+current_left over b c (Some m) same h k = go (is_any_fragment m.header) refl
   where
-    continued : (o : Option Open) → opener_of c.still_open m ≡ o →
-        left_current c (opener_key o) ≡ []
+    continued : (o : Option Open) → opener_of b m ≡ o → left_current c (opener_key o) ≡ []
     continued None e = refl
-    continued (Some o) e = rw (found_under (λ o. is_open c.still_open o.opener.number ≡ true)
-        c.still_open (key m) o (all_open c.still_open) e) refl
+    continued (Some o) e =
+        let stands : is_open b.still_open o.opener.number ≡ true =
+        found_under (λ o. is_open b.still_open o.opener.number ≡ true) b (key m) o
+        (all_open b.still_open) e in
+        rw (rw same at stands) refl
 
-    fragment : is_any_fragment m.header ≡ true → (b d : Bool) → is_open c.still_open m.number ≡ d →
-        left_current c (if b then opener_key (opener_of c.still_open m) else Some (message_key m))
+    fragment : is_any_fragment m.header ≡ true → (a d : Bool) → is_open c.still_open m.number ≡ d →
+        left_current c (if a then opener_key (opener_of b m) else Some (message_key m))
         ≡ []
     fragment f true d e = search (arith, continued)
     fragment f false true e = rw e refl
     fragment f false false e = rw (e, f) refl
 
-    itself : (open_now b : Bool) → over m.number ≡ b
+    itself : (open_now a : Bool) → over m.number ≡ a
         → (if open_now then [] else left_by m.number (c.known m.number))
         ≡ alive over (if open_now then [] else m.number ∷ [])
-    itself true b e = refl
+    itself true a e = refl
     itself false true e = rw (h m.number e, e) refl
     itself false false e = search (arith)
 
-    go : (b : Bool) → is_any_fragment m.header ≡ b
+    go : (a : Bool) → is_any_fragment m.header ≡ a
         → left_current c (if is_any_fragment m.header && nat_le (named_at m.header)
         (length m.payload) then
-        opener_key (opener_of c.still_open m) else Some (message_key m)) ≡ alive over
+        opener_key (opener_of b m) else Some (message_key m)) ≡ alive over
         (if is_any_fragment m.header || is_open c.still_open m.number then [] else m.number ∷ [])
     go true f = search (arith, fragment)
     go false f = search (arith, or_none, itself)
 
-octets_over : (R : Rules) (p : List ℕ) (i : ℕ) → is_over R p i ≡ true → octets_of R p i ≡ None
-unfolding octets_of
-octets_over R p i h = rw h refl
+known_over : (R : Rules) (p : List ℕ) (i : ℕ) → is_over R p i ≡ true → known_of R p i ≡ None
+unfolding known_of
+known_over R p i h = rw h refl
 
 pub left_is : (R : Rules) → IsCausal R.reading → IsStreamable R.reading → IsEnding R.reading →
     (p : List ℕ) → unfinished R p ≡ left_over (state_of R p)
-unfolding unfinished left_over state_of tracked_after alive
+unfolding unfinished left_over state_of tracked_after before_by open_after alive
 left_is R causal laws ending p =
-    let still_open = open_after R.most p in
+    let still_open = opened [] (events R p) in
     let over = is_over R p in
-    let known : (i : ℕ) → over i ≡ false → (ys : List ℕ) × (octets_of R p i ≡ Some ys) =
-    λ i h. (joined i (events R.most p), octets_known R p i h) in
+    let known : (i : ℕ) → over i ≡ false → (kept : Kept) × (known_of R p i ≡ Some kept) =
+    λ i h. (kept_of i (events R p), known_is R p i h) in
     (complete R causal laws ending p).kept
     ∙ (alive_append over (numbers_of still_open) (tail_now still_open (cut p).current)
     ∙ rw (
-      slots_left over (octets_of R p) still_open (octets_over R p) known,
-      current_left over (tracked_after R p) (cut p).current (octets_over R p) known,
+      slots_left over (known_of R p) still_open (known_over R p) known,
+      current_left over (before_by R (events R p)) (tracked_after R p) (cut p).current refl
+          (known_over R p) known,
     ) refl)
 
 pub read_by : (p : List ℕ) (c : Cut) → cut p ≡ c → is_inside c.current c.held c.stop ≡ true →

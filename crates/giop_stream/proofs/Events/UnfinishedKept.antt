@@ -1,16 +1,16 @@
 -- Through the events of an octet, the numbers of the open messages and of the current one stay,
 -- except those of messages that are over after it.
 use Rattle.std.proofs.Common.{inl, inr, ◌⊎◌, ◌≡◌, ℕ, ◌<◌, ◌≤◌, Bool, true, false, List, [], ◌∷◌, ◌++◌, length, map, refl, ap, Option, Some, None, arith}
-use Rattle.std.specs.Prelude.{nat_le, ◌==◌, if◌then◌else◌}
+use Rattle.std.specs.Prelude.{◌==◌, if◌then◌else◌}
 use Rattle.std.specs.List.{AllByRecursion as Each}
 use Rattle.std.proofs.lemmas.Bool.{cases_lt, eq-eqb, ne_eqb, eqb-true}
 use Rattle.std.proofs.lemmas.List.{append-nil, map-append}
 use Rattle.giop_stream.specs.declared.fault.FramingFault.{FramingFault}
-use Rattle.giop_stream.specs.declared.fault.FramingFault.TheVariants.{OldFragment, Short, IdOpen, TooManyOpen}
+use Rattle.giop_stream.specs.declared.fault.FramingFault.TheVariants.{Short}
 use Rattle.giop_message.specs.Headers.{size}
 use Rattle.giop_stream.specs.Kinds.{has_fragments, is_any_fragment, named_at}
 use Rattle.giop_stream.specs.Framing.{CutMessage}
-use Rattle.giop_stream.specs.Events.{EventKind, Opens, Cancelled, Faults, Closes, MessageKey, Event, Open, key, own, event_of_open, opener_of, events_at_header, events_at_octet, opens, cancels, events_at_name, events_at_end, events_of_octet, changed, opened, now_of, naming_events, message_end_events}
+use Rattle.giop_stream.specs.Events.{EventKind, Opens, Cancelled, Faults, Closes, MessageKey, Event, Open, Before, key, own, event_of_open, opener_of, events_at_header, events_at_octet, refusal, opens_unless, opens, cancel_of, events_at_name, events_at_end, events_of_octet, changed, opened, now_of, naming_events, message_end_events}
 use Rattle.giop_stream.specs.OpenSlots.{is_open}
 use Rattle.giop_stream.proofs.Events.EventsOfOctet.{opened_append, quiet_header, quiet_octet, quiet_continues, quiet_if, quiet_own, quiet_none, still_faulted}
 use Rattle.giop_stream.proofs.Events.MessageKinds.{first_no_fragment, short_first, long_enough, other_long}
@@ -69,10 +69,10 @@ final_cancelled : (j : ℕ) → is_final (Cancelled j) ≡ true
 unfolding is_final
 final_cancelled j = refl
 
-stays_end : (over : ℕ → Bool) (before still_open : List Open) (m : CutMessage) →
-    Each (Dead over) (events_at_end before m) → Stays over m still_open (events_at_end before m)
+stays_end : (over : ℕ → Bool) (b : Before) (still_open : List Open) (m : CutMessage) →
+    Each (Dead over) (events_at_end b m) → Stays over m still_open (events_at_end b m)
 unfolding message_end_events
-stays_end over before still_open m = search (
+stays_end over b still_open m = search (
   arith,
   stays_if,
   stays_quiet,
@@ -110,34 +110,22 @@ stays_opens over m still_open f low k =
     )
     (ap (alive over) (append-nil (map (λ o. o.opener.number) still_open ++ m.number ∷ [])))
 
-stays_opening : (most : ℕ) (over : ℕ → Bool) (m : CutMessage) (still_open : List Open) →
+stays_opening : (over : ℕ → Bool) (m : CutMessage) (still_open : List Open) →
     Below m.number still_open → is_any_fragment m.header ≡ false
-    → (k : Option ℕ) (o : Option Open) → Stays over m still_open
-    (opens most still_open (now_of m) k o)
-stays_opening most over m still_open low f None o = search (
+    → (k : Option ℕ) (fault : Option FramingFault) → Stays over m still_open
+    (opens_unless (now_of m) k fault)
+stays_opening over m still_open low f k None = stays_opens over m still_open f low k
+stays_opening over m still_open low f k (Some fault) = search (
   arith,
   stays_quiet,
   quiet_own,
   still_faulted,
-)
-stays_opening most over m still_open low f (Some id) (Some other) = search (
-  arith,
-  stays_quiet,
-  quiet_own,
-  still_faulted,
-)
-stays_opening most over m still_open low f (Some id) None = search (
-  arith,
-  stays_quiet,
-  quiet_own,
-  still_faulted,
-  stays_opens,
 )
 
-stays_cancels : (over : ℕ → Bool) (m : CutMessage) (still_open : List Open) (o : Option Open)
-    → Each (Dead over) (cancels (now_of m) o) → Stays over m still_open (cancels (now_of m) o)
-stays_cancels over m still_open None d = search (arith, stays_quiet, quiet_none)
-stays_cancels over m still_open (Some o) d = search (
+stays_cancel : (over : ℕ → Bool) (m : CutMessage) (still_open : List Open) (o : Option Open)
+    → Each (Dead over) (cancel_of (now_of m) o) → Stays over m still_open (cancel_of (now_of m) o)
+stays_cancel over m still_open None d = search (arith, stays_quiet, quiet_none)
+stays_cancel over m still_open (Some o) d = search (
   arith,
   stays_if,
   stays_about,
@@ -147,17 +135,17 @@ stays_cancels over m still_open (Some o) d = search (
   quiet_none,
 )
 
-stays_name : (most : ℕ) (over : ℕ → Bool) (m : CutMessage) (still_open : List Open) →
-    Below m.number still_open → Each (Dead over) (events_at_name most still_open m) →
-    Stays over m still_open (events_at_name most still_open m)
+stays_name : (most : ℕ) (over : ℕ → Bool) (b : Before) (m : CutMessage) (still_open : List Open) →
+    Below m.number still_open → Each (Dead over) (events_at_name most b m) →
+    Stays over m still_open (events_at_name most b m)
 unfolding naming_events
-stays_name most over m still_open low = search (
+stays_name most over b m still_open low = search (
   arith,
   stays_if,
   stays_quiet,
   quiet_continues,
   stays_opening,
-  stays_cancels,
+  stays_cancel,
   quiet_none,
 )
 
@@ -175,12 +163,13 @@ stays_both : (over : ℕ → Bool) (m : CutMessage) (still_open : List Open) (es
 unfolding Stays
 stays_both over m still_open es more h k = search (arith, opened_append)
 
-pub stays_events : (most : ℕ) (over : ℕ → Bool) (m : CutMessage) (still_open : List Open) →
+pub stays_events : (most : ℕ) (over : ℕ → Bool) (m : CutMessage) (b : Before)
+    (still_open : List Open) →
     (length m.payload ≡ named_at m.header → Below m.number still_open)
-    → Each (Dead over) (events_of_octet most still_open m) →
-    Stays over m still_open (events_of_octet most still_open m)
+    → Each (Dead over) (events_of_octet most b m) →
+    Stays over m still_open (events_of_octet most b m)
 unfolding events_of_octet
-stays_events most over m still_open low d = search (
+stays_events most over m b still_open low d = search (
   arith,
   quiet_if,
   quiet_header,
@@ -215,128 +204,132 @@ unfolding Known opened own changed
 opens_known over m still_open k = inl (open_last still_open
     (record { key = k; opener = record { number = m.number; header = m.header } }))
 
-known_opens : (most : ℕ) (over : ℕ → Bool) (m : CutMessage) (still_open : List Open) (k : Option ℕ)
-    (o : Option Open) → Each (Dead over) (opens most still_open (now_of m) k o) →
-    Known over (opened still_open (opens most still_open (now_of m) k o)) m
+known_opens : (over : ℕ → Bool) (m : CutMessage) (still_open : List Open) (k : Option ℕ)
+    (fault : Option FramingFault) → Each (Dead over) (opens_unless (now_of m) k fault) →
+    Known over (opened still_open (opens_unless (now_of m) k fault)) m
 unfolding Known
-known_opens most over m still_open None o d =
-    inr (dead_own over m (Faults OldFragment) (final_faulted OldFragment) d)
-known_opens most over m still_open (Some id) (Some other) d =
-    inr (dead_own over m (Faults IdOpen) (final_faulted IdOpen) d)
-known_opens most over m still_open (Some id) None d = pick (nat_le most (length still_open)) d
-  where
-    pick : (b : Bool) → Each (Dead over)
-        (if b then own (now_of m) (Faults TooManyOpen) else own (now_of m) (Opens (Some id)))
-        → Known over (opened still_open (if b then own (now_of m) (Faults TooManyOpen) else own
-        (now_of m) (Opens (Some id)))) m
-    pick true d = inr (dead_own over m (Faults TooManyOpen) (final_faulted TooManyOpen) d)
-    pick false d = opens_known over m still_open (Some id)
+known_opens over m still_open k None d = opens_known over m still_open k
+known_opens over m still_open k (Some fault) d =
+    inr (dead_own over m (Faults fault) (final_faulted fault) d)
 
-opener_end : (still_open : List Open) (m : CutMessage) → has_fragments m.header ≡ true →
-    named_at m.header ≤ size m.header → events_at_end still_open m ≡ []
+opener_end : (b : Before) (m : CutMessage) → has_fragments m.header ≡ true →
+    named_at m.header ≤ size m.header → events_at_end b m ≡ []
 unfolding message_end_events
-opener_end still_open m o h = search (arith, long_enough)
+opener_end b m o h = search (arith, long_enough)
 
-head_end : (still_open : List Open) (m : CutMessage) → has_fragments m.header ≡ false →
-    is_any_fragment m.header ≡ false → events_at_end still_open m ≡ own (now_of m) Closes
+head_end : (b : Before) (m : CutMessage) → has_fragments m.header ≡ false →
+    is_any_fragment m.header ≡ false → events_at_end b m ≡ own (now_of m) Closes
 unfolding message_end_events
-head_end still_open m o f = search (arith, other_long)
+head_end b m o f = search (arith, other_long)
 
-short_end : (still_open : List Open) (m : CutMessage) → has_fragments m.header ≡ true →
+short_end : (b : Before) (m : CutMessage) → has_fragments m.header ≡ true →
     size m.header < named_at m.header →
-    events_at_end still_open m ≡ own (now_of m) (Faults Short)
+    events_at_end b m ≡ own (now_of m) (Faults Short)
 unfolding message_end_events
-short_end still_open m o h = search (arith, short_first)
+short_end b m o h = search (arith, short_first)
 
-opener_name : (most : ℕ) (still_open : List Open) (m : CutMessage) → has_fragments m.header ≡ true →
-    events_at_name most still_open m
-    ≡ opens most still_open (now_of m) (key m) (opener_of still_open m)
+opener_name : (most : ℕ) (b : Before) (m : CutMessage) → has_fragments m.header ≡ true →
+    events_at_name most b m ≡ opens most b (now_of m) (key m) (opener_of b m)
 unfolding naming_events
-opener_name most still_open m o = search (arith, first_no_fragment)
+opener_name most b m o = search (arith, first_no_fragment)
 
-third_none : (still_open : List Open) (m : CutMessage) → has_fragments m.header ≡ true →
+third_none : (b : Before) (m : CutMessage) → has_fragments m.header ≡ true →
     named_at m.header ≤ size m.header
-    → (if length m.payload == size m.header then events_at_end still_open m else []) ≡ []
-third_none still_open m o h = search (arith, opener_end)
+    → (if length m.payload == size m.header then events_at_end b m else []) ≡ []
+third_none b m o h = search (arith, opener_end)
 
-first_quiet : (still_open : List Open) (m : CutMessage) →
+first_quiet : (b : Before) (still_open : List Open) (m : CutMessage) →
     opened still_open (if length m.payload == 0 then events_at_header m else events_at_octet
-    still_open m) ≡ still_open
-first_quiet still_open m = search (arith, quiet_if, quiet_header, quiet_octet)
+    b m) ≡ still_open
+first_quiet b still_open m = search (arith, quiet_if, quiet_header, quiet_octet)
 
 -- the open messages after the three parts of an octet's events
-after_parts : (most : ℕ) (still_open : List Open) (m : CutMessage) (second third : List Event)
-    → (if length m.payload == named_at m.header then events_at_name most still_open m else []) ≡
+after_parts : (most : ℕ) (b : Before) (still_open : List Open) (m : CutMessage)
+    (second third : List Event)
+    → (if length m.payload == named_at m.header then events_at_name most b m else []) ≡
     second
-    → (if length m.payload == size m.header then events_at_end still_open m else []) ≡ third
-    → opened still_open (events_of_octet most still_open m)
+    → (if length m.payload == size m.header then events_at_end b m else []) ≡ third
+    → opened still_open (events_of_octet most b m)
     ≡ opened (opened still_open second) third
 unfolding events_of_octet
-after_parts most still_open m second third h k = search (arith, opened_append, first_quiet)
+after_parts most b still_open m second third h k = search (arith, opened_append, first_quiet)
 
-dead_parts : (most : ℕ) (over : ℕ → Bool) (still_open : List Open) (m : CutMessage)
+dead_parts : (most : ℕ) (over : ℕ → Bool) (b : Before) (m : CutMessage)
     (second third : List Event)
-    → (if length m.payload == named_at m.header then events_at_name most still_open m else []) ≡
+    → (if length m.payload == named_at m.header then events_at_name most b m else []) ≡
     second
-    → (if length m.payload == size m.header then events_at_end still_open m else []) ≡ third →
-    Each (Dead over) (events_of_octet most still_open m)
+    → (if length m.payload == size m.header then events_at_end b m else []) ≡ third →
+    Each (Dead over) (events_of_octet most b m)
     → Each (Dead over) (second ++ third)
 unfolding events_of_octet
-dead_parts most over still_open m second third h k d = search (arith, each_right)
+dead_parts most over b m second third h k d = search (arith, each_right)
 
-second_none : (most : ℕ) (still_open : List Open) (m : CutMessage) →
+second_none : (most : ℕ) (b : Before) (m : CutMessage) →
     named_at m.header < length m.payload →
-    (if length m.payload == named_at m.header then events_at_name most still_open m else []) ≡ []
-second_none most still_open m h = search (arith, ne_eqb)
+    (if length m.payload == named_at m.header then events_at_name most b m else []) ≡ []
+second_none most b m h = search (arith, ne_eqb)
 
-pub opener_known : (most : ℕ) (over : ℕ → Bool) (m : CutMessage) (still_open : List Open) →
+pub opener_known : (most : ℕ) (over : ℕ → Bool) (m : CutMessage) (b : Before)
+    (still_open : List Open) →
     has_fragments m.header ≡ true → named_at m.header ≤ length m.payload
     → length m.payload ≤ size m.header → (named_at m.header < length m.payload →
     Known over still_open m)
-    → Each (Dead over) (events_of_octet most still_open m) →
-    Known over (opened still_open (events_of_octet most still_open m)) m
+    → Each (Dead over) (events_of_octet most b m) →
+    Known over (opened still_open (events_of_octet most b m)) m
 unfolding opened
-opener_known most over m still_open o long fits before d =
+opener_known most over m b still_open o long fits before d =
     elim (cases_lt (named_at m.header) (length m.payload)) [
       | inl past ↦
-          let none : (if length m.payload == size m.header then events_at_end still_open m else [])
-          ≡ [] = third_none still_open m o (omega arith) in
-          rw (after_parts most still_open m [] [] (second_none most still_open m past) none)
+          let none : (if length m.payload == size m.header then events_at_end b m else [])
+          ≡ [] = third_none b m o (omega arith) in
+          rw (after_parts most b still_open m [] [] (second_none most b m past) none)
           (before past)
       | inr least ↦
           let now : length m.payload ≡ named_at m.header = omega arith in
-          let two : (if length m.payload == named_at m.header then events_at_name most still_open m
-          else [])
-          ≡ opens most still_open (now_of m) (key m) (opener_of still_open m) =
-          rw (eq-eqb (length m.payload) (named_at m.header) now)
-          (opener_name most still_open m o) in
-          let none : (if length m.payload == size m.header then events_at_end still_open m else [])
-          ≡ [] = third_none still_open m o (omega arith) in
-          let dead_two = each_left (Dead over) (opens most still_open (now_of m) (key m)
-          (opener_of still_open m)) [] (dead_parts most over still_open m
-          (opens most still_open (now_of m) (key m) (opener_of still_open m)) [] two none d) in
-          rw (after_parts most still_open m (opens most still_open (now_of m) (key m)
-          (opener_of still_open m)) [] two none) (known_opens most over m still_open (key m)
-          (opener_of still_open m) dead_two)
+          let fault = refusal most b (key m) (opener_of b m) in
+          let opening = opens_unless (now_of m) (key m) fault in
+          let two : (if length m.payload == named_at m.header then events_at_name most b m
+          else []) ≡ opening =
+          rw (eq-eqb (length m.payload) (named_at m.header) now) (opener_name most b m o) in
+          let none : (if length m.payload == size m.header then events_at_end b m else [])
+          ≡ [] = third_none b m o (omega arith) in
+          let dead_two = each_left (Dead over) opening []
+          (dead_parts most over b m opening [] two none d) in
+          rw (after_parts most b still_open m opening [] two none)
+          (known_opens over m still_open (key m) fault dead_two)
     ]
 
-pub done_known : (most : ℕ) (over : ℕ → Bool) (m : CutMessage) (still_open : List Open) →
+end_dead : (most : ℕ) (over : ℕ → Bool) (b : Before) (m : CutMessage) →
+    length m.payload ≡ size m.header → Each (Dead over) (events_of_octet most b m) →
+    Each (Dead over) (events_at_end b m)
+unfolding events_of_octet
+end_dead most over b m full d =
+    let later = each_right (Dead over)
+    (if length m.payload == 0 then events_at_header m else events_at_octet b m) _ d in
+    let last = each_right (Dead over)
+    (if length m.payload == named_at m.header then events_at_name most b m else []) _ later in
+    rw (eq-eqb (length m.payload) (size m.header) full) at last
+
+pub done_known : (most : ℕ) (over : ℕ → Bool) (m : CutMessage) (b : Before)
+    (still_open : List Open) →
     is_any_fragment m.header ≡ false
     → length m.payload ≡ size m.header → (has_fragments m.header ≡ true →
     named_at m.header < length m.payload →
     Known over still_open m)
-    → Each (Dead over) (events_of_octet most still_open m) →
-    Known over (opened still_open (events_of_octet most still_open m)) m
-unfolding events_of_octet Known
-done_known most over m still_open f full before d = search (
-  arith,
-  each_right,
-  eq-eqb,
-  dead_own,
-  final_closes,
-  head_end,
-  cases_lt,
-  final_faulted,
-  short_end,
-  opener_known,
-)
+    → Each (Dead over) (events_of_octet most b m) →
+    Known over (opened still_open (events_of_octet most b m)) m
+done_known most over m b still_open f full before d = go (has_fragments m.header) refl
+  where
+    last : Each (Dead over) (events_at_end b m)
+    last = end_dead most over b m full d
+
+    go : (c : Bool) → has_fragments m.header ≡ c →
+        Known over (opened still_open (events_of_octet most b m)) m
+    go false g = unfold Known in
+        inr (dead_own over m Closes final_closes (rw (head_end b m g f) at last))
+    go true g = elim (cases_lt (size m.header) (named_at m.header)) [
+      | inl short ↦ unfold Known in inr (dead_own over m (Faults Short) (final_faulted Short)
+          (rw (short_end b m g short) at last))
+      | inr long ↦ opener_known most over m b still_open g (omega (arith, full, long))
+          (omega (arith, full)) (before g) d
+    ]

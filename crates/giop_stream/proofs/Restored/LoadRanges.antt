@@ -1,8 +1,8 @@
 -- The fields of any stream's engine are in the ranges of a checkpoint's fixed part, so a load takes
 -- them.
-use Rattle.std.proofs.Common.{◌≡◌, ℕ, ◌+◌, ◌*◌, ◌-◌, ◌^◌, ◌<◌, ◌≤◌, Bool, true, false, List, [], ◌∷◌, ◌++◌, length, refl, Option, Some, None, arith}
-use Rattle.std.specs.Prelude.{nat_lt, if◌then◌else◌}
-use Rattle.std.proofs.lemmas.Bool.{ltb-true, ltb-false}
+use Rattle.std.proofs.Common.{◌≡◌, ℕ, ◌+◌, ◌*◌, ◌-◌, ◌^◌, ◌<◌, ◌≤◌, Bool, true, false, ◌&&◌, List, [], ◌∷◌, ◌++◌, length, refl, Option, Some, None, arith}
+use Rattle.std.specs.Prelude.{nat_lt, nat_le, if◌then◌else◌}
+use Rattle.std.proofs.lemmas.Bool.{ltb-true, ltb-false, lt-leb}
 use Rattle.giop_cdr.specs.Numbers.{AreOctets}
 use Rattle.giop_sig.specs.Table.{Table}
 use Rattle.giop_message.specs.declared.message.Message.{Message as CodeMessage}
@@ -12,9 +12,11 @@ use Rattle.giop_message.specs.Signatures.{RequestTable, by_list}
 use Rattle.giop_message.proofs.MessageLaws.{is_causal}
 use Rattle.giop_checkpoint.specs.declared.fault.StreamFault.{StreamFault}
 use Rattle.giop_checkpoint.specs.declared.fixed.NextOctet.TheVariants.{Header, Payload}
-use Rattle.giop_checkpoint.specs.Layouts.{IsAmong}
+use Rattle.giop_checkpoint.specs.declared.layout.Layout.{Layout}
+use Rattle.giop_checkpoint.specs.declared.layout.Layout.TheVariants.{Second, Third, Latest}
+use Rattle.giop_checkpoint.specs.Layouts.{IsAmong, MixedFits, reads}
 use Rattle.giop_checkpoint.specs.Fixed.{PlaceHasRange, HasRange}
-use Rattle.giop_stream.specs.Rules.{Rules, rules}
+use Rattle.giop_stream.specs.Rules.{Rules, joins_by, rules}
 use Rattle.giop_stream.specs.Framing.{Cut, cut, limit, read_of, fault_of}
 use Rattle.giop_stream.specs.Events.{place}
 use Rattle.giop_stream.specs.OpenSlots.{tracked_after}
@@ -29,7 +31,8 @@ use Rattle.giop_stream.proofs.Cuts.Cutting.{stopped_at, of_parts, settle_stop}
 use Rattle.giop_stream.proofs.Events.Soundness.{Fits}
 use Rattle.giop_stream.proofs.CodeSteps.OneOctet.{Then, then_is}
 use Rattle.giop_stream.proofs.Cuts.OfOctets.{HeaderOctets, header_octets, size_fits}
-use Rattle.giop_stream.proofs.CodeSteps.EngineAlive.{sound, few_open}
+use Rattle.giop_stream.proofs.CodeSteps.EngineAlive.{sound}
+use Rattle.giop_stream.proofs.Cuts.OpenMessages.{few_open}
 use Rattle.giop_stream.proofs.SlotSteps.Parts.{in_turn}
 use Rattle.giop_stream.proofs.SlotSteps.SlotLists.{slots_many, are_as_many}
 use Rattle.giop_stream.proofs.Cuts.Counts.{octets_few, octets_free, messages_few}
@@ -68,6 +71,21 @@ place_range None header payload_count h = search (arith, place_by)
 one_own : (own : Option CodeMessage) → count_own own ≤ 1
 one_own None = omega arith
 one_own (Some m) = omega arith
+
+-- Messages of 1.1 are mixed only where Fragments of 1.1 are joined, which only the latest layout
+-- stores.
+none_mixed : (mixed joins : Bool) → joins ≡ false → (mixed && joins) ≡ false
+none_mixed true joins e = e
+none_mixed false joins e = refl
+
+not_joined : (version : ℕ) → nat_lt version 3 ≡ true → nat_le 3 version ≡ false
+not_joined version e = search (arith, ltb-true, lt-leb)
+
+mixed_fits : (C : Table) (layout : Layout) (mixed : Bool) → reads C.version layout ≡ true →
+    MixedFits layout (mixed && joins_by C)
+mixed_fits C Second mixed e = none_mixed mixed (joins_by C) (not_joined C.version e)
+mixed_fits C Third mixed e = none_mixed mixed (joins_by C) (not_joined C.version e)
+mixed_fits C Latest mixed e = tt
 
 -- ---- A stream fault is at one of the stream's octets.
 
@@ -201,4 +219,5 @@ module _ (octets p : List ℕ) (C : Table) (l : RequestTable) (most : ℕ)
     place_range,
     header_is,
     owner_among,
+    mixed_fits,
   )

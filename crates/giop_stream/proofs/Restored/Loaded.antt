@@ -1,10 +1,10 @@
 -- The slots that are read from a checkpoint's records are those that were written.
-use Rattle.std.proofs.Common.{◌≡◌, ℕ, suc, ◌+◌, ◌-◌, ◌<◌, ◌≤◌, zero, Bool, true, false, List, [], ◌∷◌, ◌++◌, length, drop, flat_map, replicate, arith, Option, Some, None, inl, inr, ◌⊎◌, refl, sym, ◌∙◌, subst, append_assoc, append-nil}
-use Rattle.std.specs.Prelude.{is_some, IsSomeAnd}
-use Rattle.std.specs.List.{AllByRecursion as Each}
+use Rattle.std.proofs.Common.{◌≡◌, ℕ, suc, ◌+◌, ◌-◌, ◌≤◌, zero, Bool, true, false, cond, List, [], ◌∷◌, ◌++◌, length, drop, flat_map, replicate, arith, Option, Some, None, inl, inr, ◌⊎◌, refl, sym, ap, ◌∙◌, subst, append_assoc, append-nil}
+use Rattle.std.specs.Prelude.{is_none, is_some, IsSomeAnd}
+use Rattle.std.specs.List.{position_from, AllByRecursion as Each}
 use Rattle.std.proofs.lemmas.List.{length-append}
 use Rattle.giop_sig.specs.Table.{Table}
-use Rattle.giop_message.specs.Phases.{unbroken}
+use Rattle.giop_message.specs.Phases.{Phase}
 use Rattle.giop_message.specs.declared.message.Message.{Message}
 use Rattle.giop_message.specs.MessageState.{Follows}
 use Rattle.giop_message.specs.Signatures.{Answers}
@@ -16,10 +16,11 @@ use Rattle.giop_stream.specs.SlotsRepresent.{OpenEntry}
 use Rattle.giop_stream.specs.declared.slots.Slots.{Slots}
 use Rattle.giop_stream.specs.declared.slots.PayloadOwner.TheVariants as owners
 use Rattle.giop_stream.specs.Events.{MessageKey}
+use Rattle.giop_stream.specs.Lines.{Kept}
 use Rattle.giop_stream.specs.OpenSlots.{Slot as Held}
 use Rattle.giop_stream.specs.SlotsRepresent.{IsReady, RepresentsMessage, IsSlot, AreSlots}
-use Rattle.giop_stream.specs.Checkpoint.{IsStored, IsHeld, standing_of}
-use Rattle.giop_stream.specs.Reloading.{IsEntry, pushed, IsOpenEntry, IsCurrentEntry, IsCurrentOwner, AreEntriesOf, AreLeft, HasAdded, HasAddedFirst}
+use Rattle.giop_stream.specs.Checkpoint.{IsStored, IsHeld, open_kind, over_kind, standing_of}
+use Rattle.giop_stream.specs.Reloading.{IsEntry, IsUnbroken, MayBeOpen, HasRoomFor, lacks_key, without_key, MayHaveSeams, pushed, IsOpenEntry, IsCurrentEntry, IsCurrentOwner, AreEntriesOf, AreLeft, HasAdded, HasAddedFirst}
 use Rattle.giop_stream.proofs.SlotSteps.SlotLists.{are_as_many}
 use Rattle.giop_stream.proofs.Restored.SavedSizes.{entries_range}
 
@@ -41,21 +42,32 @@ stored_in : (m : Message) (e : Entry) (first : FirstRecord) → IsHeld m e → I
     Stored m first.message first.frames.now
 stored_in m e first is entry = search (arith)
 
-open_id : (a b : ℕ) → record_kinds.Open a ≡ record_kinds.Open b → a ≡ b
-open_id a b e = cc
+open_id : (a b : Option ℕ) → open_kind a ≡ open_kind b → a ≡ b
+open_id None None e = refl
+open_id None (Some b) e = absurd cc
+open_id (Some a) None e = absurd cc
+open_id (Some a) (Some b) e = cc
 
-over_id : (a b : ℕ) → record_kinds.Over a ≡ record_kinds.Over b → a ≡ b
-over_id a b e = cc
+over_id : (a b : Option ℕ) → over_kind a ≡ over_kind b → a ≡ b
+over_id None None e = refl
+over_id None (Some b) e = absurd cc
+over_id (Some a) None e = absurd cc
+over_id (Some a) (Some b) e = cc
 
-over_not_open : (a b : ℕ) → record_kinds.Over a ≡ record_kinds.Open b → ⊥
-over_not_open a b e = cc
+over_not_open : (a b : Option ℕ) → over_kind a ≡ open_kind b → ⊥
+over_not_open None None e = cc
+over_not_open None (Some b) e = cc
+over_not_open (Some a) None e = cc
+over_not_open (Some a) (Some b) e = cc
 
-open_not_over : (a b : ℕ) → record_kinds.Open a ≡ record_kinds.Over b → ⊥
-open_not_over a b e = cc
+open_not_over : (a b : Option ℕ) → open_kind a ≡ over_kind b → ⊥
+open_not_over a b e = over_not_open b a (sym e)
 
-current_none : (m : Option Message) (id : ℕ) → standing_of m id ≡ record_kinds.Current → ⊥
-current_none None id e = cc
-current_none (Some m) id e = cc
+current_none : (m : Option Message) (key : Option ℕ) → standing_of m key ≡ record_kinds.Current → ⊥
+current_none None None e = cc
+current_none None (Some id) e = cc
+current_none (Some m) None e = cc
+current_none (Some m) (Some id) e = cc
 
 -- ---- a message
 
@@ -63,87 +75,122 @@ current_none (Some m) id e = cc
 -- follows
 abbrev pub Restores : Table → ℕ → FirstRecord → Option Message → Type 0
 Restores C octets first found =
-    (m : Message) (l : Answers) (n : ℕ) (h xs : List ℕ) → IsReady C (octets + 1) (Some m) →
+    (m : Message) (l : Answers) (phase : Phase) (n : ℕ) (h xs : List ℕ) →
+    IsReady C (octets + 1) (Some m) →
     m.number ≡ first.«record».number → m.header ≡ first.«record».header →
-    Stored m first.message first.frames.now → Follows C l unbroken n h m xs →
-    IsSomeAnd found (λ e. Follows C l unbroken n h e xs)
+    Stored m first.message first.frames.now → MayHaveSeams first phase →
+    Follows C l phase n h m xs → IsSomeAnd found (λ e. Follows C l phase n h e xs)
+
+-- the same of what is kept
+FitsRecord : FirstRecord → Option Kept → Type 0
+FitsRecord first None = Unit {0}
+FitsRecord first (Some kept) = MayHaveSeams first kept.phase
+
+fits_current : (first : FirstRecord) (known : Option Kept) → IsUnbroken known →
+    FitsRecord first known
+unfolding FitsRecord
+fits_current first None h = tt
+fits_current first (Some kept) h = inr h
+
+module _ (C : Table) (l : Answers) where
+  fits_open : (first : FirstRecord) (message : Option Message) (w : MessageKey) (key : Option ℕ)
+      (known : Option Kept) → first.«record».record_kind ≡ standing_of message key →
+      RepresentsMessage C l message w known → MayBeOpen C key known → FitsRecord first known
+  unfolding FitsRecord
+  fits_open first message w key None is represents may = tt
+  fits_open first (Some m) w None (Some kept) is represents may = inl is
+  fits_open first None w None (Some kept) is represents may = absurd represents
+  fits_open first message w (Some id) (Some kept) is represents may = inr may
 
 module _ (C : Table) (l : Answers) (first : FirstRecord) where
   -- the record is this entry of an open message, and the message represents these octets
   record IsOf (e : Entry) (w : MessageKey) (message : Option Message)
-      (message_octets : Option (List ℕ)) (id : ℕ) : Type 0 where
+      (known : Option Kept) (key : Option ℕ) : Type 0 where
     entry : IsEntry first e
-    record_kind : first.«record».record_kind ≡ standing_of message id
+    record_kind : first.«record».record_kind ≡ standing_of message key
     stored : IsStored message e
-    kept : RepresentsMessage C l message w message_octets
+    kept : RepresentsMessage C l message w known
+    fits : FitsRecord first known
     number : w.number ≡ first.«record».number
     header : w.header ≡ first.«record».header
 
   -- such a message is restored
-  abbrev IsAgain : MessageKey → Option Message → Option (List ℕ) → Type 0
-  IsAgain w found message_octets = (is_some found ≡ true)
-      × RepresentsMessage C l found w message_octets
+  abbrev IsAgain : MessageKey → Option Message → Option Kept → Type 0
+  IsAgain w found known = (is_some found ≡ true) × RepresentsMessage C l found w known
 
-  is_again : (w : MessageKey) (xs : List ℕ) (found : Option Message) →
-      IsSomeAnd found (λ m. Follows C l unbroken w.number w.header m xs) → IsAgain w found (Some xs)
-  is_again w xs None h = absurd h
-  is_again w xs (Some m) h = (refl, h)
+  is_again : (w : MessageKey) (kept : Kept) (found : Option Message) →
+      IsSomeAnd found (λ m. Follows C l kept.phase w.number w.header m kept.octets) →
+      IsAgain w found (Some kept)
+  is_again w kept None h = absurd h
+  is_again w kept (Some m) h = (refl, h)
 
   -- a message that is over has no frames, and zeros for its octets
-  abbrev IsNothing : MessageKey → Option (List ℕ) → Type 0
-  IsNothing w message_octets = (first.frames.now ≡ []) × (first.message ≡ replicate 224 0)
-      × RepresentsMessage C l None w message_octets
+  abbrev IsNothing : MessageKey → Option Kept → Type 0
+  IsNothing w known = (first.frames.now ≡ []) × (first.message ≡ replicate 224 0)
+      × RepresentsMessage C l None w known
 
   over_by : (e : Entry) (w : MessageKey) (message : Option Message)
-      (message_octets : Option (List ℕ)) (kid id : ℕ) →
-      IsOf e w message message_octets kid → first.«record».record_kind ≡ record_kinds.Over id →
-      (kid ≡ id) × IsNothing w message_octets
+      (known : Option Kept) (kid id : Option ℕ) →
+      IsOf e w message known kid → first.«record».record_kind ≡ over_kind id →
+      (kid ≡ id) × IsNothing w known
   over_by e w None None kid id is over = search (arith, over_id)
-  over_by e w None (Some xs) kid id is over = absurd is.kept
-  over_by e w (Some m) message_octets kid id is over = search (arith, open_not_over)
+  over_by e w None (Some kept) kid id is over = absurd is.kept
+  over_by e w (Some m) known kid id is over = search (arith, open_not_over)
 
 module _ (C : Table) (l : Answers) (octets : ℕ) (first : FirstRecord) where
-  pub current_again : (w : MessageKey) (xs : Option (List ℕ)) (found : Option Message) →
-      IsCurrentEntry C l (octets + 1) first w xs → Restores C octets first found →
-      (is_some found ≡ true) × RepresentsMessage C l found w xs
+  pub current_again : (w : MessageKey) (known : Option Kept) (found : Option Message) →
+      IsCurrentEntry C l (octets + 1) first w known → Restores C octets first found →
+      (is_some found ≡ true) × RepresentsMessage C l found w known
   current_again w None found is again = absurd is.own_is
-  current_again w (Some xs) found is again = search (
-    arith,
-    is_again,
-    number_in,
-    header_in,
-    stored_in,
-  )
+  current_again w (Some kept) found is again =
+      let m = is.message in
+      let e = is.entry in
+      is_again C l first w kept found
+      (again m l kept.phase w.number w.header kept.octets is.ready
+      (sym (number_in first e is.read ∙ is.entry_is.number_is))
+      (sym (header_in first e is.read ∙ is.entry_is.header_is))
+      (stored_in m e first is.entry_is.message is.read) (inr is.whole) is.own_is)
 
   open_by : (e : Entry) (w : MessageKey) (found message : Option Message)
-      (message_octets : Option (List ℕ)) (kid id : ℕ) →
-      IsOf C l first e w message message_octets kid →
-      first.«record».record_kind ≡ record_kinds.Open id →
+      (known : Option Kept) (kid id : Option ℕ) →
+      IsOf C l first e w message known kid →
+      first.«record».record_kind ≡ open_kind id →
       IsReady C (octets + 1) message → Restores C octets first found → (kid ≡ id)
-      × IsAgain C l first w found message_octets
-  open_by e w found None message_octets kid id is opened ready again = search (arith, over_not_open)
+      × IsAgain C l first w found known
+  unfolding FitsRecord
+  open_by e w found None known kid id is opened ready again = search (arith, over_not_open)
   open_by e w found (Some m) None kid id is opened ready again = absurd is.kept
-  open_by e w found (Some m) (Some xs) kid id is opened ready again = search (
-    arith,
-    open_id,
-    is_again,
-    stored_in,
+  open_by e w found (Some m) (Some kept) kid id is opened ready again = (
+    open_id kid id (sym is.record_kind ∙ opened),
+    is_again C l first w kept found
+        (again m l kept.phase w.number w.header kept.octets ready
+        (is.kept.same_number ∙ is.number) (is.kept.same_header ∙ is.header)
+        (stored_in m e first is.stored is.entry) is.fits is.kept),
   )
 
 module _ (C : Table) (l : Answers) (at : ℕ) (first : FirstRecord) (held : Held) where
+  kind_of : (is : IsOpenEntry C l at first held) →
+      first.«record».record_kind ≡ standing_of is.kept.value.message held.open_as.key
+  kind_of is = standing_in first is.entry is.read ∙ is.entry_is.record_kind
+      ∙ ap (standing_of is.kept.value.message) is.slot_is.key
+
+  fits_of : IsOpenEntry C l at first held → FitsRecord first held.kept
+  fits_of is = fits_open C l first is.kept.value.message held.open_as.opener held.open_as.key
+      held.kept (kind_of is) is.slot_is.message is.may
+
   of_slot : (is : IsOpenEntry C l at first held) →
-      IsOf C l first is.entry held.open_as.opener is.kept.value.message held.octets is.kept.key
-  of_slot is = search (arith, standing_in, number_in, header_in)
+      IsOf C l first is.entry held.open_as.opener is.kept.value.message held.kept is.kept.key
+  of_slot is = search (arith, standing_in, number_in, header_in, fits_of)
 
   -- the slot made from a record, if its message represents the same octets
-  slot_again : (id : ℕ) (found : Option Message) (is : IsOpenEntry C l at first held) →
+  slot_again : (id : Option ℕ) (found : Option Message) (is : IsOpenEntry C l at first held) →
       is.kept.key ≡ id →
-      RepresentsMessage C l found held.open_as.opener held.octets →
+      RepresentsMessage C l found held.open_as.opener held.kept →
       IsSlot C l (pushed first id found) held
   slot_again id found is same kept = search (arith, number_in, header_in)
 
-  pub over_again : (id : ℕ) → IsOpenEntry C l at first held →
-      first.«record».record_kind ≡ record_kinds.Over id →
+  pub over_again : (id : Option ℕ) → IsOpenEntry C l at first held →
+      first.«record».record_kind ≡ over_kind id →
       (first.frames.now ≡ []) × (first.message ≡ replicate 224 0)
       × IsSlot C l (pushed first id None) held
   over_again id is over = search (arith, over_by, of_slot, slot_again)
@@ -154,25 +201,29 @@ module _ (C : Table) (l : Answers) (at : ℕ) (first : FirstRecord) (held : Held
       first.«record».record_kind ≡ record_kinds.Current → ⊥
   open_not_current is e = search (arith, current_none, standing_in)
 
-pub open_again : (C : Table) (l : Answers) (octets : ℕ) (first : FirstRecord) (held : Held) (id : ℕ)
-    (found : Option Message) →
-    IsOpenEntry C l (octets + 1) first held → first.«record».record_kind ≡ record_kinds.Open id →
+pub open_again : (C : Table) (l : Answers) (octets : ℕ) (first : FirstRecord) (held : Held)
+    (id : Option ℕ) (found : Option Message) →
+    IsOpenEntry C l (octets + 1) first held → first.«record».record_kind ≡ open_kind id →
     Restores C octets first found → (is_some found ≡ true) × IsSlot C l (pushed first id found) held
-open_again C l octets first held id found is opened again = search (arith)
+open_again C l octets first held id found is opened again =
+    let of = of_slot C l (octets + 1) first held is in
+    let made = open_by C l octets first is.entry held.open_as.opener found is.kept.value.message
+    held.kept is.kept.key id of opened is.ready again in
+    (made.1.0, slot_again C l (octets + 1) first held id found is made.0 made.1.1)
 
 module _ (C : Table) (l : Answers) (at : ℕ) (first : FirstRecord) (w : MessageKey)
-    (xs : Option (List ℕ)) (id : ℕ) where
+    (xs : Option Kept) (id : Option ℕ) where
   standing_now : IsCurrentEntry C l at first w xs →
       record_kinds.Current ≡ first.«record».record_kind
   standing_now is = search (arith, standing_in)
 
   pub current_not_open : IsCurrentEntry C l at first w xs →
-      first.«record».record_kind ≡ record_kinds.Open id → ⊥
-  current_not_open is e = search (arith, standing_now)
+      first.«record».record_kind ≡ open_kind id → ⊥
+  current_not_open is e = current_none (Some is.message) id (sym e ∙ sym (standing_now is))
 
   pub current_not_over : IsCurrentEntry C l at first w xs →
-      first.«record».record_kind ≡ record_kinds.Over id → ⊥
-  current_not_over is e = search (arith, standing_now)
+      first.«record».record_kind ≡ over_kind id → ⊥
+  current_not_over is e = current_none None id (sym e ∙ sym (standing_now is))
 
 -- ---- the open messages that were added
 
@@ -214,7 +265,7 @@ IsRead first e rest =
 
 -- the first record is the entry of an open message
 pub record FrontOpen (C : Table) (l : Answers) (at count : ℕ) (first : FirstRecord)
-    (held : List Held) (w : MessageKey) (xs : Option (List ℕ))
+    (held : List Held) (w : MessageKey) (xs : Option Kept)
     : Type 0 where
   pub here : Held
   pub others : List Held
@@ -224,14 +275,14 @@ pub record FrontOpen (C : Table) (l : Answers) (at count : ℕ) (first : FirstRe
 
 -- the first record is the entry of the current message
 pub record FrontOwn (C : Table) (l : Answers) (at count : ℕ) (first : FirstRecord)
-    (held : List Held) (w : MessageKey) (xs : Option (List ℕ))
+    (held : List Held) (w : MessageKey) (xs : Option Kept)
     : Type 0 where
   pub no_held : held ≡ []
   pub is : IsCurrentEntry C l at first w xs
   pub last : count - 1 ≡ 0
 
 module _ (C : Table) (l : Answers) (at count : ℕ) (octets : List ℕ) (w : MessageKey)
-    (xs : Option (List ℕ)) where
+    (xs : Option Kept) where
   pub front_found : (held : List Held) → AreLeft C l at count octets held w xs →
       (count ≡ 0 → ⊥) →
       ((e : Entry) (rest : List ℕ) → EntryHasRange e → octets ≡ entry_octets e ++ rest → ⊥) → ⊥
@@ -307,30 +358,67 @@ false_not_true e = cc
 
 -- all messages whose records were left are added
 abbrev pub IsAll : Table → Answers → Bool → Slots → Slots → List Held → MessageKey →
-    Option (List ℕ) → Type 0
+    Option Kept → Type 0
 IsAll C l result before after held w xs =
     (result ≡ true) × HasAdded C l before after held × IsCurrentOwner C l after.owner w xs
 
-room_here : (n most : ℕ) (held : List Held) (h : Held) (hs : List Held) → n + length held ≤ most →
-    held ≡ h ∷ hs →
-    n + suc (length hs) ≤ most
-room_here n most held h hs room e = search (arith)
+-- the keys of messages that represent others are theirs
+keys_same : (C : Table) (l : Answers) (ks : List OpenEntry) (hs : List Held) → AreSlots C l ks hs →
+    without_key (λ slot. slot.key) ks ≡ without_key (λ slot. slot.open_as.key) hs
+keys_same C l [] [] are = refl
+keys_same C l [] (h ∷ hs) are = absurd are
+keys_same C l (k ∷ ks) [] are = absurd are
+keys_same C l (k ∷ ks) (h ∷ hs) are =
+    omega (arith, ap lacks_key are.0.key, keys_same C l ks hs are.1)
 
-module _ (C : Table) (l : Answers) (at count : ℕ) (w : MessageKey) (xs : Option (List ℕ))
+-- if each message has a key, none without a key is found
+position_by : (key : Option ℕ) (n more : ℕ) (rest : Option ℕ) → (more ≡ 0 → rest ≡ None) →
+    lacks_key key + more ≡ 0 → cond (is_none key) (Some n) rest ≡ None
+position_by None n more rest h e = absurd (omega (arith, e))
+position_by (Some id) n more rest h e = h (omega (arith, e))
+
+pub no_position : (slots : List OpenEntry) (n : ℕ) →
+    without_key (λ slot. slot.key) slots ≡ 0 →
+    position_from (λ slot. is_none slot.key) n slots ≡ None
+no_position [] n e = refl
+no_position (slot ∷ slots) n e =
+    position_by slot.key n (without_key (λ slot. slot.key) slots) _ (no_position slots (n + 1)) e
+
+pub keys_append : {A : Type 0} (key : A → Option ℕ) (xs ys : List A) →
+    without_key key (xs ++ ys) ≡ without_key key xs + without_key key ys
+keys_append key [] ys = omega arith
+keys_append key (x ∷ xs) ys = omega (arith, keys_append key xs ys)
+
+room_first : (s : Slots) (held : List Held) (h : Held) (hs : List Held) → HasRoomFor s held →
+    held ≡ h ∷ hs → HasRoomFor s (h ∷ [])
+room_first s held h hs room e =
+    let here = subst (HasRoomFor s) e room in
+    record { room = omega (arith, here.room); one = omega (arith, here.one) }
+
+room_left : (C : Table) (l : Answers) (before mid : Slots) (held : List Held) (h : Held)
+    (hs : List Held) → HasRoomFor before held → held ≡ h ∷ hs →
+    mid.slots.most ≡ before.slots.most → HasAdded C l before mid (h ∷ []) → HasRoomFor mid hs
+room_left C l before mid held h hs room e most added =
+    let here = subst (HasRoomFor before) e room in
+    let keys = ap (without_key (λ slot. slot.key)) added.put
+    ∙ keys_append (λ slot. slot.key) before.slots.entries added.kept in
+    record {
+      room = omega (arith, here.room, most, added_long C l before mid h added);
+      one = omega (arith, here.one, keys, keys_same C l added.kept (h ∷ []) added.are);
+    }
+
+module _ (C : Table) (l : Answers) (at count : ℕ) (w : MessageKey) (xs : Option Kept)
     (first : FirstRecord) (before mid : Slots) (added : Bool)
-    (slot : (held : Held) → IsOpenEntry C l at first held →
-    length before.slots.entries < before.slots.most →
+    (slot : (held : Held) → IsOpenEntry C l at first held → HasRoomFor before (held ∷ []) →
     (added ≡ true) × HasAdded C l before mid (held ∷ []) × (mid.owner ≡ before.owner))
     (current : IsCurrentEntry C l at first w xs →
     (added ≡ true) × (mid.slots ≡ before.slots) × IsCurrentOwner C l mid.owner w xs) where
   pub first_added : (held : List Held) →
       FrontOpen C l at count first held w xs ⊎ FrontOwn C l at count first held w xs →
-      length before.slots.entries + length held ≤ before.slots.most →
+      HasRoomFor before held →
       (added ≡ true) × HasAddedFirst C l at count before mid first.rest.now held w xs
   first_added held (inl f) room =
-      let few = room_here (length before.slots.entries) before.slots.most held f.here f.others room
-      f.held_are in
-      let one = slot f.here f.is (omega (arith, few)) in (
+      let one = slot f.here f.is (room_first before held f.here f.others room f.held_are) in (
         one.0,
         inl (record {
           here = f.here;
@@ -343,23 +431,20 @@ module _ (C : Table) (l : Answers) (at count : ℕ) (w : MessageKey) (xs : Optio
       )
   first_added held (inr f) room = search (arith)
 
-module _ (C : Table) (l : Answers) (at count : ℕ) (w : MessageKey) (xs : Option (List ℕ))
+module _ (C : Table) (l : Answers) (at count : ℕ) (w : MessageKey) (xs : Option Kept)
     (before mid after : Slots) (rest : List ℕ)
     (result : Bool)
     (same_most : mid.slots.most ≡ before.slots.most)
     (none : count - 1 ≡ 0 → (result ≡ true) × (after ≡ mid))
     (again : (hs : List Held) → AreLeft C l at (count - 1) rest hs w xs →
-    length mid.slots.entries + length hs ≤ mid.slots.most → mid.owner ≡ owners.Open None →
+    HasRoomFor mid hs → mid.owner ≡ owners.Open None →
     IsAll C l result mid after hs w xs) where
   all_again : (held : List Held) →
       HasAddedFirst C l at count before mid rest held w xs →
-      length before.slots.entries + length held ≤ before.slots.most →
+      HasRoomFor before held →
       before.owner ≡ owners.Open None → IsAll C l result before after held w xs
   all_again held (inl f) room bare =
-      let few = room_here (length before.slots.entries) before.slots.most held f.here f.others room
-      f.held_are in
-      let space : length mid.slots.entries + length f.others ≤ mid.slots.most =
-      omega (arith, few, same_most, added_long C l before mid f.here f.added) in
+      let space = room_left C l before mid held f.here f.others room f.held_are same_most f.added in
       let more = again f.others f.left space (f.same_owner ∙ bare) in
       let all = added_more C l before mid after f.here f.others f.added more.1 in (
         more.0,
@@ -370,20 +455,20 @@ module _ (C : Table) (l : Answers) (at count : ℕ) (w : MessageKey) (xs : Optio
 
 -- Records were added up to `mid`, and `left` records remain, whose octets are `rest`. If a call
 -- adds those, all records are added.
-abbrev pub Completes : Table → Answers → ℕ → ℕ → List ℕ → MessageKey → Option (List ℕ) → Slots →
+abbrev pub Completes : Table → Answers → ℕ → ℕ → List ℕ → MessageKey → Option Kept → Slots →
     Slots → ℕ → List ℕ → Type 0
 Completes C l at count octets w xs before mid left rest =
     (result : Bool) (after : Slots) → (left ≡ 0 → (result ≡ true) × (after ≡ mid)) →
     ((hs : List Held) → AreLeft C l at left rest hs w xs →
-    length mid.slots.entries + length hs ≤ mid.slots.most → mid.owner ≡ owners.Open None →
+    HasRoomFor mid hs → mid.owner ≡ owners.Open None →
     IsAll C l result mid after hs w xs) →
     (held : List Held) → AreLeft C l at count octets held w xs →
-    length before.slots.entries + length held ≤ before.slots.most →
+    HasRoomFor before held →
     before.owner ≡ owners.Open None →
     IsAll C l result before after held w xs
 
 module _ (C : Table) (l : Answers) (at count : ℕ) (octets : List ℕ) (w : MessageKey)
-    (xs : Option (List ℕ)) (before : Slots) where
+    (xs : Option Kept) (before : Slots) where
   pub none_yet : Completes C l at count octets w xs before before count octets
   none_yet result after none again held left room bare = again held left room bare
 
@@ -392,7 +477,7 @@ module _ (C : Table) (l : Answers) (at count : ℕ) (octets : List ℕ) (w : Mes
     pub one_more : (next : Slots) (behind : List ℕ) → (left ≡ 0 → ⊥) →
         next.slots.most ≡ mid.slots.most →
         ((hs : List Held) → AreLeft C l at left rest hs w xs →
-        length mid.slots.entries + length hs ≤ mid.slots.most → mid.owner ≡ owners.Open None →
+        HasRoomFor mid hs → mid.owner ≡ owners.Open None →
         HasAddedFirst C l at left mid next behind hs w xs) →
         Completes C l at count octets w xs before next (left - 1) behind
     one_more next behind some same_most first result after none again =
@@ -402,7 +487,7 @@ module _ (C : Table) (l : Answers) (at count : ℕ) (octets : List ℕ) (w : Mes
 
     pub no_more : left ≡ 0 → (held : List Held) →
         AreLeft C l at count octets held w xs →
-        length before.slots.entries + length held ≤ before.slots.most →
+        HasRoomFor before held →
         before.owner ≡ owners.Open None → IsAll C l true before mid held w xs
     no_more none =
         before_here true mid (λ z. (refl, refl))
@@ -411,10 +496,10 @@ module _ (C : Table) (l : Answers) (at count : ℕ) (octets : List ℕ) (w : Mes
 
     pub not_one : (left ≡ 0 → ⊥) → ((hs : List Held) →
         AreLeft C l at left rest hs w xs →
-        length mid.slots.entries + length hs ≤ mid.slots.most → mid.owner ≡ owners.Open None →
+        HasRoomFor mid hs → mid.owner ≡ owners.Open None →
         ⊥) →
         (held : List Held) → AreLeft C l at count octets held w xs →
-        length before.slots.entries + length held ≤ before.slots.most →
+        HasRoomFor before held →
         before.owner ≡ owners.Open None → ⊥
     not_one some fails held are room bare =
         let all : IsAll C l false before mid held w xs =

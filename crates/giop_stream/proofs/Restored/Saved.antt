@@ -27,7 +27,7 @@ use Rattle.giop_stream.specs.EngineView.{FramingView, EngineView}
 use Rattle.giop_checkpoint.specs.declared.record.RecordKind.TheVariants as record_kinds
 use Rattle.giop_stream.proofs.Restored.LoadRanges.{few_slots}
 use Rattle.giop_stream.proofs.Restored.SavedSizes.{HasRoom, whole_long, whole_within}
-use Rattle.giop_stream.specs.Checkpoint.{counts_of, standing_of, IsStored, IsOpen, IsMessageRecord, IsCurrent, IsPutOne, IsPut, AreOpen, AreEntries, fixed_of, checkpoint_octets, IsPutWhole, Puts, PutsSuch, Spells, Saves}
+use Rattle.giop_stream.specs.Checkpoint.{counts_of, open_kind, over_kind, standing_of, IsStored, IsOpen, IsMessageRecord, IsCurrent, IsPutOne, IsPut, AreOpen, AreEntries, fixed_of, checkpoint_octets, IsPutWhole, Puts, PutsSuch, Spells, Saves}
 
 pub flat_append : (xs ys : List Entry) → flat_map entry_octets (xs ++ ys) ≡ flat_map entry_octets xs
     ++ flat_map entry_octets ys
@@ -70,7 +70,7 @@ put_more slots slot before between after some one = record {
 -- a message that is over is written as zeros, after the record's own octets
 pub over_is : (slot : OpenEntry) (r : Record) (before between after : List ℕ) →
     slot.value.message ≡ None → RecordHasRange r
-    → r.frames ≡ 0 → r.record_kind ≡ record_kinds.Over slot.key → r.number ≡ slot.value.number →
+    → r.frames ≡ 0 → r.record_kind ≡ over_kind slot.key → r.number ≡ slot.value.number →
     r.header ≡ slot.value.header
     → between ≡ before ++ own_octets r → after ≡ between ++ replicate 224 0 →
     IsPutOne before after (IsOpen slot)
@@ -94,7 +94,7 @@ over_is slot r before between after none range few record_kind number header put
 
 -- a message that isn't over is written with its record
 pub open_is : (slot : OpenEntry) (m : Message) (before after : List ℕ) → slot.value.message ≡ Some m
-    → IsPutOne before after (IsMessageRecord (record_kinds.Open slot.key) slot.value.number
+    → IsPutOne before after (IsMessageRecord (open_kind slot.key) slot.value.number
     slot.value.header m)
     → IsPutOne before after (IsOpen slot)
 open_is slot m before after some put = search (arith)

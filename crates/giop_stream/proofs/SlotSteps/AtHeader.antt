@@ -1,34 +1,37 @@
 -- A header's last octet, as the code does it: the message begins; in 1.1 it has its place among the
 -- open ones there; and it ends there if it has no payload.
-use Rattle.std.proofs.Common.{inl, inr, ◌≡◌, ℕ, ◌≤◌, Bool, true, false, List, [], ◌∷◌, ◌++◌, length, refl, sym, ap, ◌∙◌, Option, Some, None, arith}
-use Rattle.std.proofs.lemmas.Bool.{eq-eqb}
+use Rattle.std.proofs.Common.{◌≡◌, ℕ, ◌≤◌, Bool, true, false, List, [], ◌∷◌, ◌++◌, length, refl, sym, ap, ◌∙◌, Option, Some, None, arith}
+use Rattle.std.specs.Prelude.{◌||◌}
+use Rattle.std.proofs.lemmas.Bool.{eq-eqb, or_from, or_right}
 use Rattle.giop_sig.specs.Table.{Table}
 use Rattle.giop_message.specs.Signatures.{Answers}
 use Rattle.giop_message.specs.ReaderOfTable.{message_reader}
 use Rattle.giop_stream.specs.declared.fault.FramingFault.{FramingFault}
-use Rattle.giop_stream.specs.declared.fault.FramingFault.TheVariants.{OldFragment}
 use Rattle.giop_stream.specs.declared.slots.Slots.{Slots}
 use Rattle.giop_stream.specs.declared.current.Current.{Current}
 use Rattle.giop_stream.specs.Rules.{Rules, rules_by}
 use Rattle.giop_stream.specs.Framing.{CutMessage}
 use Rattle.giop_stream.specs.Text.{line_text, start_line}
-use Rattle.giop_stream.specs.Kinds.{is_old, is_old_fragment, named_at, refused}
-use Rattle.giop_stream.specs.Events.{MessageKey, Event, Faults, Open, own, now_of, key, message_key, opener_of, has_named, events_at_header, events_at_name, events_of_octet, naming_events, opened}
-use Rattle.giop_stream.specs.Lines.{StreamLine}
+use Rattle.giop_stream.specs.Kinds.{is_old_opener, is_old_fragment, is_old, has_fragments, is_any_fragment, named_at, refused}
+use Rattle.giop_stream.specs.Events.{MessageKey, Before, Event, Faults, now_of, key, message_key, opener_of, events_at_header, events_at_name, events_of_octet, mixes, Rising}
+use Rattle.giop_stream.specs.Lines.{StreamLine, nothing_kept}
 use Rattle.giop_stream.specs.Stream.{fault_count}
-use Rattle.giop_stream.specs.Effects.{Effect, effects, one_effect, no_effect, then_effect, line_effect, starts}
-use Rattle.giop_stream.specs.OpenSlots.{Tracked, IsNotOpen}
+use Rattle.giop_stream.specs.Effects.{Effect, effects, one_effect, no_effect, then_effect, line_effect, starts, event}
+use Rattle.giop_stream.specs.OpenSlots.{Tracked, IsNotOpen, before_in}
 use Rattle.giop_stream.specs.SlotsRepresent.{SlotsRepresent, AreReady}
-use Rattle.giop_stream.specs.PayloadOwner.{IsBeforeMessage, IsAtHeader, IsAtOctet, owner_after, name_events, end_events}
-use Rattle.giop_stream.specs.EngineState.{owner_of_next}
-use Rattle.giop_stream.proofs.Events.MessageKinds.{first_no_fragment, named_old, named_four, old_kinds, old_fragment_old, old_fragment_any, old_opener_is}
-use Rattle.giop_stream.proofs.Events.EventsOfOctet.{quiet_header, quiet_own, quiet_none, still_faulted}
+use Rattle.giop_stream.specs.PayloadOwner.{IsBeforeMessage, IsAtHeader, IsAtName, IsAtOctet, IsNewest, before_with, owner_after, name_events, end_events}
+use Rattle.giop_stream.specs.EngineState.{opener_key, owner_of_next}
+use Rattle.giop_stream.proofs.Events.MessageKinds.{first_no_fragment, named_old, named_four, old_opener_old, old_fragment_old, old_fragment_any}
+use Rattle.giop_stream.proofs.Events.EventsOfOctet.{quiet_header}
+use Rattle.giop_stream.proofs.StreamLines.Accepted.{old_accepted}
+use Rattle.giop_stream.proofs.SlotSteps.OneSlotChanges.{no_opener_mixes, calm_same}
 use Rattle.giop_stream.proofs.SlotSteps.SlotLists.{later_ready, all_later}
+use Rattle.giop_stream.proofs.SlotSteps.Alike.{Alike, effects_still_open, effects_alike, next_alike, end_alike, calm_header, calm_name, refused_no_opener}
 use Rattle.giop_stream.proofs.SlotSteps.AfterOctet.{newest_apart}
-use Rattle.giop_stream.proofs.SlotSteps.Cases.{effects_none, effects_own, effects_append, header_begins, header_refused}
+use Rattle.giop_stream.proofs.SlotSteps.Cases.{effects_none, effects_append, header_begins, header_refused}
 use Rattle.giop_stream.proofs.SlotSteps.Performing.{BeginsSo}
-use Rattle.giop_stream.proofs.SlotSteps.Ending.{owner_early, owner_plain}
-use Rattle.giop_stream.proofs.SlotSteps.Parts.{effects_still_open}
+use Rattle.giop_stream.proofs.SlotSteps.Ending.{owner_early, owner_plain, owner_passed}
+use Rattle.giop_stream.proofs.SlotSteps.Parts.{fragment_still, plain_end, rising_name, third_by}
 
 -- slots that are ready for an octet are ready for a later one
 pub ready_later : (C : Table) (n n' : ℕ) (s : Slots) → n ≤ n' → AreReady C n s → AreReady C n' s
@@ -41,87 +44,107 @@ starts_faults m ls = refl
 
 -- ---- The events of the header itself, then those of the message's place, and then the end.
 
--- a message of 1.1 with a place is refused there
-events_of_old : (most : ℕ) (still_open : List Open) (m : CutMessage) → is_old m.header ≡ true →
-    events_at_name most still_open m ≡ own (now_of m) (Faults OldFragment)
-unfolding naming_events key opener_of
-events_of_old most still_open m old = elim (old_kinds m.header old) [
-  | inl f ↦ rw (f, old) refl
-  | inr o ↦ rw (first_no_fragment m.header o, o, old) refl
-]
-
-pub name_of_old : (most : ℕ) (still_open : List Open) (m : CutMessage) → m.payload ≡ [] →
-    is_old m.header ≡ true → name_events most still_open m ≡ own (now_of m) (Faults OldFragment)
+-- a message that isn't of 1.1 has its place later, or none
+pub no_name : (most : ℕ) (b : Before) (m : CutMessage) → m.payload ≡ [] →
+    is_old m.header ≡ false → name_events most b m ≡ []
 unfolding name_events
-name_of_old most still_open m none old =
-    let at_place : length m.payload ≡ named_at m.header = ap (λ (xs : List ℕ). length xs) none
-    ∙ sym (named_old m.header old) in
-    rw (eq-eqb (length m.payload) (named_at m.header) at_place)
-    (events_of_old most still_open m old)
-
--- any other message has its place later, or none
-pub no_name : (most : ℕ) (still_open : List Open) (m : CutMessage) → m.payload ≡ [] →
-    is_old m.header ≡ false → name_events most still_open m ≡ []
-unfolding name_events
-no_name most still_open m none new = rw (none, named_four m.header new) refl
+no_name most b m none new = rw (none, named_four m.header new) refl
 
 module _ (R : Rules) (c : Tracked) (m : CutMessage) where
+  abbrev b : Before
+  b = before_in R.asks c
+
   abbrev pub begun : Effect
   begun = effects R.reading c (events_at_header m)
 
+  abbrev b1 : Before
+  b1 = before_in R.asks begun.tracked
+
   abbrev pub placed : Effect
-  placed = effects R.reading begun.tracked (name_events R.most begun.tracked.still_open m)
+  placed = effects R.reading begun.tracked (name_events R.most b1 m)
+
+  abbrev b2 : Before
+  b2 = before_in R.asks placed.tracked
 
   abbrev pub ended : Effect
-  ended = effects R.reading placed.tracked (end_events placed.tracked.still_open m)
+  ended = effects R.reading placed.tracked (end_events b2 m)
+
+  begun_alike : Alike b b1
+  begun_alike = effects_alike R c (events_at_header m) (calm_header m)
+      (quiet_header c.still_open (now_of m))
 
   pub begun_still_open : begun.tracked.still_open ≡ c.still_open
-  begun_still_open = search (arith, effects_still_open, quiet_header)
+  unfolding before_in
+  begun_still_open = begun_alike.still_open
 
-  parts : m.payload ≡ [] → events_of_octet R.most c.still_open m ≡ events_at_header m
-      ++ (name_events R.most c.still_open m ++ end_events c.still_open m)
+  parts : m.payload ≡ [] → events_of_octet R.most b m ≡ events_at_header m
+      ++ (name_events R.most b m ++ end_events b m)
   unfolding events_of_octet name_events end_events
   parts none = rw (eq-eqb (length m.payload) 0 (ap (λ (xs : List ℕ). length xs) none)) refl
 
-  parts_new : m.payload ≡ [] → is_old m.header ≡ false
-      → events_of_octet R.most c.still_open m ≡ events_at_header m ++ end_events c.still_open m
-  parts_new none new =
-      parts none ∙ ap (λ (es : List Event). events_at_header m ++ (es ++ end_events c.still_open m))
-      (no_name R.most c.still_open m none new)
+  -- a message that begins changes nothing that is tracked, if it isn't refused
+  begun_same : c.known m.number ≡ Some nothing_kept → is_old m.header ≡ true →
+      begun.tracked ≡ c
+  begun_same unknown old = ap (λ (p : Effect). p.tracked)
+      (header_begins R.reading c m nothing_kept unknown (old_accepted m.header old))
 
-  -- no message opens and none closes at the last octet of a header
-  placed_quiet : m.payload ≡ [] →
-      opened c.still_open (name_events R.most c.still_open m) ≡ c.still_open
-  placed_quiet none = go (is_old m.header) refl
+  name_same : m.payload ≡ [] → c.known m.number ≡ Some nothing_kept →
+      name_events R.most b1 m ≡ name_events R.most b m
+  name_same none unknown = go (is_old m.header) refl
     where
-      go : (b : Bool) → is_old m.header ≡ b →
-          opened c.still_open (name_events R.most c.still_open m) ≡ c.still_open
-      go true old = rw (name_of_old R.most c.still_open m none old)
-          (quiet_own c.still_open (now_of m) (Faults OldFragment)
-          (still_faulted OldFragment c.still_open))
-      go false new = rw (no_name R.most c.still_open m none new) (quiet_none c.still_open)
+      go : (old : Bool) → is_old m.header ≡ old →
+          name_events R.most b1 m ≡ name_events R.most b m
+      go true old = ap (λ (d : Tracked). name_events R.most (before_in R.asks d) m)
+          (begun_same unknown old)
+      go false new = no_name R.most b1 m none new ∙ sym (no_name R.most b m none new)
 
-  pub placed_still_open : m.payload ≡ [] → placed.tracked.still_open ≡ c.still_open
-  placed_still_open none = search (arith, effects_still_open, begun_still_open, placed_quiet)
+  placed_alike : is_any_fragment m.header ≡ true → Alike b1 b2
+  placed_alike f = effects_alike R begun.tracked (name_events R.most b1 m)
+      (calm_name R.most b1 m f) (fragment_still R.most b1 begun.tracked.still_open m f)
 
-  pub in_three : m.payload ≡ [] → effects R.reading c (events_of_octet R.most c.still_open m)
+  end_same : end_events b2 m ≡ end_events b m
+  end_same = go (is_any_fragment m.header) refl
+    where
+      go : (fragment : Bool) → is_any_fragment m.header ≡ fragment →
+          end_events b2 m ≡ end_events b m
+      go true f = end_alike b1 b2 m (placed_alike f) ∙ end_alike b b1 m begun_alike
+      go false f = plain_end b b2 m f
+
+  pub in_three : m.payload ≡ [] → c.known m.number ≡ Some nothing_kept →
+      effects R.reading c (events_of_octet R.most b m)
       ≡ then_effect begun (then_effect placed ended)
-  in_three none = search (arith, begun_still_open, placed_still_open, parts, effects_append)
+  in_three none unknown =
+      ap (effects R.reading c) (parts none ∙ ap (λ (es : List Event). events_at_header m ++ es)
+      (λ j. sym (name_same none unknown) j ++ sym end_same j))
+      ∙ (effects_append R.reading c (events_at_header m) _
+      ∙ ap (then_effect begun) (effects_append R.reading begun.tracked
+      (name_events R.most b1 m) (end_events b2 m)))
 
-  -- without a place
-  pub in_two : m.payload ≡ [] → is_old m.header ≡ false
-      → effects R.reading c (events_of_octet R.most c.still_open m)
-      ≡ then_effect begun
-      (effects R.reading begun.tracked (end_events begun.tracked.still_open m))
-  in_two none new = search (arith, begun_still_open, parts_new, effects_append)
+  -- the owner of the next octets is the same before the events of the end and before those of the
+  -- place
+  pub placed_owner : owner_of_next b1 m ≡ owner_of_next b2 m
+  placed_owner = go (is_any_fragment m.header) refl
+    where
+      go : (fragment : Bool) → is_any_fragment m.header ≡ fragment →
+          owner_of_next b1 m ≡ owner_of_next b2 m
+      go true f = sym (next_alike b1 b2 m (placed_alike f))
+      go false f = owner_plain b1 m f ∙ sym (owner_plain b2 m f)
 
-  pub ended_owner : owner_after placed.tracked.still_open m ≡ owner_after ended.tracked.still_open m
-  unfolding owner_after end_events opened
-  ended_owner = search (arith, effects_still_open)
+  pub placed_rising : Rising c.still_open → IsNewest m.number c.still_open →
+      Rising placed.tracked.still_open
+  unfolding before_in
+  placed_rising r newest =
+      rw (effects_still_open R.reading begun.tracked (name_events R.most b1 m))
+      (rising_name R.most b1 m (rw begun_still_open r) (λ named. rw begun_still_open newest))
 
-module _ (C : Table) (l : Answers) (s : Slots) (c : Tracked) (who : Option MessageKey) (m :
-    CutMessage)
-    (now : Current) (h : IsBeforeMessage C l s c who m now) where
+  pub ended_owner : owner_after b2 m ≡ owner_after (before_in R.asks ended.tracked) m
+  ended_owner = third_by R placed.tracked m
+
+module _ (C : Table) (l : Answers) (s : Slots) (c : Tracked) (who : Option MessageKey)
+    (m : CutMessage) (now : Current) (h : IsBeforeMessage C l s c who m now) where
+  abbrev R : Rules
+  R = rules_by C l s.slots.most
+
   pub apart : IsNotOpen m.number c.still_open
   apart = search (arith, newest_apart)
 
@@ -138,6 +161,13 @@ module _ (C : Table) (l : Answers) (s : Slots) (c : Tracked) (who : Option Messa
       (Faults fault))
   refuses fault e = search (arith, header_refused)
 
+  -- a message that is refused by its header alone doesn't keep Fragments of 1.1 from being joined
+  pub refuses_calm : (fault : FramingFault) → Some fault ≡ refused now.header →
+      (c.mixed || mixes (event now.place (message_key m) (Faults fault))) ≡ c.mixed
+  refuses_calm fault e = calm_same c (event now.place (message_key m) (Faults fault))
+      (no_opener_mixes (event now.place (message_key m) (Faults fault))
+      (refused_no_opener m.header fault (ap refused h.current.header ∙ sym e)))
+
   pub starts_text : line_text (starts m) ≡ start_line now.number now.header
   starts_text = search (arith)
 
@@ -149,31 +179,28 @@ module _ (C : Table) (l : Answers) (s : Slots) (c : Tracked) (who : Option Messa
       go None e = search (arith, begins)
       go (Some fault) e = record { more = _; is = ap (λ (p : Effect). p.lines) (refuses fault e) }
 
-  pub begun_at : (s' : Slots) → SlotsRepresent C l s'
-      (begun (rules_by C l s.slots.most) c m).tracked (Some (message_key m))
-      → IsAtHeader C l s' (begun (rules_by C l s.slots.most) c m).tracked m now
+  pub begun_at : (s' : Slots) → SlotsRepresent C l s' (begun R c m).tracked (Some (message_key m))
+      → IsAtHeader C l s' (begun R c m).tracked m now
   begun_at s' k =
-      let still_open = begun_still_open (rules_by C l s.slots.most) c m in
+      let still_open = begun_still_open R c m in
       record {
         keeps = k;
         rising = rw still_open h.rising;
         current = h.current;
         none_come = h.none_come;
         not_open = rw still_open apart;
+        alive = λ old. ap (λ (d : Tracked). d.known m.number) (begun_same R c m h.unknown old)
+            ∙ h.unknown;
       }
 
-  pub placed_at : (s' : Slots) → SlotsRepresent C l s'
-      (placed (rules_by C l s.slots.most) c m).tracked
-      (owner_of_next (begun (rules_by C l s.slots.most) c m).tracked.still_open m)
-      → IsAtOctet C l s' (placed (rules_by C l s.slots.most) c m).tracked m now
-  placed_at s' k =
-      let R = rules_by C l s.slots.most in
-      let still_open = placed_still_open R c m h.none_come in
-      record {
-        keeps = rw (still_open ∙ sym (begun_still_open R c m)) k;
-        rising = rw still_open h.rising;
-        current = h.current;
-      }
+  pub placed_at : (s' : Slots) → SlotsRepresent C l s' (placed R c m).tracked
+      (owner_of_next (before_with C l (begun R c m).tracked) m)
+      → IsAtOctet C l s' (placed R c m).tracked m now
+  placed_at s' k = record {
+    keeps = rw (← placed_owner R c m) k;
+    rising = placed_rising R c m h.rising h.newest;
+    current = h.current;
+  }
 
   pub come_is : length m.payload ≡ now.payload_count
   come_is = search (arith, none_come)
@@ -185,35 +212,69 @@ module _ (C : Table) (l : Answers) (s : Slots) (c : Tracked) (m : CutMessage) (n
   header_of : (says : List ℕ → Bool) (r : Bool) → r ≡ says now.header → says m.header ≡ r
   header_of says r e = search (arith, h.current.header)
 
-  pub nothing_named : false ≡ is_old now.header →
-      effects (message_reader C l) c (name_events s.slots.most c.still_open m) ≡ no_effect c
-  nothing_named e = rw (no_name s.slots.most c.still_open m h.none_come (header_of is_old false e))
+  not_old : false ≡ is_old_opener now.header → false ≡ is_old_fragment now.header →
+      is_old m.header ≡ false
+  unfolding is_old
+  not_old o f = or_from (is_old_opener m.header) (is_old_fragment m.header)
+      (header_of is_old_opener false o) (header_of is_old_fragment false f)
+
+  pub nothing_named : false ≡ is_old_opener now.header → false ≡ is_old_fragment now.header →
+      effects (message_reader C l) c (name_events s.slots.most (before_with C l c) m)
+      ≡ no_effect c
+  nothing_named o f =
+      rw (no_name s.slots.most (before_with C l c) m h.none_come (not_old o f))
       (effects_none (message_reader C l) c)
 
-  pub owner_new : false ≡ is_old now.header →
-      owner_of_next c.still_open m ≡ Some (message_key m)
-  owner_new e = owner_early c.still_open m
+  pub owner_new : false ≡ is_old_opener now.header → false ≡ is_old_fragment now.header →
+      owner_of_next (before_with C l c) m ≡ Some (message_key m)
+  owner_new o f = owner_early (before_with C l c) m
       (omega (
         arith,
-        named_four m.header (header_of is_old false e),
+        named_four m.header (not_old o f),
         ap (λ (xs : List ℕ). length xs) h.none_come,
       ))
 
-  pub refused_old : true ≡ is_old now.header
-      → effects (message_reader C l) c (name_events s.slots.most c.still_open m)
-      ≡ one_effect (message_reader C l) c now.place (message_key m) (Faults OldFragment)
-  refused_old e =
-      rw (name_of_old s.slots.most c.still_open m h.none_come (header_of is_old true e))
-      (effects_own (message_reader C l) c m (Faults OldFragment) ∙ rw h.current.place refl)
+  pub opener_first : true ≡ is_old_opener now.header → has_fragments m.header ≡ true
+  unfolding has_fragments
+  opener_first o = or_right _ _ (header_of is_old_opener true o)
 
-  pub owner_fragment : true ≡ is_old_fragment now.header → owner_of_next c.still_open m ≡ None
-  unfolding owner_of_next has_named opener_of key
-  owner_fragment e =
-      let f = header_of is_old_fragment true e in
-      let old = old_fragment_old m.header f in
-      rw (old_fragment_any m.header f, named_old m.header old, old, h.none_come) refl
+  pub fragment_first : true ≡ is_old_fragment now.header → is_any_fragment m.header ≡ true
+  fragment_first f = old_fragment_any m.header (header_of is_old_fragment true f)
 
-  pub owner_first : true ≡ is_old now.header → false ≡ is_old_fragment now.header →
-      owner_of_next c.still_open m ≡ Some (message_key m)
-  owner_first e f = owner_plain c.still_open m (first_no_fragment m.header (old_opener_is m.header
-      (header_of is_old true e) (header_of is_old_fragment false f)))
+  pub opener_old : true ≡ is_old_opener now.header → is_old m.header ≡ true
+  opener_old o = old_opener_old m.header (header_of is_old_opener true o)
+
+  pub fragment_old : true ≡ is_old_fragment now.header → is_old m.header ≡ true
+  fragment_old f = old_fragment_old m.header (header_of is_old_fragment true f)
+
+  key_none : is_old m.header ≡ true → key m ≡ None
+  unfolding key
+  key_none old = rw old refl
+
+  place_here : is_old m.header ≡ true → length m.payload ≡ named_at m.header
+  place_here old = ap (λ (xs : List ℕ). length xs) h.none_come ∙ sym (named_old m.header old)
+
+  pub at_place : is_old m.header ≡ true → IsAtName C l s c m now None
+  at_place old = record {
+    keeps = h.keeps;
+    rising = h.rising;
+    current = h.current;
+    key_is = λ place. key_none old;
+    not_open = λ place. h.not_open;
+    alive = λ place. (nothing_kept, h.alive old);
+  }
+
+  pub named_here : is_old m.header ≡ true → name_events s.slots.most (before_with C l c) m
+      ≡ events_at_name s.slots.most (before_with C l c) m
+  unfolding name_events
+  named_here old = rw (eq-eqb (length m.payload) (named_at m.header) (place_here old)) refl
+
+  pub owner_opener : true ≡ is_old_opener now.header →
+      owner_of_next (before_with C l c) m ≡ Some (message_key m)
+  owner_opener o =
+      owner_plain (before_with C l c) m (first_no_fragment m.header (opener_first o))
+
+  pub owner_fragment : true ≡ is_old_fragment now.header →
+      owner_of_next (before_with C l c) m ≡ opener_key (opener_of (before_with C l c) m)
+  owner_fragment f = owner_passed (before_with C l c) m (fragment_first f)
+      (omega (arith, place_here (fragment_old f)))

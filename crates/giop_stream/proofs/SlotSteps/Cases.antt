@@ -1,19 +1,19 @@
 -- The effect of an octet of a message in each case that the code distinguishes.
-use Rattle.std.proofs.Common.{arith, ◌≡◌, ℕ, ◌-◌, ◌<◌, ◌≤◌, true, false, List, [], ◌∷◌, ◌++◌, length, get_or, refl, sym, Some, None, append-nil, append_assoc}
-use Rattle.std.proofs.lemmas.Bool.{lt-leb, le-leb}
+use Rattle.std.proofs.Common.{arith, ◌≡◌, ℕ, ◌-◌, Bool, true, false, List, [], ◌∷◌, ◌++◌, length, get_or, refl, sym, ap, ◌∙◌, Option, Some, None, append-nil, append_assoc}
 use Rattle.giop_stream.specs.declared.fault.FramingFault.{FramingFault}
-use Rattle.giop_stream.specs.declared.fault.FramingFault.TheVariants.{NoOpen, IdOpen, TooManyOpen, FragmentOrder}
-use Rattle.giop_message.specs.Headers.{order, is_fragment, is_opener, is_cancel}
+use Rattle.giop_stream.specs.declared.fault.FramingFault.TheVariants.{FragmentOrder}
+use Rattle.giop_message.specs.Headers.{order, is_cancel}
 use Rattle.giop_stream.specs.Rules.{Rules}
 use Rattle.giop_stream.specs.Framing.{CutMessage}
 use Rattle.giop_message.specs.MessageReader.{MessageReader}
-use Rattle.giop_stream.specs.Kinds.{is_old, may_be_cancelled, refused}
-use Rattle.giop_stream.specs.Events.{EventKind, Begins, Takes, Opens, Continues, Cancelled, Faults, MessageKey, Event, Open, message_key, place, id, key, own, event_of_open, opener_of, goes_past, events_at_header, events_at_octet, same_order, events_at_name, now_of, header_events, payload_events, naming_events}
-use Rattle.giop_stream.specs.Lines.{StreamLine, line, lines_of_event, up_to_last_line}
-use Rattle.giop_stream.specs.Effects.{lines_at, tracked_at, lines_of, effects, one_effect, no_effect, starts, goes_on, lines_for}
+use Rattle.giop_stream.specs.Kinds.{is_old, has_fragments, is_any_fragment, may_be_cancelled, refused}
+use Rattle.giop_stream.specs.Events.{EventKind, Begins, Takes, Opens, Continues, Seams, Cancelled, Faults, MessageKey, Before, Event, Open, message_key, place, key, own, event_of_open, opener_of, goes_past, events_at_header, events_at_octet, same_order, seams, order_fault, unopened, refusal, cancelled, cancel_of, changed, events_at_name, now_of, header_events, payload_events, naming_events}
+use Rattle.giop_stream.specs.Lines.{StreamLine, Kept, line, lines_of_event, up_to_last_line}
+use Rattle.giop_stream.specs.Effects.{Effect, lines_at, tracked_at, lines_of, effects, one_effect, no_effect, line_effect, starts, goes_on, lines_for}
 use Rattle.giop_stream.specs.OpenSlots.{Tracked}
-use Rattle.giop_stream.proofs.Events.MessageKinds.{any_is, first_is}
+use Rattle.giop_stream.proofs.Events.MessageKinds.{first_no_fragment}
 use Rattle.giop_stream.proofs.SlotSteps.EventsInSlots.{tracked_stays, tracked_begins}
+use Rattle.giop_stream.proofs.SlotSteps.ReadingEffects.{seam_lines}
 
 -- ---- The effects of few events.
 
@@ -64,173 +64,204 @@ effects_nobody R c m what = effects_none R c
 
 -- ---- A header's last octet.
 
-began : (R : MessageReader) (m : CutMessage) (xs : List ℕ) →
-    lines_of R (record { place = place m; subject = message_key m; what = Begins }) (Some xs)
+began : (R : MessageReader) (m : CutMessage) (kept : Kept) →
+    lines_of R (record { place = place m; subject = message_key m; what = Begins }) (Some kept)
     ≡ starts m ∷ []
 unfolding lines_of lines_for lines_of_event line up_to_last_line
-began R m xs = refl
+began R m kept = refl
 
-begins_first : (R : MessageReader) (c : Tracked) (m : CutMessage) (xs : List ℕ) (es : List Event) →
-    c.known m.number ≡ Some xs
+begins_first : (R : MessageReader) (c : Tracked) (m : CutMessage) (kept : Kept) (es : List Event)
+    → c.known m.number ≡ Some kept
     → effects R c (own (now_of m) Begins ++ es) ≡
     record { tracked = (effects R c es).tracked; lines = starts m ∷ (effects R c es).lines }
-begins_first R c m xs es k = search (arith, effects_append, effects_own, tracked_begins, began)
+begins_first R c m kept es k = search (arith, effects_append, effects_own, tracked_begins, began)
 
-pub header_begins : (R : MessageReader) (c : Tracked) (m : CutMessage) (xs : List ℕ) →
-    c.known m.number ≡ Some xs
+pub header_begins : (R : MessageReader) (c : Tracked) (m : CutMessage) (kept : Kept) →
+    c.known m.number ≡ Some kept
     → refused m.header ≡ None → effects R c (events_at_header m) ≡
     record { tracked = c; lines = starts m ∷ [] }
 unfolding header_events
-header_begins R c m xs k e = search (arith, begins_first, effects_none)
+header_begins R c m kept k e = search (arith, begins_first, effects_none)
 
-pub header_refused : (R : MessageReader) (c : Tracked) (m : CutMessage) (xs : List ℕ)
-    (fault : FramingFault) → c.known m.number ≡ Some xs → refused m.header ≡ Some fault
+pub header_refused : (R : MessageReader) (c : Tracked) (m : CutMessage) (kept : Kept)
+    (fault : FramingFault) → c.known m.number ≡ Some kept → refused m.header ≡ Some fault
     → (let fault_events = one_effect R c (place m) (message_key m) (Faults fault) in
     effects R c (events_at_header m)
     ≡ record { tracked = fault_events.tracked; lines = starts m ∷ fault_events.lines })
 unfolding header_events
-header_refused R c m xs fault k e = search (arith, begins_first, effects_own)
+header_refused R c m kept fault k e = search (arith, begins_first, effects_own)
 
 -- ---- An octet of a payload.
 
-pub octet_own : (R : MessageReader) (c : Tracked) (still_open : List Open) (m : CutMessage) →
+pub octet_own : (R : MessageReader) (c : Tracked) (b : Before) (m : CutMessage) →
     goes_past m ≡ false
-    → effects R c (events_at_octet still_open m)
+    → effects R c (events_at_octet b m)
     ≡ one_effect R c (place m) (message_key m)
     (Takes (get_or m.payload (length m.payload - 1) 0))
 unfolding payload_events goes_past
-octet_own R c still_open m h = search (arith, effects_own, get_or)
+octet_own R c b m h = search (arith, effects_own, get_or)
 
-pub octet_passed : (R : MessageReader) (c : Tracked) (still_open : List Open) (m : CutMessage)
-    (o : Open) → goes_past m ≡ true
-    → opener_of still_open m ≡ Some o → effects R c (events_at_octet still_open m)
+pub octet_passed : (R : MessageReader) (c : Tracked) (b : Before) (m : CutMessage) (o : Open) →
+    goes_past m ≡ true
+    → opener_of b m ≡ Some o → effects R c (events_at_octet b m)
     ≡ one_effect R c (place m) o.opener
     (Takes (get_or m.payload (length m.payload - 1) 0))
 unfolding payload_events goes_past
-octet_passed R c still_open m o h e = search (arith, effects_about, get_or)
+octet_passed R c b m o h e = search (arith, effects_about, get_or)
 
-pub octet_lost : (R : MessageReader) (c : Tracked) (still_open : List Open) (m : CutMessage) →
-    goes_past m ≡ true → opener_of still_open m ≡ None
-    → effects R c (events_at_octet still_open m) ≡ no_effect c
+pub octet_lost : (R : MessageReader) (c : Tracked) (b : Before) (m : CutMessage) →
+    goes_past m ≡ true → opener_of b m ≡ None
+    → effects R c (events_at_octet b m) ≡ no_effect c
 unfolding payload_events goes_past
-octet_lost R c still_open m h e = search (arith, effects_nobody, get_or)
+octet_lost R c b m h e = search (arith, effects_nobody, get_or)
 
--- ---- The request id of a Fragment.
+-- ---- A Fragment, as it has its place among the open messages.
 
-pub fragment_unknown : (R : Rules) (c : Tracked) (still_open : List Open) (m : CutMessage) →
-    is_old m.header ≡ false → is_fragment m.header ≡ true
-    → opener_of still_open m ≡ None → effects R.reading c (events_at_name R.most still_open m)
-    ≡ one_effect R.reading c (place m) (message_key m) (Faults NoOpen)
-unfolding naming_events key
-fragment_unknown R c still_open m new f e = search (arith, any_is, first_is, effects_own)
+pub fragment_unknown : (R : Rules) (c : Tracked) (b : Before) (m : CutMessage) →
+    is_any_fragment m.header ≡ true → opener_of b m ≡ None
+    → effects R.reading c (events_at_name R.most b m)
+    ≡ one_effect R.reading c (place m) (message_key m) (Faults (unopened b (key m)))
+unfolding naming_events
+fragment_unknown R c b m f e = rw (f, e) (effects_own R.reading c m (Faults (unopened b (key m))))
 
-went_on : (R : MessageReader) (m : CutMessage) (o : Open) (xs : List ℕ)
+went_on : (R : MessageReader) (m : CutMessage) (o : Open) (kept : Kept)
     → lines_of R (record {
       place = place m;
       subject = message_key m;
       what =
           Continues o.opener.number;
-    }) (Some xs) ≡ goes_on m o ∷ []
+    }) (Some kept) ≡ goes_on m o ∷ []
 unfolding lines_of lines_for lines_of_event line up_to_last_line
-went_on R m o xs = refl
+went_on R m o kept = refl
 
-goes_first : (R : MessageReader) (c : Tracked) (m : CutMessage) (o : Open) (xs : List ℕ)
-    (es : List Event) → c.known m.number ≡ Some xs
+goes_first : (R : MessageReader) (c : Tracked) (m : CutMessage) (o : Open) (kept : Kept)
+    (es : List Event) → c.known m.number ≡ Some kept
     → effects R c (own (now_of m) (Continues o.opener.number) ++ es)
     ≡ record { tracked = (effects R c es).tracked; lines = goes_on m o ∷ (effects R c es).lines }
-goes_first R c m o xs es k = search (arith, effects_append, effects_own, tracked_stays, went_on)
+goes_first R c m o kept es k = search (arith, effects_append, effects_own, tracked_stays, went_on)
 
-pub fragment_in_order : (R : Rules) (c : Tracked) (still_open : List Open) (m : CutMessage) (o :
-    Open)
-    (xs : List ℕ)
-    → is_old m.header ≡ false → is_fragment m.header ≡ true → opener_of still_open m ≡ Some o →
-    c.known m.number ≡ Some xs
+-- what the seam of a Fragment of 1.1 does
+abbrev pub seam_effect : MessageReader → Tracked → CutMessage → Open → Effect
+seam_effect R c m o = effects R c (seams (now_of m) o)
+
+pub seam_is : (R : MessageReader) (c : Tracked) (m : CutMessage) (o : Open) →
+    is_old m.header ≡ true → seam_effect R c m o ≡ one_effect R c (place m) o.opener Seams
+seam_is R c m o old = rw old (effects_about R c m o Seams)
+
+pub seam_none : (R : MessageReader) (c : Tracked) (m : CutMessage) (o : Open) →
+    is_old m.header ≡ false → seam_effect R c m o ≡ no_effect c
+seam_none R c m o new = rw new (effects_none R c)
+
+pub seam_says : (R : MessageReader) (c : Tracked) (m : CutMessage) (o : Open) →
+    (seam_effect R c m o).lines ≡ []
+seam_says R c m o = go (is_old m.header) refl
+  where
+    go : (b : Bool) → is_old m.header ≡ b → (seam_effect R c m o).lines ≡ []
+    go true old = ap (λ (p : Effect). p.lines) (seam_is R c m o old)
+        ∙ seam_lines R (place m) o.opener (c.known o.opener.number)
+    go false new = ap (λ (p : Effect). p.lines) (seam_none R c m o new)
+
+seam_opens_none : (R : MessageReader) (c : Tracked) (at : ℕ) (w : MessageKey) →
+    (one_effect R c at w Seams).tracked.still_open ≡ c.still_open
+unfolding tracked_at changed
+seam_opens_none R c at w = refl
+
+pub seam_still_open : (R : MessageReader) (c : Tracked) (m : CutMessage) (o : Open) →
+    (seam_effect R c m o).tracked.still_open ≡ c.still_open
+seam_still_open R c m o = go (is_old m.header) refl
+  where
+    go : (b : Bool) → is_old m.header ≡ b →
+        (seam_effect R c m o).tracked.still_open ≡ c.still_open
+    go true old = ap (λ (p : Effect). p.tracked.still_open) (seam_is R c m o old)
+        ∙ seam_opens_none R c (place m) o.opener
+    go false new = ap (λ (p : Effect). p.tracked.still_open) (seam_none R c m o new)
+
+continues_first : (R : Rules) (c : Tracked) (b : Before) (m : CutMessage) (o : Open) (kept : Kept)
+    → is_any_fragment m.header ≡ true → opener_of b m ≡ Some o → c.known m.number ≡ Some kept
+    → (let more = seams (now_of m) o ++ order_fault (now_of m) o in
+    effects R.reading c (events_at_name R.most b m)
+    ≡ line_effect (goes_on m o) (effects R.reading c more))
+unfolding naming_events
+continues_first R c b m o kept f e k = rw (f, e) (goes_first R.reading c m o kept
+    (seams (now_of m) o ++ order_fault (now_of m) o) k)
+
+pub fragment_in_order : (R : Rules) (c : Tracked) (b : Before) (m : CutMessage) (o : Open)
+    (kept : Kept)
+    → is_any_fragment m.header ≡ true → opener_of b m ≡ Some o → c.known m.number ≡ Some kept
     → same_order (order m.header) (order o.opener.header) ≡ true
-    → effects R.reading c (events_at_name R.most still_open m) ≡
-    record { tracked = c; lines = goes_on m o ∷ [] }
-unfolding naming_events
-fragment_in_order R c still_open m o xs new f e k s = search (
-  arith,
-  any_is,
-  first_is,
-  goes_first,
-  effects_none,
-)
+    → effects R.reading c (events_at_name R.most b m)
+    ≡ line_effect (goes_on m o) (no_effect (seam_effect R.reading c m o).tracked)
+fragment_in_order R c b m o kept f e k s = continues_first R c b m o kept f e k ∙ rw (
+  s,
+  append-nil (seams (now_of m) o),
+) (λ j. record {
+  tracked = (seam_effect R.reading c m o).tracked;
+  lines = goes_on m o ∷ seam_says R.reading c m o j;
+})
 
-pub fragment_out_of_order : (R : Rules) (c : Tracked) (still_open : List Open) (m : CutMessage)
-    (o : Open) (xs : List ℕ)
-    → is_old m.header ≡ false → is_fragment m.header ≡ true → opener_of still_open m ≡ Some o →
-    c.known m.number ≡ Some xs
+pub fragment_out_of_order : (R : Rules) (c : Tracked) (b : Before) (m : CutMessage) (o : Open)
+    (kept : Kept)
+    → is_any_fragment m.header ≡ true → opener_of b m ≡ Some o → c.known m.number ≡ Some kept
     → same_order (order m.header) (order o.opener.header) ≡ false
-    → (let fault = one_effect R.reading c (place m) o.opener (Faults FragmentOrder) in
-    effects R.reading c (events_at_name R.most still_open m)
-    ≡ record { tracked = fault.tracked; lines = goes_on m o ∷ fault.lines })
+    → effects R.reading c (events_at_name R.most b m)
+    ≡ line_effect (goes_on m o) (one_effect R.reading (seam_effect R.reading c m o).tracked
+    (place m) o.opener (Faults FragmentOrder))
+fragment_out_of_order R c b m o kept f e k s = continues_first R c b m o kept f e k ∙ rw (
+  s,
+  effects_append R.reading c (seams (now_of m) o)
+      (event_of_open (now_of m) (Some o) (Faults FragmentOrder)),
+  seam_says R.reading c m o,
+  effects_about R.reading (seam_effect R.reading c m o).tracked m o (Faults FragmentOrder),
+) refl
+
+-- ---- A message that Fragments continue, as it has its place.
+
+-- why it can't be opened
+abbrev pub refusal_of : ℕ → Before → CutMessage → Option FramingFault
+refusal_of most b m = refusal most b (key m) (opener_of b m)
+
+pub opener_refused : (R : Rules) (c : Tracked) (b : Before) (m : CutMessage) (fault : FramingFault)
+    → has_fragments m.header ≡ true → refusal_of R.most b m ≡ Some fault
+    → effects R.reading c (events_at_name R.most b m)
+    ≡ one_effect R.reading c (place m) (message_key m) (Faults fault)
 unfolding naming_events
-fragment_out_of_order R c still_open m o xs new f e k s = search (
-  arith,
-  any_is,
-  first_is,
-  goes_first,
-  effects_about,
-)
+opener_refused R c b m fault h e =
+    rw (first_no_fragment m.header h, h, e) (effects_own R.reading c m (Faults fault))
 
--- ---- The request id of a message that has fragments.
-
-pub opener_twice : (R : Rules) (c : Tracked) (still_open : List Open) (m : CutMessage) (o : Open) →
-    is_old m.header ≡ false → is_fragment m.header ≡ false
-    → is_opener m.header ≡ true → opener_of still_open m ≡ Some o
-    → effects R.reading c (events_at_name R.most still_open m)
-    ≡ one_effect R.reading c (place m) (message_key m) (Faults IdOpen)
-unfolding naming_events key
-opener_twice R c still_open m o new f h e = search (arith, any_is, first_is, effects_own)
-
-pub opener_no_room : (R : Rules) (c : Tracked) (still_open : List Open) (m : CutMessage) →
-    is_old m.header ≡ false → is_fragment m.header ≡ false
-    → is_opener m.header ≡ true → opener_of still_open m ≡ None → R.most ≤ length still_open
-    → effects R.reading c (events_at_name R.most still_open m)
-    ≡ one_effect R.reading c (place m) (message_key m) (Faults TooManyOpen)
-unfolding naming_events key
-opener_no_room R c still_open m new f h e n = search (arith, any_is, first_is, le-leb, effects_own)
-
-pub opener_opens : (R : Rules) (c : Tracked) (still_open : List Open) (m : CutMessage) →
-    is_old m.header ≡ false → is_fragment m.header ≡ false
-    → is_opener m.header ≡ true → opener_of still_open m ≡ None → length still_open < R.most
-    → effects R.reading c (events_at_name R.most still_open m)
-    ≡ one_effect R.reading c (place m) (message_key m) (Opens (Some (id m)))
-unfolding naming_events key
-opener_opens R c still_open m new f h e n = search (arith, any_is, first_is, lt-leb, effects_own)
+pub opener_opens : (R : Rules) (c : Tracked) (b : Before) (m : CutMessage) →
+    has_fragments m.header ≡ true → refusal_of R.most b m ≡ None
+    → effects R.reading c (events_at_name R.most b m)
+    ≡ one_effect R.reading c (place m) (message_key m) (Opens (key m))
+unfolding naming_events
+opener_opens R c b m h e =
+    rw (first_no_fragment m.header h, h, e) (effects_own R.reading c m (Opens (key m)))
 
 -- ---- The request id of a CancelRequest.
 
-pub cancel_closes : (R : Rules) (c : Tracked) (still_open : List Open) (m : CutMessage) (o : Open) →
-    is_old m.header ≡ false → is_fragment m.header ≡ false
-    → is_opener m.header ≡ false → is_cancel m.header ≡ true → opener_of still_open m ≡ Some o
-    → may_be_cancelled o.opener.header ≡ true →
-    effects R.reading c (events_at_name R.most still_open m)
-    ≡ one_effect R.reading c (place m) o.opener (Cancelled m.number)
-unfolding naming_events
-cancel_closes R c still_open m o new f g h e s = search (arith, any_is, first_is, effects_about)
+-- the open message that it would cancel
+abbrev pub cancelled_by : Before → CutMessage → Option Open
+cancelled_by b m = cancelled b (key m) (opener_of b m)
 
-pub cancel_spares : (R : Rules) (c : Tracked) (still_open : List Open) (m : CutMessage) (o : Open) →
-    is_old m.header ≡ false → is_fragment m.header ≡ false
-    → is_opener m.header ≡ false → is_cancel m.header ≡ true → opener_of still_open m ≡ Some o
-    → may_be_cancelled o.opener.header ≡ false →
-    effects R.reading c (events_at_name R.most still_open m) ≡ no_effect c
+pub cancels_so : (most : ℕ) (b : Before) (m : CutMessage) → is_any_fragment m.header ≡ false →
+    has_fragments m.header ≡ false → is_cancel m.header ≡ true →
+    events_at_name most b m ≡ cancel_of (now_of m) (cancelled_by b m)
 unfolding naming_events
-cancel_spares R c still_open m o new f g h e s = search (arith, any_is, first_is, effects_none)
+cancels_so most b m f g h = rw (f, g, h) refl
 
-pub cancel_misses : (R : Rules) (c : Tracked) (still_open : List Open) (m : CutMessage) →
-    is_old m.header ≡ false → is_fragment m.header ≡ false
-    → is_opener m.header ≡ false → is_cancel m.header ≡ true → opener_of still_open m ≡ None →
-    effects R.reading c (events_at_name R.most still_open m) ≡ no_effect c
-unfolding naming_events
-cancel_misses R c still_open m new f g h e = search (arith, any_is, first_is, effects_none)
+pub cancel_closes : (R : MessageReader) (c : Tracked) (m : CutMessage) (o : Open) →
+    may_be_cancelled o.opener.header ≡ true → effects R c (cancel_of (now_of m) (Some o))
+    ≡ one_effect R c (place m) o.opener (Cancelled m.number)
+cancel_closes R c m o may = rw may (effects_about R c m o (Cancelled m.number))
+
+pub cancel_spares : (R : MessageReader) (c : Tracked) (m : CutMessage) (o : Open) →
+    may_be_cancelled o.opener.header ≡ false →
+    effects R c (cancel_of (now_of m) (Some o)) ≡ no_effect c
+cancel_spares R c m o may = rw may (effects_none R c)
 
 -- ---- The request id of any other message.
 
-pub other_id : (R : Rules) (c : Tracked) (still_open : List Open) (m : CutMessage) →
-    is_old m.header ≡ false → is_fragment m.header ≡ false
-    → is_opener m.header ≡ false → is_cancel m.header ≡ false →
-    effects R.reading c (events_at_name R.most still_open m) ≡ no_effect c
+pub other_id : (R : Rules) (c : Tracked) (b : Before) (m : CutMessage) →
+    is_any_fragment m.header ≡ false → has_fragments m.header ≡ false →
+    is_cancel m.header ≡ false → effects R.reading c (events_at_name R.most b m) ≡ no_effect c
 unfolding naming_events
-other_id R c still_open m new f g h = search (arith, any_is, first_is, effects_none)
+other_id R c b m f g h = rw (f, g, h) (effects_none R.reading c)

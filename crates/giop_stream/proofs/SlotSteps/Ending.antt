@@ -11,31 +11,31 @@ use Rattle.giop_stream.specs.declared.slots.Slots.{Slots}
 use Rattle.giop_stream.specs.declared.current.Current.{Current}
 use Rattle.giop_stream.specs.Framing.{CutMessage}
 use Rattle.giop_stream.specs.Kinds.{is_any_fragment, named_at, is_short, is_followed}
-use Rattle.giop_stream.specs.Events.{Open, Event, Closes, Faults, message_key, opener_of, has_named, own, event_of_open, events_at_end, now_of, message_end_events}
+use Rattle.giop_stream.specs.Events.{Before, Open, Event, Closes, Faults, message_key, opener_of, has_named, own, event_of_open, events_at_end, now_of, message_end_events}
 use Rattle.giop_stream.specs.Effects.{effects, one_effect, no_effect, effect_to}
 use Rattle.giop_stream.specs.OpenSlots.{Tracked}
-use Rattle.giop_stream.specs.PayloadOwner.{IsAtOctet}
+use Rattle.giop_stream.specs.PayloadOwner.{IsAtOctet, before_with}
 use Rattle.giop_stream.specs.EngineState.{opener_key, owner_of_next}
 use Rattle.giop_stream.proofs.Events.MessageKinds.{short_before, fragment_long}
 use Rattle.giop_stream.proofs.SlotSteps.Cases.{effects_none, effects_own, effects_about, effects_nobody}
 
 -- ---- The owner of the octets.
 
-pub owner_early : (still_open : List Open) (m : CutMessage) → length m.payload < named_at m.header →
-    owner_of_next still_open m ≡ Some (message_key m)
+pub owner_early : (b : Before) (m : CutMessage) → length m.payload < named_at m.header →
+    owner_of_next b m ≡ Some (message_key m)
 unfolding owner_of_next has_named
-owner_early still_open m few = search (arith, lt-leb)
+owner_early b m few = search (arith, lt-leb)
 
-pub owner_plain : (still_open : List Open) (m : CutMessage) → is_any_fragment m.header ≡ false →
-    owner_of_next still_open m ≡ Some (message_key m)
+pub owner_plain : (b : Before) (m : CutMessage) → is_any_fragment m.header ≡ false →
+    owner_of_next b m ≡ Some (message_key m)
 unfolding owner_of_next has_named
-owner_plain still_open m f = rw f refl
+owner_plain b m f = rw f refl
 
-pub owner_passed : (still_open : List Open) (m : CutMessage) → is_any_fragment m.header ≡ true →
+pub owner_passed : (b : Before) (m : CutMessage) → is_any_fragment m.header ≡ true →
     named_at m.header ≤ length m.payload →
-    owner_of_next still_open m ≡ opener_key (opener_of still_open m)
+    owner_of_next b m ≡ opener_key (opener_of b m)
 unfolding owner_of_next has_named
-owner_passed still_open m f many = search (arith, le-leb)
+owner_passed b m f many = search (arith, le-leb)
 
 -- ---- The cases of the last octet.
 
@@ -59,25 +59,26 @@ module _ (C : Table) (l : Answers) (s : Slots) (c : Tracked) (m : CutMessage) (n
   header_at says r e = search (arith)
 
   pub ends_short : true ≡ is_short now.header
-      → effects (message_reader C l) c (events_at_end c.still_open m)
+      → effects (message_reader C l) c (events_at_end (before_with C l c) m)
       ≡ one_effect (message_reader C l) c now.place (message_key m) (Faults Short)
   unfolding message_end_events
   ends_short e = search (arith, header_at, effects_own)
 
   pub own_short : true ≡ is_short now.header → length m.payload ≡ size m.header →
-      owner_of_next c.still_open m ≡ Some (message_key m)
+      owner_of_next (before_with C l c) m ≡ Some (message_key m)
   own_short e last =
       let short = header_at is_short true e in
-      owner_early c.still_open m (omega (arith, last, short_before m.header short))
+      owner_early (before_with C l c) m (omega (arith, last, short_before m.header short))
 
   pub ends_followed : false ≡ is_short now.header → true ≡ is_followed now.header →
-      effects (message_reader C l) c (events_at_end c.still_open m) ≡ no_effect c
+      effects (message_reader C l) c (events_at_end (before_with C l c) m) ≡ no_effect c
   unfolding message_end_events is_followed
   ends_followed e k = search (arith, header_at, followed_by, effects_none)
 
   ends_last : false ≡ is_short now.header → false ≡ is_followed now.header
-      → events_at_end c.still_open m ≡ (if is_any_fragment m.header then event_of_open (now_of m)
-      (opener_of c.still_open m) Closes else own (now_of m) Closes)
+      → events_at_end (before_with C l c) m ≡ (if is_any_fragment m.header
+      then event_of_open (now_of m) (opener_of (before_with C l c) m) Closes
+      else own (now_of m) Closes)
   unfolding message_end_events is_followed
   ends_last e k = search (arith, header_at, last_by)
 
@@ -93,8 +94,8 @@ module _ (C : Table) (l : Answers) (s : Slots) (c : Tracked) (m : CutMessage) (n
 
   pub ends_closed : false ≡ is_short now.header → false ≡ is_followed now.header →
       length m.payload ≡ size m.header
-      → effects (message_reader C l) c (events_at_end c.still_open m)
-      ≡ effect_to C l now.place c (owner_of_next c.still_open m) Closes
+      → effects (message_reader C l) c (events_at_end (before_with C l c) m)
+      ≡ effect_to C l now.place c (owner_of_next (before_with C l c) m) Closes
   ends_closed e k last = search (
     arith,
     ends_last,

@@ -1,15 +1,15 @@
 -- What each event does to the slots: which slot changes, is removed or is added.
-use Rattle.std.proofs.Common.{arith, inl, inr, ◌≡◌, ℕ, true, not, List, [], ◌∷◌, ◌++◌, refl, sym, ap, ◌∙◌, Option, Some, None, append-nil}
+use Rattle.std.proofs.Common.{arith, inl, inr, ◌≡◌, ℕ, true, false, not, List, [], ◌∷◌, ◌++◌, refl, sym, ap, ◌∙◌, Option, Some, None, append-nil}
 use Rattle.std.specs.Prelude.{◌==◌, slice_get, slice_set}
 use Rattle.std.specs.List.{filter, remove}
 use Rattle.std.proofs.lemmas.Bool.{cases_eq, ne_eqb}
 use Rattle.giop_message.specs.MessageReader.{MessageReader}
-use Rattle.giop_stream.specs.Events.{EventKind, Begins, Opens, Continues, Cancelled, Closes, MessageKey, Event, Open, octet, changed, Rising}
-use Rattle.giop_stream.specs.Lines.{line, lines_of_event, is_last_of, up_to_last_line}
+use Rattle.giop_stream.specs.Events.{EventKind, Begins, Opens, Continues, Cancelled, Closes, MessageKey, Event, Open, octet, refuses, changed, Rising}
+use Rattle.giop_stream.specs.Lines.{Kept, line, lines_of_event, is_last_of, up_to_last_line}
 use Rattle.giop_stream.specs.OpenSlots.{slots_of, Tracked, IsNotOpen, slots_at}
-use Rattle.giop_stream.specs.Effects.{tracked_at, lines_of, octets_then, stays, goes, lines_for}
+use Rattle.giop_stream.specs.Effects.{tracked_at, lines_of, known_then, stays, goes, lines_for}
 use Rattle.giop_stream.proofs.Lists.{each_weaker, filter_keeps}
-use Rattle.giop_stream.proofs.SlotSteps.OneSlotChanges.{own_then, others_then, slot_at, no_slot, slot_gone, slot_comes}
+use Rattle.giop_stream.proofs.SlotSteps.OneSlotChanges.{own_then, others_then, mixes_not, mixed_same, slot_at, no_slot, slot_gone, slot_comes}
 
 stays_still_open : (still_open : List Open) (subject : MessageKey) (what : EventKind) →
     stays what ≡ true → changed still_open subject what ≡ still_open
@@ -38,12 +38,12 @@ pub slot_stays : (R : MessageReader) (c : Tracked) (e : Event) (k : ℕ) (o : Op
     stays e.what ≡ true → Rising c.still_open
     → slice_get c.still_open k ≡ Some o → e.subject ≡ o.opener
     → slots_at (tracked_at R c e) ≡ slice_set (slots_at c) k
-    (record { open_as = o; octets = octets_then R e (c.known o.opener.number) })
+    (record { open_as = o; kept = known_then R e (c.known o.opener.number) })
 slot_stays R c e k o h rising here w =
     let number : o.opener.number ≡ e.subject.number = ap (λ (t : MessageKey). t.number) (sym w) in
-    let now : (tracked_at R c e).known o.opener.number ≡ octets_then R e (c.known o.opener.number) =
+    let now : (tracked_at R c e).known o.opener.number ≡ known_then R e (c.known o.opener.number) =
     ap (tracked_at R c e).known number ∙ (own_then R c e
-    ∙ ap (λ (n : ℕ). octets_then R e (c.known n)) (sym number)) in
+    ∙ ap (λ (n : ℕ). known_then R e (c.known n)) (sym number)) in
     rw (still_open_at R c e, stays_still_open c.still_open e.subject e.what h, ← now)
     (slot_at (tracked_at R c e).known c.known c.still_open k o rising here
     (λ i other. others_then R c e i (λ same. other (same ∙ sym number))))
@@ -84,13 +84,13 @@ slots_left R c e h apart = search (
   others_then,
 )
 
--- an event that opens a message changes nothing of the octets that are kept of it
-opens_then : (R : MessageReader) (e : Event) (i : Option ℕ) (o : Option (List ℕ)) →
+-- an event that opens a message changes nothing of what is kept of it
+opens_then : (R : MessageReader) (e : Event) (i : Option ℕ) (o : Option Kept) →
     e.what ≡ Opens i →
-    octets_then R e o ≡ o
-unfolding octets_then lines_of lines_for lines_of_event up_to_last_line octet
+    known_then R e o ≡ o
+unfolding known_then lines_of lines_for lines_of_event up_to_last_line octet
 opens_then R e i None h = refl
-opens_then R e i (Some xs) h = search (arith, append-nil)
+opens_then R e i (Some kept) h = search (arith, append-nil)
 
 opens_still_open : (still_open : List Open) (subject : MessageKey) (what : EventKind)
     (i : Option ℕ) → what ≡ Opens i
@@ -104,7 +104,7 @@ pub slot_opens : (R : MessageReader) (c : Tracked) (e : Event) (i : Option ℕ) 
     → slots_at (tracked_at R c e)
     ≡ slots_at c ++ record {
       open_as = record { key = i; opener = e.subject };
-      octets =
+      kept =
           c.known e.subject.number;
     } ∷ []
 slot_opens R c e i h apart =
@@ -118,39 +118,52 @@ slot_opens R c e i h apart =
     ap (slots_of (tracked_at R c e).known)
     (still_open_at R c e ∙ opens_still_open c.still_open e.subject e.what i h)
     ∙ (slot_comes (tracked_at R c e).known c.known c.still_open o others
-    ∙ ap (λ (xs : Option (List ℕ)). slots_at c ++ record { open_as = o; octets = xs } ∷ []) now)
+    ∙ ap (λ (xs : Option Kept). slots_at c ++ record { open_as = o; kept = xs } ∷ []) now)
 
-quiet_then : (R : MessageReader) (e : Event) (n : ℕ) (o : Option (List ℕ)) → e.what ≡ Continues n →
-    octets_then R e o ≡ o
-unfolding octets_then lines_of lines_for lines_of_event line up_to_last_line octet is_last_of
+quiet_then : (R : MessageReader) (e : Event) (n : ℕ) (o : Option Kept) → e.what ≡ Continues n →
+    known_then R e o ≡ o
+unfolding known_then lines_of lines_for lines_of_event line up_to_last_line octet is_last_of
 quiet_then R e n None h = refl
-quiet_then R e n (Some xs) h = search (arith, append-nil)
+quiet_then R e n (Some kept) h = search (arith, append-nil)
+
+-- an event that opens and closes nothing, keeps what is kept, and refuses nothing, changes nothing
+-- that is tracked
+tracked_same : (R : MessageReader) (c : Tracked) (e : Event) →
+    changed c.still_open e.subject e.what ≡ c.still_open → refuses e.what ≡ false →
+    ((o : Option Kept) → known_then R e o ≡ o) → tracked_at R c e ≡ c
+tracked_same R c e still calm same = λ j. record {
+  still_open = still_open j;
+  mixed = mixed j;
+  known = λ i. known i j;
+}
+  where
+    still_open : (tracked_at R c e).still_open ≡ c.still_open
+    still_open = still_open_at R c e ∙ still
+
+    mixed : (tracked_at R c e).mixed ≡ c.mixed
+    mixed = mixed_same R c e (mixes_not e calm)
+
+    known : (i : ℕ) → (tracked_at R c e).known i ≡ c.known i
+    known i =
+        elim (cases_eq i e.subject.number) [
+          | inl is ↦ rw is (own_then R c e ∙ same (c.known e.subject.number))
+          | inr other ↦ others_then R c e i other
+        ]
 
 -- a Fragment that continues a message changes nothing that is tracked
 pub tracked_stays : (R : MessageReader) (c : Tracked) (e : Event) (n : ℕ) → e.what ≡ Continues n →
     tracked_at R c e ≡ c
 unfolding changed
-tracked_stays R c e n h = λ j. record { still_open = still_open j; known = λ i. known i j }
-  where
-    still_open : (tracked_at R c e).still_open ≡ c.still_open
-    still_open = search (arith, still_open_at)
+tracked_stays R c e n h = tracked_same R c e (rw h refl) (rw h refl) (λ o. quiet_then R e n o h)
 
-    known : (i : ℕ) → (tracked_at R c e).known i ≡ c.known i
-    known i =
-        elim (cases_eq i e.subject.number) [
-          | inl same ↦ rw same
-              (own_then R c e ∙ quiet_then R e n (c.known e.subject.number) h)
-          | inr other ↦ others_then R c e i other
-        ]
-
-begins_then : (R : MessageReader) (e : Event) (o : Option (List ℕ)) → e.what ≡ Begins →
-    octets_then R e o ≡ o
-unfolding octets_then lines_of lines_for lines_of_event line up_to_last_line octet is_last_of
+begins_then : (R : MessageReader) (e : Event) (o : Option Kept) → e.what ≡ Begins →
+    known_then R e o ≡ o
+unfolding known_then lines_of lines_for lines_of_event line up_to_last_line octet is_last_of
 begins_then R e None h = refl
-begins_then R e (Some xs) h = search (arith, append-nil)
+begins_then R e (Some kept) h = search (arith, append-nil)
 
 -- a message that begins changes nothing that is tracked
 pub tracked_begins : (R : MessageReader) (c : Tracked) (e : Event) → e.what ≡ Begins →
     tracked_at R c e ≡ c
 unfolding changed
-tracked_begins R c e h = search (arith, still_open_at, cases_eq, own_then, begins_then, others_then)
+tracked_begins R c e h = tracked_same R c e (rw h refl) (rw h refl) (λ o. begins_then R e o h)

@@ -1,81 +1,123 @@
--- Which open message with a request id the code finds.
-use Rattle.std.proofs.Common.{◌≡◌, ℕ, suc, ◌+◌, Bool, true, false, cond, List, [], ◌∷◌, refl, sym, subst, ◌∙◌, Option, Some, None, arith}
-use Rattle.std.specs.Prelude.{◌==◌, slice_get}
+-- Which open message under a key the code finds.
+use Rattle.std.proofs.Common.{◌≡◌, ℕ, suc, ◌+◌, Bool, true, false, cond, List, [], ◌∷◌, refl, sym, subst, Option, Some, None, arith}
+use Rattle.std.specs.Prelude.{is_none, slice_get, if◌then◌else◌}
 use Rattle.std.specs.List.{find, position_from}
-use Rattle.giop_stream.specs.SlotsRepresent.{OpenEntry}
-use Rattle.giop_stream.specs.Events.{Open, is_id}
-use Rattle.giop_stream.specs.OpenSlots.{OctetsByNumber, slots_of, Tracked}
-use Rattle.giop_stream.specs.SlotsRepresent.{AreSlots}
+use Rattle.giop_entry_table.specs.OptionalIds.{is_id}
+use Rattle.giop_stream.specs.declared.slots.Slots.{Slots}
+use Rattle.giop_stream.specs.SlotsRepresent.{OpenEntry, AreSlots, SlotsRepresent, index_under}
+use Rattle.giop_stream.specs.Events.{MessageKey, Open, open_under, pending}
+use Rattle.giop_stream.specs.Events as events
+use Rattle.giop_stream.specs.OpenSlots.{KeptByNumber, slots_of, Tracked, before_in}
+use Rattle.giop_stream.specs.PayloadOwner.{before_with}
 use Rattle.giop_sig.specs.Table.{Table}
 use Rattle.giop_message.specs.Signatures.{Answers}
 
--- ---- The open message with a request id.
+-- ---- The first open message whose key passes a test.
 
 -- the result of a search: none, or the index of the message
-pub Found : List Open → ℕ → ℕ → Option ℕ → Type 0
-Found still_open i n None = find (λ o. is_id i o.key) still_open ≡ None
-Found still_open i n (Some k) = (o : Open) × (at : ℕ) × (k ≡ n + at)
-    × (slice_get still_open at ≡ Some o) × (find (λ o. is_id i o.key) still_open ≡ Some o)
+pub Found : (Option ℕ → Bool) → List Open → ℕ → Option ℕ → Type 0
+Found test still_open n None = find (λ o. test o.key) still_open ≡ None
+Found test still_open n (Some k) = (o : Open) × (at : ℕ) × (k ≡ n + at)
+    × (slice_get still_open at ≡ Some o) × (find (λ o. test o.key) still_open ≡ Some o)
 
-found_next : (a : Open) (still_open : List Open) (i n : ℕ) (r : Option ℕ) → is_id i a.key ≡ false →
-    Found still_open i (n + 1) r → Found (a ∷ still_open) i n r
-unfolding Found
-found_next a still_open i n None e h = rw e h
-found_next a still_open i n (Some k) e h = (h.0, suc h.1, omega (arith, h.2), h.3, rw e h.4)
+module _ (test : Option ℕ → Bool) where
+  found_next : (a : Open) (still_open : List Open) (n : ℕ) (r : Option ℕ) → test a.key ≡ false →
+      Found test still_open (n + 1) r → Found test (a ∷ still_open) n r
+  unfolding Found
+  found_next a still_open n None e h = rw e h
+  found_next a still_open n (Some k) e h = (h.0, suc h.1, omega (arith, h.2), h.3, rw e h.4)
 
-found_by : (a : Open) (still_open : List Open) (i n : ℕ) (b : Bool) → is_id i a.key ≡ b
-    → Found still_open i (n + 1) (position_from (λ o. is_id i o.key) (n + 1) still_open)
-    → Found (a ∷ still_open) i n (cond b (Some n)
-    (position_from (λ o. is_id i o.key) (n + 1) still_open))
-unfolding Found
-found_by a still_open i n true e h = (a, 0, omega arith, refl, rw e refl)
-found_by a still_open i n false e h = search (arith, found_next)
+  found_by : (a : Open) (still_open : List Open) (n : ℕ) (b : Bool) → test a.key ≡ b
+      → Found test still_open (n + 1) (position_from (λ o. test o.key) (n + 1) still_open)
+      → Found test (a ∷ still_open) n (cond b (Some n)
+      (position_from (λ o. test o.key) (n + 1) still_open))
+  unfolding Found
+  found_by a still_open n true e h = (a, 0, omega arith, refl, rw e refl)
+  found_by a still_open n false e h = search (arith, found_next)
 
-found : (still_open : List Open) (i n : ℕ) →
-    Found still_open i n (position_from (λ o. is_id i o.key) n still_open)
-unfolding Found
-found [] i n = refl
-found (a ∷ still_open) i n = search (arith, found_by, found still_open i (n + 1))
+  found : (still_open : List Open) (n : ℕ) →
+      Found test still_open n (position_from (λ o. test o.key) n still_open)
+  unfolding Found
+  found [] n = refl
+  found (a ∷ still_open) n = search (arith, found_by, found still_open (n + 1))
 
-pub record OpenAt (c : Tracked) (i k : ℕ) : Type 0 where
+-- the code's test of a key is that of the events
+same_test : (i : ℕ) (key : Option ℕ) → is_id i key ≡ events.is_id key (Some i)
+same_test i None = refl
+same_test i (Some id) = refl
+
+-- the code finds the message at this index
+pub record OpenAt (c : Tracked) (r : Option Open) (k : ℕ) : Type 0 where
   pub o : Open
   pub here : slice_get c.still_open k ≡ Some o
-  pub is : find (λ o. is_id i o.key) c.still_open ≡ Some o
+  pub is : r ≡ Some o
 
 module _ (C : Table) (l : Answers) where
-  ids_found : (ks : List OpenEntry) (K : OctetsByNumber) (still_open : List Open) (i n : ℕ) →
+  keys_found : (test test' : Option ℕ → Bool) → ((key : Option ℕ) → test key ≡ test' key) →
+      (ks : List OpenEntry) (K : KeptByNumber) (still_open : List Open) (n : ℕ) →
       AreSlots C l ks (slots_of K still_open)
-      → position_from (λ slot. slot.key == i) n ks ≡ position_from (λ o. is_id i o.key) n still_open
+      → position_from (λ slot. test slot.key) n ks
+      ≡ position_from (λ o. test' o.key) n still_open
   unfolding slots_of
-  ids_found [] K [] i n h = refl
-  ids_found [] K (o ∷ still_open) i n h = absurd h
-  ids_found (k ∷ ks) K [] i n h = absurd h
-  ids_found (k ∷ ks) K (o ∷ still_open) i n h = search (
-    arith,
-    cond,
-    ids_found ks K still_open i (n
-        + 1) h.1,
-  )
+  keys_found test test' same [] K [] n h = refl
+  keys_found test test' same [] K (o ∷ still_open) n h = absurd h
+  keys_found test test' same (k ∷ ks) K [] n h = absurd h
+  keys_found test test' same (k ∷ ks) K (o ∷ still_open) n h =
+      rw (h.0.key, same o.key, keys_found test test' same ks K still_open (n + 1) h.1) refl
 
-  pub none_open : (ks : List OpenEntry) (c : Tracked) (i : ℕ) →
-      AreSlots C l ks (slots_of c.known c.still_open)
-      → position_from (λ slot. slot.key == i) 0 ks ≡ None →
-      find (λ o. is_id i o.key) c.still_open ≡ None
-  unfolding Found
-  none_open ks c i h e = subst (Found c.still_open i 0)
-      (sym (ids_found ks c.known c.still_open i 0 h) ∙ e) (found c.still_open i 0)
+  module _ (s : Slots) (c : Tracked) (who : Option MessageKey)
+      (h : SlotsRepresent C l s c who) where
+    -- the search by a test, with what it finds
+    Finds : Option Open → Option ℕ → Type 0
+    Finds r None = r ≡ None
+    Finds r (Some k) = OpenAt c r k
 
-  pub one_open : (ks : List OpenEntry) (c : Tracked) (i k : ℕ) →
-      AreSlots C l ks (slots_of c.known c.still_open)
-      → position_from (λ slot. slot.key == i) 0 ks ≡ Some k → OpenAt c i k
-  unfolding Found
-  one_open ks c i k h e =
-      let f = subst (Found c.still_open i 0) (sym (ids_found ks c.known c.still_open i 0 h) ∙ e)
-      (found c.still_open i 0) in
-      let same : f.1 ≡ k = omega (arith, f.2) in
-      record {
-        o = f.0;
-        here = subst (λ (n : ℕ). slice_get c.still_open n ≡ Some f.0) same f.3;
-        is =
-            f.4;
-      }
+    finds_by : (test : Option ℕ → Bool) (r : Option ℕ) → Found test c.still_open 0 r →
+        Finds (find (λ o. test o.key) c.still_open) r
+    unfolding Found Finds
+    finds_by test None f = f
+    finds_by test (Some k) f =
+        let same : f.1 ≡ k = omega (arith, f.2) in
+        record {
+          o = f.0;
+          here = subst (λ (n : ℕ). slice_get c.still_open n ≡ Some f.0) same f.3;
+          is = f.4;
+        }
+
+    finds_test : (test test' : Option ℕ → Bool) → ((key : Option ℕ) → test key ≡ test' key) →
+        Finds (find (λ o. test' o.key) c.still_open)
+        (position_from (λ slot. test slot.key) 0 s.slots.entries)
+    finds_test test test' same =
+        rw (keys_found test test' same s.slots.entries c.known c.still_open 0 h.slots)
+        (finds_by test' _ (found test' c.still_open 0))
+
+    finds_if : (a b : Bool) → a ≡ b →
+        Finds (if a then None else find (λ o. is_none o.key) c.still_open)
+        (if b then None else position_from (λ slot. is_none slot.key) 0 s.slots.entries)
+    unfolding Finds
+    finds_if true true e = refl
+    finds_if true false e = absurd cc
+    finds_if false true e = absurd cc
+    finds_if false false e = finds_test is_none is_none (λ key. refl)
+
+    finds_pending : Finds (pending (before_with C l c))
+        (if s.is_mixed then None
+        else position_from (λ slot. is_none slot.key) 0 s.slots.entries)
+    unfolding pending before_in
+    finds_pending = finds_if c.mixed s.is_mixed (sym h.mixed)
+
+    finds_under : (key : Option ℕ) → Finds (open_under (before_with C l c) key) (index_under s key)
+    unfolding before_in
+    finds_under (Some i) =
+        finds_test (is_id i) (λ key. events.is_id key (Some i)) (same_test i)
+    finds_under None = finds_pending
+
+    pub none_open : (key : Option ℕ) → index_under s key ≡ None →
+        open_under (before_with C l c) key ≡ None
+    unfolding Finds
+    none_open key e = subst (Finds (open_under (before_with C l c) key)) e (finds_under key)
+
+    pub one_open : (key : Option ℕ) (k : ℕ) → index_under s key ≡ Some k →
+        OpenAt c (open_under (before_with C l c) key) k
+    unfolding Finds
+    one_open key k e = subst (Finds (open_under (before_with C l c) key)) e (finds_under key)

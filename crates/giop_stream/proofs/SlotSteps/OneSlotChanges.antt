@@ -1,27 +1,21 @@
 -- An event changes at most one slot: the slot of its message.
-use Rattle.std.proofs.Common.{◌≡◌, ℕ, zero, suc, ◌<◌, false, not, List, [], ◌∷◌, ◌++◌, refl, ap, ◌∙◌, Option, Some, None, arith}
-use Rattle.std.specs.Prelude.{◌==◌, option_map, slice_get, slice_set}
+use Rattle.std.proofs.Common.{◌≡◌, ℕ, zero, suc, ◌<◌, Bool, true, false, not, List, [], ◌∷◌, ◌++◌, refl, sym, ◌∙◌, Some, arith}
+use Rattle.std.specs.Prelude.{◌==◌, ◌||◌, slice_get, slice_set}
 use Rattle.std.specs.List.{filter, list_any, remove, AllByRecursion as Each}
-use Rattle.std.proofs.lemmas.Bool.{eq-eqb, ne_eqb}
-use Rattle.std.proofs.lemmas.List.{append-nil, map-append}
+use Rattle.std.proofs.lemmas.Bool.{eq-eqb, ne_eqb, and_right}
+use Rattle.std.proofs.lemmas.List.{map-append}
 use Rattle.giop_message.specs.MessageReader.{MessageReader}
-use Rattle.giop_stream.specs.Events.{Event, Open, octet, joined}
+use Rattle.giop_stream.specs.Kinds.{is_old_opener}
+use Rattle.giop_stream.specs.declared.fault.FramingFault.{FramingFault}
+use Rattle.giop_stream.specs.Events.{MessageKey, Faults, Event, Open, refuses, mixes}
 use Rattle.giop_stream.specs.Lines.{StreamLine, is_last_of, up_to_last_line}
-use Rattle.giop_stream.specs.OpenSlots.{OctetsByNumber, slots_of, Tracked}
-use Rattle.giop_stream.specs.Effects.{lines_at, tracked_at, lines_of, octets_then, lines_for, kept_with, kept_after}
+use Rattle.giop_stream.specs.OpenSlots.{KeptByNumber, slots_of, Tracked}
+use Rattle.giop_stream.specs.Effects.{lines_at, tracked_at, lines_of, known_then, lines_for, kept_with, kept_after, event}
 use Rattle.giop_stream.proofs.Lists.{each_weaker, filter_keeps, map_agree}
 use Rattle.giop_stream.proofs.StreamLines.LinesOfOctet.{event_lines_number, standing_each}
 use Rattle.giop_stream.specs.Events.{Rising}
 
 -- ---- What is kept of messages.
-
-one_joined : (e : Event) → joined e.subject.number (e ∷ []) ≡ octet e.what
-unfolding joined
-one_joined e = search (arith, eq-eqb, append-nil)
-
-other_joined : (i : ℕ) (e : Event) → (i ≡ e.subject.number → ⊥) → joined i (e ∷ []) ≡ []
-unfolding joined
-other_joined i e h = search (arith, ne_eqb)
 
 other_last : (i n : ℕ) (ls : List StreamLine) → (i ≡ n → ⊥) → Each (λ l. l.number ≡ n) ls →
     list_any (is_last_of i) ls ≡ false
@@ -29,14 +23,10 @@ unfolding is_last_of
 other_last i n [] h k = refl
 other_last i n (l ∷ ls) h k = search (arith, ne_eqb, other_last i n ls h k.1)
 
-same_octets : (o : Option (List ℕ)) → option_map (λ xs. xs ++ []) o ≡ o
-same_octets None = refl
-same_octets (Some xs) = ap Some (append-nil xs)
-
 pub own_then : (R : MessageReader) (c : Tracked) (e : Event) →
-    (tracked_at R c e).known e.subject.number ≡ octets_then R e (c.known e.subject.number)
-unfolding tracked_at kept_after kept_with octets_then lines_at lines_of
-own_then R c e = rw (one_joined e) refl
+    (tracked_at R c e).known e.subject.number ≡ known_then R e (c.known e.subject.number)
+unfolding tracked_at kept_after kept_with known_then lines_at lines_of
+own_then R c e = rw (eq-eqb e.subject.number e.subject.number refl) refl
 
 pub others_then : (R : MessageReader) (c : Tracked) (e : Event) (i : ℕ) →
     (i ≡ e.subject.number → ⊥) → (tracked_at R c e).known i ≡ c.known i
@@ -47,7 +37,42 @@ others_then R c e i h =
     standing_each (λ l. l.number ≡ e.subject.number) (λ i. false)
     (lines_for R e (c.known e.subject.number))
     (event_lines_number R (λ n. n ≡ e.subject.number) e (c.known e.subject.number) refl) in
-    rw (other_last i e.subject.number _ h mine, other_joined i e h) (same_octets (c.known i))
+    rw (other_last i e.subject.number _ h mine, ne_eqb e.subject.number i (λ same. h (sym same)))
+    refl
+
+-- ---- Whether Fragments of 1.1 are joined.
+
+pub mixes_not : (e : Event) → refuses e.what ≡ false → mixes e ≡ false
+unfolding mixes
+mixes_not e calm = and_right _ _ calm
+
+pub no_opener_mixes : (e : Event) → is_old_opener e.subject.header ≡ false → mixes e ≡ false
+unfolding mixes
+no_opener_mixes e other = rw other refl
+
+pub or_nothing : (a b : Bool) → b ≡ false → (a || b) ≡ a
+or_nothing true b e = refl
+or_nothing false b e = e
+
+-- whether they are joined isn't changed by the event
+pub calm_same : (c : Tracked) (e : Event) → mixes e ≡ false → (c.mixed || mixes e) ≡ c.mixed
+calm_same c e calm = or_nothing c.mixed (mixes e) calm
+
+pub mixed_by : (R : MessageReader) (c : Tracked) (e : Event) → (c.mixed || mixes e) ≡ c.mixed →
+    (tracked_at R c e).mixed ≡ c.mixed
+unfolding tracked_at
+mixed_by R c e calm = calm
+
+pub mixed_same : (R : MessageReader) (c : Tracked) (e : Event) → mixes e ≡ false →
+    (tracked_at R c e).mixed ≡ c.mixed
+mixed_same R c e calm = mixed_by R c e (calm_same c e calm)
+
+-- a fault that refuses no message of 1.1
+pub calm_fault : (c : Tracked) (at : ℕ) (w : MessageKey) (fault : FramingFault) →
+    refuses (Faults fault) ≡ false →
+    (c.mixed || mixes (event at w (Faults fault))) ≡ c.mixed
+calm_fault c at w fault calm =
+    calm_same c (event at w (Faults fault)) (mixes_not (event at w (Faults fault)) calm)
 
 -- ---- The slots.
 
@@ -58,7 +83,7 @@ at_index P [] k x e h = absurd cc
 at_index {A} P (a ∷ xs) zero x e h = search (arith)
 at_index P (a ∷ xs) (suc k) x e h = at_index P xs k x e h.1
 
-slots_agree : (f g : OctetsByNumber) (still_open : List Open) →
+slots_agree : (f g : KeptByNumber) (still_open : List Open) →
     Each (λ o. f o.opener.number ≡ g o.opener.number) still_open →
     slots_of f still_open ≡ slots_of g still_open
 unfolding slots_of
@@ -70,11 +95,11 @@ apart : (o : Open) (still_open : List Open) →
 apart o still_open h = search (arith, each_weaker)
 
 -- If what is kept changes for one open message only, only its slot changes.
-pub slot_at : (f g : OctetsByNumber) (still_open : List Open) (k : ℕ) (o : Open) →
+pub slot_at : (f g : KeptByNumber) (still_open : List Open) (k : ℕ) (o : Open) →
     Rising still_open → slice_get still_open k ≡ Some o
     → ((i : ℕ) → (i ≡ o.opener.number → ⊥) → f i ≡ g i)
     → slots_of f still_open ≡ slice_set (slots_of g still_open) k
-    (record { open_as = o; octets = f o.opener.number })
+    (record { open_as = o; kept = f o.opener.number })
 unfolding slots_of
 slot_at f g [] k o r e h = absurd cc
 slot_at f g (a ∷ still_open) zero o r e h = search (arith, slots_agree, each_weaker, apart)
@@ -86,7 +111,7 @@ slot_at f g (a ∷ still_open) (suc k) o r e h = search (
 )
 
 -- if what is kept changes for no open message, no slot changes
-pub no_slot : (f g : OctetsByNumber) (still_open : List Open) (n : ℕ) →
+pub no_slot : (f g : KeptByNumber) (still_open : List Open) (n : ℕ) →
     Each (λ o. o.opener.number ≡ n → ⊥) still_open
     → ((i : ℕ) → (i ≡ n → ⊥) → f i ≡ g i) → slots_of f still_open ≡ slots_of g still_open
 no_slot f g still_open n h k = search (arith, slots_agree, each_weaker)
@@ -113,7 +138,7 @@ others_open (a ∷ still_open) (suc k) o r e = search (
       still_open k o r.1 e,
 )
 
-slots_remove : (f : OctetsByNumber) (still_open : List Open) (k : ℕ) →
+slots_remove : (f : KeptByNumber) (still_open : List Open) (k : ℕ) →
     slots_of f (remove still_open k) ≡ remove (slots_of f still_open) k
 unfolding slots_of
 slots_remove f [] zero = refl
@@ -134,7 +159,7 @@ not_removed (a ∷ still_open) (suc k) o r e = search (
 )
 
 -- if an open message closes, its slot is removed
-pub slot_gone : (f g : OctetsByNumber) (still_open : List Open) (k : ℕ) (o : Open) →
+pub slot_gone : (f g : KeptByNumber) (still_open : List Open) (k : ℕ) (o : Open) →
     Rising still_open → slice_get still_open k ≡ Some o →
     ((i : ℕ) → (i ≡ o.opener.number → ⊥) → f i ≡ g i)
     → slots_of f (filter (λ a. not (a.opener.number == o.opener.number)) still_open)
@@ -144,9 +169,9 @@ slot_gone f g still_open k o r e h = rw (others_open still_open k o r e)
     ∙ slots_remove g still_open k)
 
 -- if a message becomes open, a slot is added at the end
-pub slot_comes : (f g : OctetsByNumber) (still_open : List Open) (o : Open) →
+pub slot_comes : (f g : KeptByNumber) (still_open : List Open) (o : Open) →
     Each (λ a. f a.opener.number ≡ g a.opener.number) still_open
     → slots_of f (still_open ++ o ∷ []) ≡ slots_of g still_open
-    ++ record { open_as = o; octets = f o.opener.number } ∷ []
+    ++ record { open_as = o; kept = f o.opener.number } ∷ []
 unfolding slots_of
 slot_comes f g still_open o h = search (arith, map-append, slots_agree)

@@ -1,13 +1,13 @@
 -- The lines of a message's events if it is read by a table; and the calls of a message write these
 -- lines.
-use Rattle.std.proofs.Common.{arith, inl, inr, ◌⊎◌, ◌≡◌, ℕ, suc, Bool, true, false, List, [], ◌∷◌, ◌++◌, length, map, refl, sym, ap, ◌∙◌, Option, Some, None, Result, Ok, Err}
+use Rattle.std.proofs.Common.{arith, inl, inr, ◌⊎◌, ◌≡◌, ℕ, suc, ◌+◌, Bool, true, false, List, [], ◌∷◌, ◌++◌, length, map, refl, append-nil, sym, ap, ◌∙◌, Option, Some, None, Result, Ok, Err}
 use Rattle.std.specs.Prelude.{◌||◌, if◌then◌else◌, is_some, IfOk}
 use Rattle.std.specs.List.{list_any}
 use Rattle.std.proofs.lemmas.Bool.{eq-eqb}
 use Rattle.giop_print.specs.Lines.{fault_line, cancelled_line}
 use Rattle.giop_print.specs.Output.{OutLog, Wrote, WroteFront, Writes}
 use Rattle.giop_sig.specs.Table.{Table}
-use Rattle.giop_message.specs.Phases.{Phase, unbroken}
+use Rattle.giop_message.specs.Phases.{Phase, seamed}
 use Rattle.giop_message.specs.declared.message.Message.{Message}
 use Rattle.giop_message.specs.MessageReader.{LineClass, Value, Call, Rest, Fault, End, TimedLine, MessageReader, AreInLineOrder, AtClose, due, is_fault, is_last}
 use Rattle.giop_message.specs.Text.{numbered_lines}
@@ -17,11 +17,11 @@ use Rattle.giop_message.specs.ReaderOfTable.{message_reader}
 use Rattle.giop_message.specs.MessageState.{due_text, closing_text, closes_text, is_short, Follows}
 use Rattle.giop_message.proofs.MessageLaws.{is_ordered, octet_text, close_short, is_closing, close_is}
 use Rattle.giop_stream.specs.declared.fault.FramingFault.{FramingFault}
-use Rattle.giop_stream.specs.Events.{MessageKey, Event, Takes, Faults, Cancelled, Closes, octet, joined}
-use Rattle.giop_stream.specs.Lines.{StreamLine, Said, CancelledBy, Faulted, line, lines_of_event, is_last_of, up_to_last_line}
+use Rattle.giop_stream.specs.Events.{MessageKey, Event, Takes, Seams, Faults, Cancelled, Closes, octet}
+use Rattle.giop_stream.specs.Lines.{StreamLine, Kept, Said, CancelledBy, Faulted, line, lines_of_event, is_last_of, up_to_last_line}
 use Rattle.giop_stream.specs.Text.{framing_fault_word, line_text, lines_text}
 use Rattle.giop_stream.specs.Stream.{fault_count}
-use Rattle.giop_stream.specs.Effects.{lines_of, octets_then, part_of, no_part, lines_for, event}
+use Rattle.giop_stream.specs.Effects.{kept_then, lines_of, known_then, part_of, no_part, lines_for, event}
 use Rattle.giop_stream.specs.SlotsRepresent.{RepresentsMessage}
 use Rattle.giop_stream.specs.DoesEffect.{WritesLines, one_if}
 
@@ -137,10 +137,6 @@ close_faults at n (c ∷ []) h = search (arith, one_fault)
 close_faults at n (c ∷ d ∷ []) h = search (arith, two_closes)
 close_faults at n (c ∷ d ∷ e ∷ cs) h = search (arith, few_at_close, map)
 
-one_octet : (at : ℕ) (w : MessageKey) (x : ℕ) → joined w.number (event at w (Takes x) ∷ []) ≡ x ∷ []
-unfolding joined octet
-one_octet at w x = search (arith, eq-eqb)
-
 pub no_message : (message : Option Message) → is_some message ≡ false → message ≡ None
 no_message None h = refl
 no_message (Some m) h = absurd cc
@@ -152,132 +148,167 @@ module _ (R : MessageReader) where
   unfolding lines_of lines_for up_to_last_line
   over_lines e = refl
 
-  pub over_then : (e : Event) → octets_then R e None ≡ None
-  unfolding octets_then
+  pub over_then : (e : Event) → known_then R e None ≡ None
+  unfolding known_then
   over_then e = rw (over_lines e) refl
 
-  faulted_lines : (at : ℕ) (w : MessageKey) (fault : FramingFault) (xs : List ℕ) →
-      lines_of R (event at w (Faults fault)) (Some xs) ≡
+  faulted_lines : (at : ℕ) (w : MessageKey) (fault : FramingFault) (kept : Kept) →
+      lines_of R (event at w (Faults fault)) (Some kept) ≡
       record { place = at; number = w.number; content = Faulted fault } ∷ []
   unfolding lines_of lines_for lines_of_event line up_to_last_line
-  faulted_lines at w fault xs = refl
+  faulted_lines at w fault kept = refl
 
-  faulted_then : (w : MessageKey) (o : Option (List ℕ)) (at : ℕ) (fault : FramingFault) →
-      octets_then R (event at w (Faults fault)) o ≡ None
-  unfolding octets_then is_last_of
-  faulted_then w (Some xs) at fault = search (arith, faulted_lines, eq-eqb)
+  faulted_then : (w : MessageKey) (o : Option Kept) (at : ℕ) (fault : FramingFault) →
+      known_then R (event at w (Faults fault)) o ≡ None
+  unfolding known_then is_last_of
+  faulted_then w (Some kept) at fault = search (arith, faulted_lines, eq-eqb)
   faulted_then w None at fault = search (arith, over_then)
 
-  cancelled_lines : (at : ℕ) (w : MessageKey) (j : ℕ) (xs : List ℕ) →
-      lines_of R (event at w (Cancelled j)) (Some xs) ≡
+  cancelled_lines : (at : ℕ) (w : MessageKey) (j : ℕ) (kept : Kept) →
+      lines_of R (event at w (Cancelled j)) (Some kept) ≡
       record { place = at; number = w.number; content = CancelledBy j } ∷ []
   unfolding lines_of lines_for lines_of_event line up_to_last_line
-  cancelled_lines at w j xs = refl
+  cancelled_lines at w j kept = refl
+
+  pub seam_lines : (at : ℕ) (w : MessageKey) (o : Option Kept) →
+      lines_of R (event at w Seams) o ≡ []
+  unfolding lines_of lines_for lines_of_event up_to_last_line
+  seam_lines at w None = refl
+  seam_lines at w (Some kept) = refl
+
+  seamed_then : (at : ℕ) (w : MessageKey) (kept : Kept) →
+      known_then R (event at w Seams) (Some kept) ≡ Some (record {
+        octets = kept.octets;
+        phase = seamed kept.phase (12 + length kept.octets);
+      })
+  unfolding known_then octet
+  seamed_then at w kept = search (arith, seam_lines, append-nil)
 
 module _ (C : Table) (l : Answers) where
   abbrev pub R_of : MessageReader
   R_of = message_reader C l
 
-  in_turn : (number : ℕ) (header xs : List ℕ) (x : ℕ) →
-      AreInLineOrder (map (λ r. r.line_class) (due R_of unbroken number header xs x))
-  in_turn number header xs x =
-      (is_ordered (λ phase number. signatures_of C (l number) phase)).ordered unbroken number
-      header (xs ++ x ∷ []) (suc (length xs))
+  -- what an octet adds to what is said of a message, and what a close says of it
+  abbrev pub due_of : MessageKey → Kept → ℕ → List TimedLine
+  due_of w kept x = due R_of kept.phase w.number w.header kept.octets x
 
-  at_close : (number : ℕ) (header xs : List ℕ) →
-      AtClose (map (λ c. c.0) (R_of.closes unbroken number header xs))
-  at_close number header xs =
-      (is_closing (λ phase number. signatures_of C (l number) phase)).closed unbroken number
-      header xs
+  abbrev closes_of : MessageKey → Kept → List (LineClass × List ℕ)
+  closes_of w kept = R_of.closes kept.phase w.number w.header kept.octets
 
-  pub take_lines : (at : ℕ) (w : MessageKey) (xs : List ℕ) (x : ℕ) →
-      lines_of R_of (event at w (Takes x)) (Some xs)
-      ≡ reader_lines at w.number (due R_of unbroken w.number w.header xs x)
+  in_turn : (w : MessageKey) (kept : Kept) (x : ℕ) →
+      AreInLineOrder (map (λ r. r.line_class) (due_of w kept x))
+  in_turn w kept x =
+      (is_ordered (λ phase number. signatures_of C (l number) phase)).ordered kept.phase w.number
+      w.header (kept.octets ++ x ∷ []) (suc (length kept.octets))
+
+  at_close : (w : MessageKey) (kept : Kept) → AtClose (map (λ c. c.0) (closes_of w kept))
+  at_close w kept =
+      (is_closing (λ phase number. signatures_of C (l number) phase)).closed kept.phase w.number
+      w.header kept.octets
+
+  pub take_lines : (at : ℕ) (w : MessageKey) (kept : Kept) (x : ℕ) →
+      lines_of R_of (event at w (Takes x)) (Some kept) ≡ reader_lines at w.number (due_of w kept x)
+  unfolding lines_of lines_for lines_of_event line octet
+  take_lines at w kept x = search (arith, turn_stands, in_turn)
+
+  closing_lines : (at : ℕ) (w : MessageKey) (kept : Kept) →
+      lines_of R_of (event at w Closes) (Some kept) ≡ close_lines at w.number (closes_of w kept)
   unfolding lines_of lines_for lines_of_event line
-  take_lines at w xs x = search (arith, one_octet, turn_stands, in_turn)
-
-  closing_lines : (at : ℕ) (w : MessageKey) (xs : List ℕ) →
-      lines_of R_of (event at w Closes) (Some xs)
-      ≡ close_lines at w.number (R_of.closes unbroken w.number w.header xs)
-  unfolding lines_of lines_for lines_of_event line
-  closing_lines at w xs = search (arith, close_stands, at_close)
+  closing_lines at w kept = search (arith, close_stands, at_close)
 
   -- ---- An octet.
 
-  abbrev pub Faulty : MessageKey → List ℕ → ℕ → Bool
-  Faulty w xs x = list_any (λ r. is_fault r.line_class) (due R_of unbroken w.number w.header xs x)
+  abbrev pub Faulty : MessageKey → Kept → ℕ → Bool
+  Faulty w kept x = list_any (λ r. is_fault r.line_class) (due_of w kept x)
 
-  pub take_text : (before : ℕ) (w : MessageKey) (xs : List ℕ) (x : ℕ) →
-      lines_text (lines_of R_of (event (suc before) w (Takes x)) (Some xs))
-      ≡ due_text (signatures_of C (l w.number) unbroken) w.number before w.header xs (x ∷ [])
-  take_text before w xs x = search (arith, take_lines, said_is, octet_text)
+  pub take_text : (before : ℕ) (w : MessageKey) (kept : Kept) (x : ℕ) →
+      lines_text (lines_of R_of (event (suc before) w (Takes x)) (Some kept))
+      ≡ due_text (signatures_of C (l w.number) kept.phase) w.number before w.header kept.octets
+      (x ∷ [])
+  take_text before w kept x = search (arith, take_lines, said_is, octet_text)
 
-  pub then_by : (at : ℕ) (w : MessageKey) (xs : List ℕ) (x : ℕ) →
-      octets_then R_of (event at w (Takes x)) (Some xs)
-      ≡ (if Faulty w xs x then None else Some (xs ++ x ∷ []))
-  unfolding octets_then octet
-  then_by at w xs x = search (arith, take_lines, turn_last, in_turn)
+  pub then_by : (at : ℕ) (w : MessageKey) (kept : Kept) (x : ℕ) →
+      known_then R_of (event at w (Takes x)) (Some kept)
+      ≡ (if Faulty w kept x then None else Some (kept_then (Takes x) kept))
+  unfolding known_then
+  then_by at w kept x = search (arith, take_lines, turn_last, in_turn)
 
-  pub faults_by : (at : ℕ) (w : MessageKey) (xs : List ℕ) (x : ℕ) →
-      fault_count (lines_of R_of (event at w (Takes x)) (Some xs))
-      ≡ (if Faulty w xs x then 1 else 0)
-  faults_by at w xs x = search (arith, take_lines, turn_faults, in_turn)
+  pub faults_by : (at : ℕ) (w : MessageKey) (kept : Kept) (x : ℕ) →
+      fault_count (lines_of R_of (event at w (Takes x)) (Some kept))
+      ≡ (if Faulty w kept x then 1 else 0)
+  faults_by at w kept x = search (arith, take_lines, turn_faults, in_turn)
 
   -- ---- A close.
 
-  close_text : (P : List ℕ → Type 0) (w : MessageKey) (at : ℕ) (xs : List ℕ) →
+  close_text : (P : List ℕ → Type 0) (w : MessageKey) (at : ℕ) (kept : Kept) →
       P (closing_text w.number at (close (stage_of
-      (message (signatures_of C (l w.number) unbroken) w.header xs))))
-      → P (lines_text (lines_of R_of (event at w Closes) (Some xs)))
-  close_text P w at xs p = search (arith, closing_lines, closed_is, close_is)
+      (message (signatures_of C (l w.number) kept.phase) w.header kept.octets))))
+      → P (lines_text (lines_of R_of (event at w Closes) (Some kept)))
+  close_text P w at kept p = search (arith, closing_lines, closed_is, close_is)
 
-  close_by : (at : ℕ) (w : MessageKey) (xs : List ℕ) →
-      fault_count (lines_of R_of (event at w Closes) (Some xs))
-      ≡ one_if (is_short (close (stage_of (message (signatures_of C (l w.number) unbroken) w.header
-      xs))))
-  close_by at w xs = search (arith, closing_lines, close_short, close_faults, at_close)
+  close_by : (at : ℕ) (w : MessageKey) (kept : Kept) →
+      fault_count (lines_of R_of (event at w Closes) (Some kept))
+      ≡ one_if (is_short (close (stage_of
+      (message (signatures_of C (l w.number) kept.phase) w.header kept.octets))))
+  close_by at w kept = search (arith, closing_lines, close_short, close_faults, at_close)
 
-  pub close_writes : {E : Type 0} (m : Message) (w : MessageKey) (o : Option (List ℕ)) (at : ℕ)
+  pub close_writes : {E : Type 0} (m : Message) (w : MessageKey) (o : Option Kept) (at : ℕ)
       (r : Result Bool E) (a b : OutLog) → RepresentsMessage C l (Some m) w o
       → ((phase : Phase) (number : ℕ) (header s : List ℕ) → Follows C l phase number header m s →
       Writes r a b (closing_text number at
       (close (stage_of (message (signatures_of C (l number) phase) header s)))))
-      → IfOk r (λ short. (kept : Answers) (phase : Phase) (number : ℕ) (header s : List ℕ) →
-      Follows C kept phase number header m s → short
-      ≡ is_short (close (stage_of (message (signatures_of C (kept number) phase) header s))))
+      → IfOk r (λ short. (answers : Answers) (phase : Phase) (number : ℕ) (header s : List ℕ) →
+      Follows C answers phase number header m s → short
+      ≡ is_short (close (stage_of (message (signatures_of C (answers number) phase) header s))))
       → WritesLines one_if r a b (lines_of R_of (event at w Closes) o)
   close_writes m w None at r a b k text short = absurd k
-  close_writes m w (Some xs) at (Err e) a b k text short =
-      record {
-        text = close_text (WroteFront a b) w at xs (text unbroken w.number w.header xs k);
-        faults =
-            tt;
-        kept = tt;
-      }
-  close_writes m w (Some xs) at (Ok answer) a b k text short = record {
-    text = close_text (Wrote a b) w at xs (text unbroken w.number w.header xs k);
-    faults = close_by at w xs ∙ ap one_if (sym (short l unbroken w.number w.header xs k));
+  close_writes m w (Some kept) at (Err e) a b k text short = record {
+    text = close_text (WroteFront a b) w at kept
+        (text kept.phase w.number w.header kept.octets k);
+    faults = tt;
+    kept = tt;
+  }
+  close_writes m w (Some kept) at (Ok answer) a b k text short = record {
+    text = close_text (Wrote a b) w at kept (text kept.phase w.number w.header kept.octets k);
+    faults = close_by at w kept
+        ∙ ap one_if (sym (short l kept.phase w.number w.header kept.octets k));
     kept = tt;
   }
 
+  -- ---- A seam.
+
+  pub seam_keeps : (m n : Message) (w : MessageKey) (o : Option Kept) (at : ℕ) →
+      RepresentsMessage C l (Some m) w o
+      → ((phase : Phase) (number : ℕ) (header s : List ℕ) → Follows C l phase number header m s →
+      Follows C l (seamed phase (12 + length s)) number header n s)
+      → RepresentsMessage C l (Some n) w (known_then R_of (event at w Seams) o)
+  seam_keeps m n w None at k f = absurd k
+  seam_keeps m n w (Some kept) at k f = rw (seamed_then R_of at w kept)
+      (f kept.phase w.number w.header kept.octets k)
+
+  pub seam_over : (w : MessageKey) (o : Option Kept) (at : ℕ) → RepresentsMessage C l None w o →
+      RepresentsMessage C l None w (known_then R_of (event at w Seams) o)
+  seam_over w None at k = rw (over_then R_of (event at w Seams)) tt
+  seam_over w (Some kept) at k = absurd k
+
   -- ---- A framing fault, a cancel, and events of a message that is over.
 
-  pub no_lines : (w : MessageKey) (o : Option (List ℕ)) (e : Event) →
+  pub no_lines : (w : MessageKey) (o : Option Kept) (e : Event) →
       RepresentsMessage C l None w o → lines_of R_of e o ≡ []
   no_lines w None e k = over_lines R_of e
-  no_lines w (Some xs) e k = absurd k
+  no_lines w (Some kept) e k = absurd k
 
-  pub over_part : (w : MessageKey) (o : Option (List ℕ)) (e : Event) →
+  pub over_part : (w : MessageKey) (o : Option Kept) (e : Event) →
       RepresentsMessage C l None w o → part_of R_of e o ≡ no_part None
   unfolding part_of
   over_part w None e k = search (arith, over_then, over_lines)
-  over_part w (Some xs) e k = absurd k
+  over_part w (Some kept) e k = absurd k
 
-  pub faulted_part : (message : Option Message) (w : MessageKey) (o : Option (List ℕ)) (at : ℕ)
+  pub faulted_part : (message : Option Message) (w : MessageKey) (o : Option Kept) (at : ℕ)
       (fault : FramingFault) → is_some message ≡ true → RepresentsMessage C l message w o
       → part_of R_of (event at w (Faults fault)) o ≡
       record {
-        octets = None;
+        kept = None;
         lines = record {
           place = at;
           number = w.number;
@@ -286,15 +317,15 @@ module _ (C : Table) (l : Answers) where
         } ∷ [];
       }
   unfolding part_of
-  faulted_part (Some m) w (Some xs) at fault h k = search (arith, faulted_then, faulted_lines)
+  faulted_part (Some m) w (Some kept) at fault h k = search (arith, faulted_then, faulted_lines)
   faulted_part (Some m) w None at fault h k = absurd k
   faulted_part None w o at fault h k = absurd cc
 
-  pub cancel_says : (message : Option Message) (w : MessageKey) (o : Option (List ℕ)) (at j : ℕ) →
+  pub cancel_says : (message : Option Message) (w : MessageKey) (o : Option Kept) (at j : ℕ) →
       is_some message ≡ true → RepresentsMessage C l message w o
       → lines_of R_of (event at w (Cancelled j)) o ≡
       record { place = at; number = w.number; content = CancelledBy j } ∷ []
-  cancel_says (Some m) w (Some xs) at j h k = cancelled_lines R_of at w j xs
+  cancel_says (Some m) w (Some kept) at j h k = cancelled_lines R_of at w j kept
   cancel_says (Some m) w None at j h k = absurd k
   cancel_says None w o at j h k = absurd cc
 

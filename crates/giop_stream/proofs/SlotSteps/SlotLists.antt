@@ -4,24 +4,24 @@ use Rattle.std.proofs.Common.{◌≡◌, ℕ, zero, suc, ◌<◌, ◌≤◌, Lis
 use Rattle.std.specs.Prelude.{slice_get, slice_set, option_map}
 use Rattle.std.specs.List.{remove, AllByRecursion as Each}
 use Rattle.giop_message.specs.declared.message.Message.{Message}
-use Rattle.giop_entry_table.specs.EntryTable.{revalued}
+use Rattle.giop_entry_table.specs.OptionalIds.{revalued}
 use Rattle.giop_stream.specs.declared.slots.Slot.{Slot as Contents}
 use Rattle.giop_stream.specs.declared.slots.Slots.{Slots}
 use Rattle.giop_sig.specs.Table.{Table}
 use Rattle.giop_message.specs.Signatures.{Answers}
 use Rattle.giop_stream.specs.Events.{Open}
-use Rattle.giop_stream.specs.OpenSlots.{Slot, OctetsByNumber, slots_of, Tracked}
+use Rattle.giop_stream.specs.OpenSlots.{Slot, KeptByNumber, slots_of, Tracked}
 use Rattle.giop_stream.specs.SlotsRepresent.{OpenEntry, with_message, IsReady, KeepsRoom, IsSlot, AreSlots}
 
 pub slots_get : (c : Tracked) (k : ℕ) (o : Open) → slice_get c.still_open k ≡ Some o
     → slice_get (slots_of c.known c.still_open) k
-    ≡ Some (record { open_as = o; octets = c.known o.opener.number })
+    ≡ Some (record { open_as = o; kept = c.known o.opener.number })
 unfolding slots_of
 slots_get c k o e = go c.still_open k e
   where
     go : (still_open : List Open) (k : ℕ) → slice_get still_open k ≡ Some o
         → slice_get (slots_of c.known still_open) k
-        ≡ Some (record { open_as = o; octets = c.known o.opener.number })
+        ≡ Some (record { open_as = o; kept = c.known o.opener.number })
     go [] k e = absurd cc
     go (a ∷ still_open) zero e = search (arith)
     go (a ∷ still_open) (suc k) e = go still_open k e
@@ -31,7 +31,7 @@ pub get_last : (still_open : List Open) (o : Open) →
 get_last [] o = refl
 get_last (a ∷ still_open) o = get_last still_open o
 
-pub slots_many : (K : OctetsByNumber) (still_open : List Open) →
+pub slots_many : (K : KeptByNumber) (still_open : List Open) →
     length (slots_of K still_open) ≡ length still_open
 unfolding slots_of
 slots_many K [] = refl
@@ -67,6 +67,12 @@ pub none_behind : (ks : List OpenEntry) (k : ℕ) →
 none_behind [] k e l = omega (arith, l)
 none_behind (y ∷ ks) zero e l = search (arith)
 none_behind (y ∷ ks) (suc k) e l = none_behind ks k e (omega (arith, l))
+
+pub some_within : (ks : List OpenEntry) (k : ℕ) (v : Contents) →
+    Some v ≡ option_map (λ e. e.value) (slice_get ks k) → k < length ks
+some_within [] k v e = absurd cc
+some_within (y ∷ ks) zero v e = omega arith
+some_within (y ∷ ks) (suc k) v e = search (arith, some_within ks k v e)
 
 -- the entry after its message was replaced
 pub revalued_set : (ks : List OpenEntry) (k : ℕ) (x : OpenEntry) (message : Option Message) →

@@ -14,6 +14,7 @@ use Rattle.giop_stream.specs.declared.slots.PayloadOwner.{PayloadOwner}
 use Rattle.giop_stream.specs.declared.slots.PayloadOwner.TheVariants as owners
 use Rattle.giop_stream.proofs.SlotSteps.SlotLists.{value_at}
 use Rattle.giop_stream.specs.Events.{MessageKey, Open}
+use Rattle.giop_stream.specs.Lines.{Kept}
 use Rattle.giop_stream.specs.Text.{truncated_line}
 use Rattle.giop_stream.specs.Stream.{with_truncated}
 use Rattle.giop_stream.specs.OpenSlots.{Slot, is_open, Tracked, slots_at, IsNotOpen, left_by, left_open}
@@ -63,14 +64,14 @@ current_text None = []
 current_text (Some m) = if is_any_fragment m.header then [] else unfinished_line m.number
 
 module _ (C : Table) (l : Answers) where
-  line_kept : (n : ℕ) (own : Option CodeMessage) (w : MessageKey) (o : Option (List ℕ)) →
+  line_kept : (n : ℕ) (own : Option CodeMessage) (w : MessageKey) (o : Option Kept) →
       n ≡ w.number → RepresentsMessage C l own w o
       → flat_map unfinished_line (left_by w.number o)
       ≡ (if is_some own then unfinished_line n else [])
   line_kept n None w None e k = refl
-  line_kept n None w (Some xs) e k = absurd k
+  line_kept n None w (Some kept) e k = absurd k
   line_kept n (Some m) w None e k = absurd k
-  line_kept n (Some m) w (Some xs) e k = search (arith, append-nil)
+  line_kept n (Some m) w (Some kept) e k = search (arith, append-nil)
 
   slot_left : (kept : OpenEntry) (slot : Slot) → IsSlot C l kept slot →
       flat_map unfinished_line (left_open slot) ≡ slot_text kept
@@ -94,15 +95,15 @@ module _ (C : Table) (l : Answers) where
 
   -- ---- The line of the current message.
 
-  kept_left : (message : Option CodeMessage) (w : MessageKey) (o : Option (List ℕ)) →
+  kept_left : (message : Option CodeMessage) (w : MessageKey) (o : Option Kept) →
       RepresentsMessage C l message w o
       → flat_map unfinished_line (if is_any_fragment w.header then [] else left_by w.number o)
       ≡ current_text message
   unfolding current_text
   kept_left None w None k = search (arith, flat_map)
-  kept_left None w (Some xs) k = absurd k
+  kept_left None w (Some kept) k = absurd k
   kept_left (Some m) w None k = absurd k
-  kept_left (Some m) w (Some xs) k = search (arith, flat_map, append-nil)
+  kept_left (Some m) w (Some kept) k = search (arith, flat_map, append-nil)
 
   pub current_left : (of : PayloadOwner) (c : Tracked) (who : Option MessageKey) →
       PayloadBelongs C l (index_of of) (current_of of) c who

@@ -3,14 +3,13 @@ use Rattle.std.proofs.Common.{arith, inl, inr, ◌≡◌, ℕ, Bool, true, false
 use Rattle.std.specs.Prelude.{◌==◌, if◌then◌else◌, ◌||◌, flat_map}
 use Rattle.std.specs.List.{filter, list_any, AllByRecursion as Each}
 use Rattle.std.proofs.lemmas.Bool.{or_cases, or_right, or_left, and_parts, eq-eqb, eqb-true}
-use Rattle.giop_message.specs.Phases.{unbroken}
 use Rattle.giop_message.specs.MessageReader.{LineClass, MessageReader, IsEnding, is_last}
 use Rattle.giop_stream.specs.Rules.{Rules}
-use Rattle.giop_stream.specs.Events.{EventKind, Cancelled, Faults, Closes, Event, events, joined}
-use Rattle.giop_stream.specs.Lines.{Class, Start, rank, Said, class_of, StreamLine, line, lines_of_event, classes, by_class, is_last_of, up_to_last_line, lines_of_messages}
+use Rattle.giop_stream.specs.Events.{EventKind, Cancelled, Faults, Closes, Event, events}
+use Rattle.giop_stream.specs.Lines.{Class, Start, rank, Said, class_of, StreamLine, line, Kept, kept_of, lines_of_event, classes, by_class, is_last_of, up_to_last_line, lines_of_messages}
 use Rattle.giop_stream.specs.Stream.{is_over}
-use Rattle.giop_stream.specs.OpenSlots.{OctetsByNumber, octets_of}
-use Rattle.giop_stream.specs.Effects.{kept_with, lines_for}
+use Rattle.giop_stream.specs.OpenSlots.{KeptByNumber, known_of}
+use Rattle.giop_stream.specs.Effects.{kept_then, kept_with, lines_for}
 use Rattle.giop_stream.proofs.StreamLines.EventsTogether.{all_lines, sorted_lines}
 use Rattle.giop_stream.proofs.Lists.{each_weaker, any_append}
 
@@ -79,7 +78,7 @@ ranked t [] h = absurd cc
 ranked t (l ∷ ls) h = elim (or_cases (t l) (list_any t ls) h)
     [ inl a ↦ ranked_here t l ls a | inr b ↦ ranked_more t l ls (ranked t ls b) ]
 
-any_by_class : (t : StreamLine → Bool) (ls : List StreamLine) → list_any t ls ≡ true →
+pub any_by_class : (t : StreamLine → Bool) (ls : List StreamLine) → list_any t ls ≡ true →
     list_any t (by_class ls) ≡ true
 unfolding by_class of_rank
 any_by_class t ls h = let r = ranked t ls h in
@@ -100,12 +99,32 @@ stand_by i f l ls true false free e k h ih = ih f free h
 stand_by i f l ls false true free e k h ih = rw k refl
 stand_by i f l ls false false free e k h ih = search (arith, or_right)
 
-last_stands : (i : ℕ) (f : ℕ → Bool) (ls : List StreamLine) → f i ≡ false →
+pub last_stands : (i : ℕ) (f : ℕ → Bool) (ls : List StreamLine) → f i ≡ false →
     list_any (is_last_of i) ls ≡ true → list_any (is_last_of i) (up_to_last_line f ls) ≡ true
 unfolding up_to_last_line
 last_stands i f [] free h = absurd cc
 last_stands i f (l ∷ ls) free h = stand_by i f l ls (f l.number) (is_last_of i l) free refl refl h
     (λ g k j. last_stands i g ls k j)
+
+-- If no line is the last one of a message, none is among those that are written.
+none_by : (i : ℕ) (l : StreamLine) (ls : List StreamLine) (f : ℕ → Bool) (a b c : Bool) →
+    is_last_of i l ≡ a
+    → list_any (is_last_of i) ls ≡ b → (a || b) ≡ false
+    → ((f : ℕ → Bool) → list_any (is_last_of i) ls ≡ false →
+    list_any (is_last_of i) (up_to_last_line f ls) ≡ false)
+    → list_any (is_last_of i) (if c then up_to_last_line f ls else l ∷ up_to_last_line
+    (λ j. f j || is_last_of j l) ls) ≡ false
+none_by i l ls f true b c e k j ih = absurd cc
+none_by i l ls f false true c e k j ih = absurd cc
+none_by i l ls f false false true e k j ih = ih f k
+none_by i l ls f false false false e k j ih = search (arith)
+
+pub none_stands : (i : ℕ) (ls : List StreamLine) (f : ℕ → Bool) →
+    list_any (is_last_of i) ls ≡ false → list_any (is_last_of i) (up_to_last_line f ls) ≡ false
+unfolding up_to_last_line
+none_stands i [] f h = refl
+none_stands i (l ∷ ls) f h = none_by i l ls f (is_last_of i l) (list_any (is_last_of i) ls)
+    (f l.number) refl refl h (λ g k. none_stands i ls g k)
 
 -- A framing fault, a cancel and a close each write the last line of a message, unless the message
 -- is over.
@@ -125,7 +144,7 @@ any_weaker {A} p q f (x ∷ xs) h =
           (any_weaker p q f xs b)
     ]
 
-any_map : {A B : Type 0} (t : B → Bool) (f : A → B) (xs : List A) →
+pub any_map : {A B : Type 0} (t : B → Bool) (f : A → B) (xs : List A) →
     list_any (λ x. t (f x)) xs ≡ list_any t (map f xs)
 any_map t f [] = refl
 any_map t f (x ∷ xs) = search (arith, any_map t f xs)
@@ -136,56 +155,62 @@ unfolding is_last_of line
 said_last e s text h = search (arith, eq-eqb)
 
 event_lines_final : (R : MessageReader) → IsEnding R →
-    (e : Event) (so_far all : List ℕ) (what : EventKind) → is_final what ≡ true
+    (e : Event) (so_far all : Kept) (what : EventKind) → is_final what ≡ true
     → list_any (is_last_of e.subject.number) (lines_of_event R e so_far all what) ≡ true
 unfolding lines_of_event is_final is_last_of line
 event_lines_final R ending e so_far all Closes h =
     rw (← any_map (is_last_of e.subject.number) (λ l. line e (Said l.0 l.1))
-    (R.closes unbroken e.subject.number e.subject.header so_far))
+    (R.closes so_far.phase e.subject.number e.subject.header so_far.octets))
     (any_weaker (λ l. is_last l.0) (λ l. is_last_of e.subject.number (line e (Said l.0 l.1)))
     (λ l. said_last e l.0 l.1)
-    (R.closes unbroken e.subject.number e.subject.header so_far)
-    (ending.ends unbroken e.subject.number e.subject.header so_far))
+    (R.closes so_far.phase e.subject.number e.subject.header so_far.octets)
+    (ending.ends so_far.phase e.subject.number e.subject.header so_far.octets))
 event_lines_final R ending e so_far all (Cancelled j) h = search (arith, eq-eqb)
 event_lines_final R ending e so_far all (Faults fault) h = search (arith, eq-eqb)
 event_lines_final R ending e so_far all _ h = absurd cc
 
-kept_final : (R : MessageReader) → IsEnding R → (e : Event) (o : Option (List ℕ)) (xs : List ℕ) →
-    o ≡ Some xs
+pub kept_final : (R : MessageReader) → IsEnding R → (e : Event) (o : Option Kept) (kept : Kept) →
+    o ≡ Some kept
     → is_final e.what ≡ true → list_any (is_last_of e.subject.number) (lines_for R e o) ≡ true
 unfolding lines_for
-kept_final R ending e None xs k h = absurd cc
-kept_final R ending e (Some ys) xs k h = search (arith, event_lines_final)
+kept_final R ending e None kept k h = absurd cc
+kept_final R ending e (Some held) kept k h = search (arith, event_lines_final)
 
-Ends : MessageReader → OctetsByNumber → List Event → Event → Type 0
-Ends R K es e = is_final e.what ≡ true → (xs : List ℕ) → K e.subject.number ≡ Some xs →
+Ends : MessageReader → KeptByNumber → List Event → Event → Type 0
+Ends R K es e = is_final e.what ≡ true → (kept : Kept) → K e.subject.number ≡ Some kept →
     list_any (is_last_of e.subject.number) (all_lines R K es) ≡ true
 
-with_some : (K : OctetsByNumber) (e : Event) (i : ℕ) (xs : List ℕ) → K i ≡ Some xs →
-    kept_with K (e ∷ []) i ≡ Some (xs ++ joined i (e ∷ []))
+with_some : (K : KeptByNumber) (e : Event) (i : ℕ) (kept : Kept) → K i ≡ Some kept →
+    kept_with K e i ≡ Some (if e.subject.number == i then kept_then e.what kept else kept)
 unfolding kept_with
-with_some K e i xs h = rw h refl
+with_some K e i kept h = rw h (go (e.subject.number == i))
+  where
+    go : (b : Bool) → (if b then Some (kept_then e.what kept) else Some kept)
+        ≡ Some (if b then kept_then e.what kept else kept)
+    go true = refl
+    go false = refl
 
-ends_first : (R : MessageReader) → IsEnding R → (K : OctetsByNumber) (e : Event) (es : List Event) →
+ends_first : (R : MessageReader) → IsEnding R → (K : KeptByNumber) (e : Event) (es : List Event) →
     Ends R K (e ∷ es) e
 unfolding Ends all_lines
-ends_first R ending K e es h xs k = search (arith, any_left, all_lines, kept_final)
+ends_first R ending K e es h kept k = search (arith, any_left, all_lines, kept_final)
 
-ends_more : (R : MessageReader) (K : OctetsByNumber) (e : Event) (es : List Event) (d : Event) →
-    Ends R (kept_with K (e ∷ [])) es d → Ends R K (e ∷ es) d
+ends_more : (R : MessageReader) (K : KeptByNumber) (e : Event) (es : List Event) (d : Event) →
+    Ends R (kept_with K e) es d → Ends R K (e ∷ es) d
 unfolding Ends all_lines
-ends_more R K e es d f h xs k =
+ends_more R K e es d f h kept k =
     any_right (is_last_of d.subject.number) (lines_for R e (K e.subject.number))
-    (all_lines R (kept_with K (e ∷ [])) es)
-    (f h (xs ++ joined d.subject.number (e ∷ [])) (with_some K e d.subject.number xs k))
+    (all_lines R (kept_with K e) es)
+    (f h (if e.subject.number == d.subject.number then kept_then e.what kept else kept)
+    (with_some K e d.subject.number kept k))
 
-all_end : (R : MessageReader) → IsEnding R → (K : OctetsByNumber) (es : List Event) →
+all_end : (R : MessageReader) → IsEnding R → (K : KeptByNumber) (es : List Event) →
     Each (Ends R K es) es
 all_end R ending K [] = tt
 all_end R ending K (e ∷ es) = (
   ends_first R ending K e es,
-  each_weaker (Ends R (kept_with K (e ∷ [])) es) (Ends R K (e ∷ es))
-      (λ d. ends_more R K e es d) es (all_end R ending (kept_with K (e ∷ [])) es),
+  each_weaker (Ends R (kept_with K e) es) (Ends R K (e ∷ es))
+      (λ d. ends_more R K e es d) es (all_end R ending (kept_with K e) es),
 )
 
 pub is_over_grows : (R : Rules) (p p' : List ℕ) (ls : List StreamLine) (i : ℕ) →
@@ -194,17 +219,17 @@ pub is_over_grows : (R : Rules) (p p' : List ℕ) (ls : List StreamLine) (i : �
 unfolding is_over
 is_over_grows R p p' ls i sd = search (arith, any_append)
 
-pub octets_known : (R : Rules) (p : List ℕ) (i : ℕ) → is_over R p i ≡ false →
-    octets_of R p i ≡ Some (joined i (events R.most p))
-unfolding octets_of
-octets_known R p i h = rw h refl
+pub known_is : (R : Rules) (p : List ℕ) (i : ℕ) → is_over R p i ≡ false →
+    known_of R p i ≡ Some (kept_of i (events R p))
+unfolding known_of
+known_is R p i h = rw h refl
 
 unfoldable pub Dead : (ℕ → Bool) → Event → Type 0
 Dead over e = is_final e.what ≡ true → over e.subject.number ≡ true
 
 dead_by : (R : Rules) (p p' : List ℕ) (es : List Event) →
-    lines_of_messages R p' ≡ lines_of_messages R p ++ sorted_lines R.reading (octets_of R p) es
-    → (e : Event) → Ends R.reading (octets_of R p) es e → Dead (is_over R p') e
+    lines_of_messages R p' ≡ lines_of_messages R p ++ sorted_lines R.reading (known_of R p) es
+    → (e : Event) → Ends R.reading (known_of R p) es e → Dead (is_over R p') e
 unfolding Ends Dead sorted_lines
 dead_by R p p' es sd e ends h = go (is_over R p i) refl
   where
@@ -214,13 +239,13 @@ dead_by R p p' es sd e ends h = go (is_over R p i) refl
     go : (b : Bool) → is_over R p i ≡ b → is_over R p' i ≡ true
     go true k = is_over_grows R p p' _ i sd ∙ or_left (is_over R p i) _ k
     go false k =
-        let uttered = ends h (joined i (events R.most p)) (octets_known R p i k) in
+        let uttered = ends h (kept_of i (events R p)) (known_is R p i k) in
         is_over_grows R p p' _ i sd ∙ or_right (is_over R p i) _
-        (last_stands i (λ j. false) (by_class (all_lines R.reading (octets_of R p) es)) refl
-        (any_by_class (is_last_of i) (all_lines R.reading (octets_of R p) es) uttered))
+        (last_stands i (λ j. false) (by_class (all_lines R.reading (known_of R p) es)) refl
+        (any_by_class (is_last_of i) (all_lines R.reading (known_of R p) es) uttered))
 
 pub dead : (R : Rules) → IsEnding R.reading → (p p' : List ℕ) (es : List Event)
-    → lines_of_messages R p' ≡ lines_of_messages R p ++ sorted_lines R.reading (octets_of R p) es →
+    → lines_of_messages R p' ≡ lines_of_messages R p ++ sorted_lines R.reading (known_of R p) es →
     Each (Dead (is_over R p')) es
-dead R ending p p' es sd = each_weaker (Ends R.reading (octets_of R p) es) (Dead (is_over R p'))
-    (dead_by R p p' es sd) es (all_end R.reading ending (octets_of R p) es)
+dead R ending p p' es sd = each_weaker (Ends R.reading (known_of R p) es) (Dead (is_over R p'))
+    (dead_by R p p' es sd) es (all_end R.reading ending (known_of R p) es)

@@ -5,16 +5,16 @@ use Rattle.std.specs.Prelude.{nat_lt, ◌==◌, if◌then◌else◌, ◌||◌, o
 use Rattle.std.specs.List.{AllByRecursion as Each}
 use Rattle.std.proofs.lemmas.Bool.{cases_lt, cases_eq, le-ltb, lt-ltb, eq-eqb, ne_eqb, and_parts, and_right}
 use Rattle.std.proofs.lemmas.List.{append-nil, length_push}
-use Rattle.giop_message.specs.Phases.{unbroken}
 use Rattle.giop_message.specs.Headers.{size, is_fragment, is_opener, has_name}
-use Rattle.giop_stream.specs.Kinds.{is_old, is_any_fragment, is_short, has_place, named_at}
+use Rattle.giop_stream.specs.Kinds.{is_old, is_any_fragment, is_short, named_at}
+use Rattle.giop_stream.specs.PayloadOwner.{has_place}
 use Rattle.giop_stream.specs.Rules.{Rules}
 use Rattle.giop_stream.specs.Framing.{CutMessage}
 use Rattle.giop_message.specs.MessageReader.{LineClass, Value, Fault, MessageReader, due, IsStreamable}
-use Rattle.giop_stream.specs.Effects.{IsBegun, lines_for, kept_with}
-use Rattle.giop_stream.specs.Events.{EventKind, Begins, Takes, Closes, MessageKey, Event, Open, own, event_of_open, opener_of, goes_past, events_at_header, events_at_octet, events_at_name, events_at_end, events_of_octet, octet, joined, now_of, header_events, payload_events, naming_events, message_end_events, events_with_key, Now}
-use Rattle.giop_stream.specs.Lines.{StreamLine, Said, line, lines_of_event, is_last_of, up_to_last_line}
-use Rattle.giop_stream.specs.OpenSlots.{OctetsByNumber}
+use Rattle.giop_stream.specs.Effects.{IsBegun, kept_then, lines_for, kept_with}
+use Rattle.giop_stream.specs.Events.{EventKind, Begins, Takes, Closes, MessageKey, Event, Before, Open, own, event_of_open, opener_of, goes_past, events_at_header, events_at_octet, events_at_name, events_at_end, events_of_octet, octet, now_of, header_events, payload_events, naming_events, message_end_events, events_with_key, Now}
+use Rattle.giop_stream.specs.Lines.{StreamLine, Said, line, Kept, lines_of_event, is_last_of, up_to_last_line}
+use Rattle.giop_stream.specs.OpenSlots.{KeptByNumber}
 use Rattle.giop_stream.proofs.StreamLines.EventsTogether.{all_lines}
 use Rattle.giop_stream.proofs.Lists.{each_filter}
 use Rattle.giop_stream.proofs.StreamLines.Ordering.{rank_of, Rises, Fine, fine_of}
@@ -24,10 +24,6 @@ use Rattle.giop_stream.proofs.Events.MessageKinds.{unplaced, unnamed, placed_nam
 use Rattle.giop_stream.proofs.StreamLines.InClasses.{event_lines_begins, event_lines_takes, Always, join_spans, always_join, always_none, always_if, always_one, always_own, always_header, ends_short, always_close, always_end, always_later}
 
 -- ---- An octet, and the close after it.
-
-one_octet : (e : Event) (x : ℕ) → e.what ≡ Takes x → joined e.subject.number (e ∷ []) ≡ x ∷ []
-unfolding joined octet
-one_octet e x h = search (arith, eq-eqb)
 
 -- If one message has two faults, the second is not written.
 two_faults : (d e : Event) (t u : List ℕ) → d.subject.number ≡ e.subject.number →
@@ -84,38 +80,39 @@ abbrev event : ℕ → MessageKey → EventKind → Event
 event at subject what = record { place = at; subject = subject; what = what }
 
 module _ (R : MessageReader) (laws : IsStreamable R) where
-  pair_by : (at : ℕ) (subject : MessageKey) (x : ℕ) (o : Option (List ℕ))
-      → (let take = event at subject (Takes x) in let more =
-      option_map (λ xs. xs ++ joined subject.number (take ∷ [])) o in
-      Fine (lines_for R take o ++ lines_for R (event at subject Closes) more))
-  unfolding lines_for lines_of_event
+  pair_by : (at : ℕ) (subject : MessageKey) (x : ℕ) (o : Option Kept)
+      → Fine (lines_for R (event at subject (Takes x)) o
+      ++ lines_for R (event at subject Closes) (option_map (kept_then (Takes x)) o))
+  unfolding lines_for lines_of_event octet
   pair_by at subject x None = fine_none
-  pair_by at subject x (Some xs) =
+  pair_by at subject x (Some kept) =
+      let xs = kept.octets in
+      let phase = kept.phase in
       let all = xs ++ x ∷ [] in
       let number = subject.number in
       let header = subject.header in
-      rw (one_octet (event at subject (Takes x)) x refl)
-      (pair_fine (event at subject (Takes x)) (event at subject Closes) (λ r. r.line_class)
+      pair_fine (event at subject (Takes x)) (event at subject Closes) (λ r. r.line_class)
       (λ r. r.text) (λ l. l.0) (λ l. l.1)
-      (due R unbroken number header xs x) (R.closes unbroken number header all) refl
-      (both_say _ _ (laws.ordered.ordered unbroken number header all (suc (length xs)))
-      (laws.closing.closed unbroken number header all)
-      (laws.closing.over unbroken number header xs x)
-      (laws.closing.one_rest unbroken number header xs x)))
+      (due R phase number header xs x) (R.closes phase number header all) refl
+      (both_say _ _ (laws.ordered.ordered phase number header all (suc (length xs)))
+      (laws.closing.closed phase number header all)
+      (laws.closing.over phase number header xs x)
+      (laws.closing.one_rest phase number header xs x))
 
-  pair_fine_at : (K : OctetsByNumber) (at : ℕ) (subject : MessageKey) (x : ℕ) →
+  pair_fine_at : (K : KeptByNumber) (at : ℕ) (subject : MessageKey) (x : ℕ) →
       Fine (all_lines R K (event at subject (Takes x) ∷ event at subject Closes ∷ []))
   unfolding all_lines kept_with
-  pair_fine_at K at subject x = search (arith, append-nil, pair_by)
+  pair_fine_at K at subject x =
+      rw (eq-eqb subject.number subject.number refl) (search (arith, append-nil, pair_by))
 
-  takes_alone : (K : OctetsByNumber) (at : ℕ) (subject : MessageKey) (x : ℕ) →
+  takes_alone : (K : KeptByNumber) (at : ℕ) (subject : MessageKey) (x : ℕ) →
       Fine (all_lines R K (event at subject (Takes x) ∷ []))
   unfolding Always
   takes_alone K at subject x = fine_of _ (always_one R 1 7 (event at subject (Takes x))
       (event_lines_takes R laws.ordered x) K).rises
 
   -- an octet of a message, and perhaps the close of the message
-  takes_then : (K : OctetsByNumber) (now : Now) (x : ℕ) (b : Bool) (es : List Event) → (es ≡ [])
+  takes_then : (K : KeptByNumber) (now : Now) (x : ℕ) (b : Bool) (es : List Event) → (es ≡ [])
       ⊎ (es ≡ own now Closes)
       → Fine (all_lines R K (own now (Takes x) ++ (if b then es else [])))
   unfolding own
@@ -123,7 +120,7 @@ module _ (R : MessageReader) (laws : IsStreamable R) where
   takes_then K now x true es (inl h) = search (arith, takes_alone)
   takes_then K now x true es (inr h) = search (arith, pair_fine_at)
 
-  passes_then : (K : OctetsByNumber) (now : Now) (o : Option Open) (x : ℕ) (b : Bool)
+  passes_then : (K : KeptByNumber) (now : Now) (o : Option Open) (x : ℕ) (b : Bool)
       (es : List Event)
       → (es ≡ []) ⊎ (es ≡ event_of_open now o Closes) →
       Fine (all_lines R K (event_of_open now o (Takes x) ++ (if b then es else [])))
@@ -136,60 +133,64 @@ module _ (R : MessageReader) (laws : IsStreamable R) where
   passes_then K now (Some o) x true es (inr h) = search (arith, pair_fine_at)
 
   -- the first octets of a message that begins with its request id
-  named_takes : (at : ℕ) (subject : MessageKey) (x : ℕ) (o : Option (List ℕ)) →
+  named_takes : (at : ℕ) (subject : MessageKey) (x : ℕ) (o : Option Kept) →
       has_name subject.header ≡ true
-      → ((xs : List ℕ) → o ≡ Some xs → length xs < 4) →
+      → ((kept : Kept) → o ≡ Some kept → (length kept.octets < 4) × (kept.phase 12 ≡ 12)) →
       Spans 1 1 (lines_for R (event at subject (Takes x)) o)
-  unfolding lines_for lines_of_event
+  unfolding lines_for lines_of_event octet
   named_takes at subject x None k few = spans_none 1 1
-  named_takes at subject x (Some xs) k few =
-      let short = few xs refl in
+  named_takes at subject x (Some kept) k few =
+      let is = few kept refl in
+      let short = is.0 in
+      let twelve = is.1 in
+      let xs = kept.octets in
+      let phase = kept.phase in
       let all = xs ++ x ∷ [] in
       let number = subject.number in
       let header = subject.header in
-      rw (one_octet (event at subject (Takes x)) x refl)
-      (class_spans 1 1 (event at subject (Takes x)) (λ r. r.line_class) (λ r. r.text)
-      (due R unbroken number header xs x)
-      (value_spans (λ r. r.line_class) (due R unbroken number header xs x)
-      (laws.ordered.ordered unbroken number header all (suc (length xs)))
+      class_spans 1 1 (event at subject (Takes x)) (λ r. r.line_class) (λ r. r.text)
+      (due R phase number header xs x)
+      (value_spans (λ r. r.line_class) (due R phase number header xs x)
+      (laws.ordered.ordered phase number header all (suc (length xs)))
       (each_filter (λ r. r.line_class ≡ Value) (λ r. r.at == suc (length xs))
-      (R.reads unbroken number header all)
-      (laws.named.named unbroken number header all refl k (omega (arith, length_push xs x))))))
+      (R.reads phase number header all)
+      (laws.named.named phase number header all (rw twelve refl) k
+      (omega (arith, short, length_push xs x)))))
 
 -- ---- All events of an octet.
 
-at_end_owner : (still_open : List Open) (m : CutMessage) → ends_short m ≡ false →
+at_end_owner : (b : Before) (m : CutMessage) → ends_short m ≡ false →
     is_any_fragment m.header ≡ false
-    → (events_at_end still_open m ≡ []) ⊎ (events_at_end still_open m ≡ own (now_of m) Closes)
+    → (events_at_end b m ≡ []) ⊎ (events_at_end b m ≡ own (now_of m) Closes)
 unfolding message_end_events
-at_end_owner still_open m short f = search (arith)
+at_end_owner b m short f = search (arith)
 
-at_end_past : (still_open : List Open) (m : CutMessage) → ends_short m ≡ false →
+at_end_past : (b : Before) (m : CutMessage) → ends_short m ≡ false →
     is_any_fragment m.header ≡ true
-    → (events_at_end still_open m ≡ []) ⊎ (events_at_end still_open m
-    ≡ event_of_open (now_of m) (opener_of still_open m) Closes)
+    → (events_at_end b m ≡ []) ⊎ (events_at_end b m
+    ≡ event_of_open (now_of m) (opener_of b m) Closes)
 unfolding message_end_events
-at_end_past still_open m short f = search (arith)
+at_end_past b m short f = search (arith)
 
 pub not_past : (m : CutMessage) → length m.payload ≤ named_at m.header → goes_past m ≡ false
 unfolding goes_past
 not_past m h = search (arith, and_right, le-ltb)
 
-no_name : (most : ℕ) (still_open : List Open) (m : CutMessage) → has_place m.header ≡ false →
-    events_at_name most still_open m ≡ []
+no_name : (most : ℕ) (b : Before) (m : CutMessage) → has_place m.header ≡ false →
+    events_at_name most b m ≡ []
 unfolding naming_events
-no_name most still_open m h = search (arith, unplaced)
+no_name most b m h = search (arith, unplaced)
 
 -- a message that doesn't begin with its request id has no place after the octets of its header
-unnamed_past : (most : ℕ) (still_open : List Open) (m : CutMessage) → 0 < length m.payload →
+unnamed_past : (most : ℕ) (b : Before) (m : CutMessage) → 0 < length m.payload →
     has_name m.header ≡ false
-    → (if length m.payload == named_at m.header then events_at_name most still_open m else []) ≡ []
-unnamed_past most still_open m some h = go (is_old m.header) (has_place m.header) refl refl
+    → (if length m.payload == named_at m.header then events_at_name most b m else []) ≡ []
+unnamed_past most b m some h = go (is_old m.header) (has_place m.header) refl refl
   where
-    go : (a b : Bool) → is_old m.header ≡ a → has_place m.header ≡ b
-        → (if length m.payload == named_at m.header then events_at_name most still_open m else [])
+    go : (c d : Bool) → is_old m.header ≡ c → has_place m.header ≡ d
+        → (if length m.payload == named_at m.header then events_at_name most b m else [])
         ≡ []
-    go true b old e = search (arith, named_old, ne_eqb)
+    go true d old e = search (arith, named_old, ne_eqb)
     go false true old e = absurd (let no = placed_named m.header e old in cc)
     go false false old e = search (arith, no_name)
 
@@ -224,22 +225,25 @@ unfolding header_events own
 old_begins R m old =
     rw (old_accepted m.header old) (always_own R 0 0 (now_of m) Begins (event_lines_begins R))
 
-module _ (R : Rules) (laws : IsStreamable R.reading) (K : OctetsByNumber) (still_open : List Open)
+module _ (R : Rules) (laws : IsStreamable R.reading) (K : KeptByNumber) (b : Before)
     (m : CutMessage) where
   abbrev x : ℕ
   x = (now_of m).octet
 
   -- the events at the message's end, if this is its last octet
   abbrev close : List Event
-  close = if length m.payload == size m.header then events_at_end still_open m else []
+  close = if length m.payload == size m.header then events_at_end b m else []
 
   abbrev IsFine : Type 0
-  IsFine = Fine (all_lines R.reading K (events_of_octet R.most still_open m))
+  IsFine = Fine (all_lines R.reading K (events_of_octet R.most b m))
 
   own_named : has_name m.header ≡ true → 0 < length m.payload → length m.payload ≤ 4 → IsBegun K m
       → Spans 1 1 (all_lines R.reading K (own (now_of m) (Takes x)))
   unfolding own all_lines
-  own_named k some short begun = search (arith, append-nil, named_takes)
+  own_named k some short begun =
+      rw append-nil (named_takes R.reading laws (now_of m).place (now_of m).subject x (K m.number) k
+      (λ kept is. let few = begun some short kept is in
+      (omega (arith, short, few.0), few.1)))
 
   -- an octet of a message that does not begin with its request id, or one after the request id
   plain_octet : 0 < length m.payload → (has_name m.header ≡ false) ⊎ (4 < length m.payload) →
@@ -249,30 +253,30 @@ module _ (R : Rules) (laws : IsStreamable R.reading) (K : OctetsByNumber) (still
       rw (events_of_octet, events_with_key, ne_eqb (length m.payload) 0 (λ e. omega arith), second)
       (go (is_any_fragment m.header) refl)
     where
-      second : (if length m.payload == named_at m.header then events_at_name R.most still_open m
+      second : (if length m.payload == named_at m.header then events_at_name R.most b m
           else []) ≡ []
       second = elim h [
-        | inl k ↦ unnamed_past R.most still_open m some k
+        | inl k ↦ unnamed_past R.most b m some k
         | inr k ↦ search (arith, named_within, ne_eqb)
       ]
 
       long : ends_short m ≡ false
       long = search (arith, not_short)
 
-      go : (b : Bool) → is_any_fragment m.header ≡ b →
-          Fine (all_lines R.reading K (events_at_octet still_open m ++ close))
+      go : (is : Bool) → is_any_fragment m.header ≡ is →
+          Fine (all_lines R.reading K (events_at_octet b m ++ close))
       go false f = unfold payload_events goes_past in
           rw (f) (takes_then R.reading laws K (now_of m) x (length m.payload == size m.header)
-          (events_at_end still_open m) (at_end_owner still_open m long f))
+          (events_at_end b m) (at_end_owner b m long f))
       go true f = unfold payload_events goes_past in
           let past : named_at m.header < length m.payload = elim h [
             | inl k ↦ omega (arith, named_old m.header (unnamed_old m.header k f))
             | inr k ↦ omega (arith, named_within m.header)
           ] in
           rw (f, lt-ltb (named_at m.header) (length m.payload) past)
-          (passes_then R.reading laws K (now_of m) (opener_of still_open m) x
-          (length m.payload == size m.header) (events_at_end still_open m)
-          (at_end_past still_open m long f))
+          (passes_then R.reading laws K (now_of m) (opener_of b m) x
+          (length m.payload == size m.header) (events_at_end b m)
+          (at_end_past b m long f))
 
   -- an octet of a request id
   named_octet : 0 < length m.payload → has_name m.header ≡ true → length m.payload ≤ 4 →
@@ -289,35 +293,35 @@ module _ (R : Rules) (laws : IsStreamable R.reading) (K : OctetsByNumber) (still
       )
       (fine_of _ (join_spans R.reading K 1 1 3 8 (own (now_of m) (Takes x)) _ (omega arith)
       (omega arith) (omega arith)
-      (own_named h some short begun) (always_later R laws.closing still_open m fits)).rises)
+      (own_named h some short begun) (always_later R laws.closing b m fits)).rises)
 
-  first_rises : (b : Bool) → ends_short m ≡ b →
+  first_rises : (is : Bool) → ends_short m ≡ is →
       Rises (all_lines R.reading K (events_at_header m ++ close))
   unfolding Always
   first_rises true short =
       (always_join R.reading 0 0 5 8 (events_at_header m) close (omega arith) (omega arith)
       (omega arith) (short_begins R.reading m short)
-      (always_if R.reading 5 8 (length m.payload == size m.header) (events_at_end still_open m) []
-      (always_end R.reading laws.closing still_open m) (always_none R.reading 5 8)) K).rises
+      (always_if R.reading 5 8 (length m.payload == size m.header) (events_at_end b m) []
+      (always_end R.reading laws.closing b m) (always_none R.reading 5 8)) K).rises
   first_rises false long =
       (always_join R.reading 0 5 6 8 (events_at_header m) close (omega arith) (omega arith)
       (omega arith) (always_header R.reading (now_of m))
-      (always_if R.reading 6 8 (length m.payload == size m.header) (events_at_end still_open m) []
-      (always_close R.reading laws.closing still_open m long) (always_none R.reading 6 8))
+      (always_if R.reading 6 8 (length m.payload == size m.header) (events_at_end b m) []
+      (always_close R.reading laws.closing b m long) (always_none R.reading 6 8))
       K).rises
 
   -- the last octet of a header of 1.1, with which the message has its place
   old_rises : length m.payload ≡ 0 → is_old m.header ≡ true →
       Rises (all_lines R.reading K (events_at_header m
-      ++ ((if length m.payload == named_at m.header then events_at_name R.most still_open m else [])
+      ++ ((if length m.payload == named_at m.header then events_at_name R.most b m else [])
       ++ close)))
   unfolding Always
   old_rises none old =
       (always_join R.reading 0 0 3 8 (events_at_header m) _ (omega arith) (omega arith)
       (omega arith) (old_begins R.reading m old)
-      (always_later R laws.closing still_open m (omega (arith, none))) K).rises
+      (always_later R laws.closing b m (omega (arith, none))) K).rises
 
-  first_by : length m.payload ≡ 0 → (b : Bool) → is_old m.header ≡ b → IsFine
+  first_by : length m.payload ≡ 0 → (is : Bool) → is_old m.header ≡ is → IsFine
   unfolding events_of_octet
   first_by none true old =
       rw (events_of_octet, events_with_key, eq-eqb (length m.payload) 0 none)
@@ -334,7 +338,7 @@ module _ (R : Rules) (laws : IsStreamable R.reading) (K : OctetsByNumber) (still
   -- The lines of an octet are in order, and no two of those that are written have the same class.
   pub events_of_octet_fine : length m.payload ≤ size m.header →
       (has_name m.header ≡ true → IsBegun K m) →
-      Fine (all_lines R.reading K (events_of_octet R.most still_open m))
+      Fine (all_lines R.reading K (events_of_octet R.most b m))
   events_of_octet_fine fits begun = search (
     arith,
     cases_eq,

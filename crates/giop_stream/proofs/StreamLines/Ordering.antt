@@ -1,19 +1,18 @@
 -- If the lines of an octet come in the order of their classes, its events may be taken one after
 -- another.
-use Rattle.std.proofs.Common.{◌≡◌, ℕ, ◌<◌, ◌≤◌, Bool, true, false, cond, not, List, [], ◌∷◌, ◌++◌, refl, sym, ap, ◌∙◌, append_assoc, Option, Some, None, arith}
+use Rattle.std.proofs.Common.{◌≡◌, ℕ, ◌<◌, ◌≤◌, Bool, true, false, cond, not, List, [], ◌∷◌, ◌++◌, refl, sym, ap, ◌∙◌, Option, None, arith}
 use Rattle.std.specs.Prelude.{◌==◌, if◌then◌else◌, ◌||◌, flat_map, option_map}
 use Rattle.std.specs.List.{filter, list_any, AllByRecursion as Each}
 use Rattle.std.proofs.lemmas.Bool.{ne_eqb, eqb-true}
-use Rattle.std.proofs.lemmas.List.{append-nil}
 use Rattle.std.proofs.lemmas.List.Elements.{filter-append}
 use Rattle.giop_message.specs.MessageReader.{MessageReader}
-use Rattle.giop_stream.specs.Events.{Event, opened, joined}
-use Rattle.giop_stream.specs.Lines.{Class, Start, rank, class_of, StreamLine, has_class, classes, by_class, is_last_of, up_to_last_line}
-use Rattle.giop_stream.specs.OpenSlots.{OctetsByNumber, Tracked}
-use Rattle.giop_stream.proofs.StreamLines.EventsTogether.{all_lines, sorted_lines}
-use Rattle.giop_stream.specs.Effects.{lines_at, tracked_at, effects, lines_for, kept_with, kept_after}
+use Rattle.giop_stream.specs.Events.{EventKind, Event, mixes, opened}
+use Rattle.giop_stream.specs.Lines.{Class, Start, rank, class_of, StreamLine, Kept, has_class, classes, by_class, is_last_of, up_to_last_line}
+use Rattle.giop_stream.specs.OpenSlots.{KeptByNumber, Tracked}
+use Rattle.giop_stream.proofs.StreamLines.EventsTogether.{all_lines, sorted_lines, kept_through}
+use Rattle.giop_stream.specs.Effects.{kept_then, lines_at, tracked_at, effects, lines_for, kept_with, kept_after}
 use Rattle.giop_stream.proofs.Lists.{filter_drops, filter_keeps, each_weaker, each_filter, any_append}
-use Rattle.giop_stream.proofs.StreamLines.LinesOfOctet.{joined_append, standing_append, standing_drops, standing_each, event_lines_number}
+use Rattle.giop_stream.proofs.StreamLines.LinesOfOctet.{standing_append, standing_drops, standing_each, event_lines_number}
 
 -- ---- Lines in the order of their classes.
 
@@ -145,10 +144,10 @@ ordered_filter q (l ∷ ls) h = search (arith, filtered_by, ordered_filter q ls 
 -- ---- The lines of the later events, from what is kept after the first ones.
 
 -- nothing is kept of messages that are over
-restricted : (ℕ → Bool) → OctetsByNumber → OctetsByNumber
+restricted : (ℕ → Bool) → KeptByNumber → KeptByNumber
 restricted over K i = if over i then None else K i
 
-kept_filter : (R : MessageReader) (over : ℕ → Bool) (e : Event) (o : Option (List ℕ)) (b : Bool) →
+kept_filter : (R : MessageReader) (over : ℕ → Bool) (e : Event) (o : Option Kept) (b : Bool) →
     over e.subject.number ≡ b
     → filter (λ l. not (over l.number)) (lines_for R e o) ≡ lines_for R e (if b then None else o)
 unfolding lines_for
@@ -163,71 +162,87 @@ kept_filter R over e o false h =
     (lines_for R e o)
     (event_lines_number R (λ n. over n ≡ false) e o h))
 
-restricted_with : (over : ℕ → Bool) (K : OctetsByNumber) (es : List Event) (i : ℕ) →
-    restricted over (kept_with K es) i ≡ kept_with (restricted over K) es i
-unfolding restricted kept_with
-restricted_with over K es i = search (arith)
+restricted_by : (a b : Bool) (o : Option Kept) (what : EventKind)
+    → (if a then None else (if b then option_map (kept_then what) o else o))
+    ≡ (if b then option_map (kept_then what) (if a then None else o) else
+    (if a then None else o))
+restricted_by true true o what = refl
+restricted_by true false o what = refl
+restricted_by false true o what = refl
+restricted_by false false o what = refl
 
-same_all_lines : (R : MessageReader) (f g : OctetsByNumber) (es : List Event) →
+restricted_with : (over : ℕ → Bool) (K : KeptByNumber) (e : Event) (i : ℕ) →
+    restricted over (kept_with K e) i ≡ kept_with (restricted over K) e i
+unfolding restricted kept_with
+restricted_with over K e i = restricted_by (over i) (e.subject.number == i) (K i) e.what
+
+restricted_through : (over : ℕ → Bool) (K : KeptByNumber) (es : List Event) (i : ℕ) →
+    kept_through (restricted over K) es i ≡ restricted over (kept_through K es) i
+unfolding kept_through
+restricted_through over K [] i = refl
+restricted_through over K (e ∷ es) i =
+    ap (λ (known : KeptByNumber). kept_through known es i)
+    (λ j k. sym (restricted_with over K e k) j)
+    ∙ restricted_through over (kept_with K e) es i
+
+same_all_lines : (R : MessageReader) (f g : KeptByNumber) (es : List Event) →
     ((i : ℕ) → f i ≡ g i) → all_lines R f es ≡ all_lines R g es
 same_all_lines R f g es h = search (arith, all_lines)
 
-all_lines_filter : (R : MessageReader) (over : ℕ → Bool) (K : OctetsByNumber) (es : List Event)
+all_lines_filter : (R : MessageReader) (over : ℕ → Bool) (K : KeptByNumber) (es : List Event)
     → filter (λ l. not (over l.number)) (all_lines R K es) ≡ all_lines R (restricted over K) es
 unfolding all_lines restricted
 all_lines_filter R over K [] = refl
 all_lines_filter R over K (e ∷ es) =
     filter-append (λ l. not (over l.number)) (lines_for R e (K e.subject.number))
-    (all_lines R (kept_with K (e ∷ [])) es)
+    (all_lines R (kept_with K e) es)
     ∙ rw (
       kept_filter R over e (K e.subject.number) (over e.subject.number) refl,
-      all_lines_filter R over (kept_with K (e ∷ [])) es,
+      all_lines_filter R over (kept_with K e) es,
     )
     (ap (λ (ls : List StreamLine). lines_for R e
     (if over e.subject.number then None else K e.subject.number) ++ ls)
-    (same_all_lines R (λ i. if over i then None else kept_with K (e ∷ []) i)
-    (kept_with (λ i. if over i then None else K i) (e ∷ [])) es
-    (λ i. restricted_with over K (e ∷ []) i)))
+    (same_all_lines R (λ i. if over i then None else kept_with K e i)
+    (kept_with (λ i. if over i then None else K i) e) es
+    (λ i. restricted_with over K e i)))
 
 -- ---- The effects, one event after another.
 
 pub record AreEffects (R : MessageReader) (c : Tracked) (es : List Event) : Type 0 where
   pub lines : sorted_lines R c.known es ≡ (effects R c es).lines
   pub still_open : opened c.still_open es ≡ (effects R c es).tracked.still_open
-  pub known : (i : ℕ) → kept_after (kept_with c.known es) (sorted_lines R c.known es) i
+  pub mixed : (c.mixed || list_any mixes es) ≡ (effects R c es).tracked.mixed
+  pub known : (i : ℕ) → kept_after (kept_through c.known es) (sorted_lines R c.known es) i
       ≡ (effects R c es).tracked.known i
 
-nothing_kept : (o : Option (List ℕ)) → option_map (λ xs. xs ++ []) o ≡ o
-nothing_kept None = refl
-nothing_kept (Some xs) = ap Some (append-nil xs)
+kept_by : (a b : Bool) (o : Option Kept)
+    → (if a || b then None else o) ≡ (if b then None else (if a then None else o))
+kept_by true true o = refl
+kept_by true false o = refl
+kept_by false true o = refl
+kept_by false false o = refl
 
-kept_by : (a b : Bool) (o : Option (List ℕ)) (xs ys : List ℕ)
-    → (if a || b then None else option_map (λ zs. zs ++ (xs ++ ys)) o)
-    ≡ (if b then None else option_map (λ zs. zs ++ ys)
-    (if a then None else option_map (λ zs. zs ++ xs) o))
-kept_by true true o xs ys = refl
-kept_by true false o xs ys = refl
-kept_by false true o xs ys = refl
-kept_by false false None xs ys = refl
-kept_by false false (Some zs) xs ys = search (arith, append_assoc)
+or_or : (a b c : Bool) → (a || (b || c)) ≡ ((a || b) || c)
+or_or true b c = refl
+or_or false b c = refl
 
 or_none : (b : Bool) → b ≡ (b || false)
 or_none true = refl
 or_none false = refl
 
 -- the lines of the first event, and then those of the others, from what is kept after it
-split_lines : (R : MessageReader) (K : OctetsByNumber) (e : Event) (es : List Event) →
+split_lines : (R : MessageReader) (K : KeptByNumber) (e : Event) (es : List Event) →
     Ordered (all_lines R K (e ∷ es))
     → sorted_lines R K (e ∷ es) ≡ lines_at R K e
-    ++ sorted_lines R (kept_after (kept_with K (e ∷ [])) (lines_at R K e)) es
+    ++ sorted_lines R (kept_after (kept_with K e) (lines_at R K e)) es
 unfolding sorted_lines lines_at all_lines kept_after restricted
 split_lines R K e es h =
     let A = lines_for R e (K e.subject.number) in
-    let B = all_lines R (kept_with K (e ∷ [])) es in
+    let B = all_lines R (kept_with K e) es in
     let over : ℕ → Bool = λ i. list_any (is_last_of i) (up_to_last_line (λ i. false) A) in
-    let later : all_lines R (λ i. if over i then None else kept_with K (e ∷ []) i) es
+    let later : all_lines R (λ i. if over i then None else kept_with K e i) es
     ≡ filter (λ l. not (over l.number)) B =
-    sym (all_lines_filter R over (kept_with K (e ∷ [])) es) in
+    sym (all_lines_filter R over (kept_with K e) es) in
     let sorted : by_class (filter (λ l. not (over l.number)) B)
     ≡ filter (λ l. not (over l.number)) B =
     ordered_stays (filter (λ l. not (over l.number)) B)
@@ -237,28 +252,28 @@ split_lines R K e es h =
     ++ ls)
     (standing_drops over over (λ i. false) B (λ i. or_none (over i))))
 
-later_ordered : (R : MessageReader) (K : OctetsByNumber) (e : Event) (es : List Event) →
+later_ordered : (R : MessageReader) (K : KeptByNumber) (e : Event) (es : List Event) →
     Ordered (all_lines R K (e ∷ es))
-    → Ordered (all_lines R (kept_after (kept_with K (e ∷ [])) (lines_at R K e)) es)
+    → Ordered (all_lines R (kept_after (kept_with K e) (lines_at R K e)) es)
 unfolding all_lines kept_after restricted
 later_ordered R K e es h =
     let over : ℕ → Bool = λ i. list_any (is_last_of i) (lines_at R K e) in
-    rw (← all_lines_filter R over (kept_with K (e ∷ [])) es)
-    (ordered_filter (λ l. not (over l.number)) (all_lines R (kept_with K (e ∷ [])) es)
-    (ordered_right (lines_for R e (K e.subject.number)) (all_lines R (kept_with K (e ∷ [])) es) h))
+    rw (← all_lines_filter R over (kept_with K e) es)
+    (ordered_filter (λ l. not (over l.number)) (all_lines R (kept_with K e) es)
+    (ordered_right (lines_for R e (K e.subject.number)) (all_lines R (kept_with K e) es) h))
 
-nothing_now : (R : MessageReader) (K : OctetsByNumber) → sorted_lines R K [] ≡ []
+nothing_now : (R : MessageReader) (K : KeptByNumber) → sorted_lines R K [] ≡ []
 unfolding sorted_lines all_lines up_to_last_line
 nothing_now R K = rw (ordered_stays [] tt) refl
 
-nothing_else : (K : OctetsByNumber) (i : ℕ) → kept_after (kept_with K []) [] i ≡ K i
-unfolding kept_after kept_with joined
-nothing_else K i = nothing_kept (K i)
+nothing_else : (K : KeptByNumber) (i : ℕ) → kept_after (kept_through K []) [] i ≡ K i
+unfolding kept_after kept_through
+nothing_else K i = refl
 
 pub are_effects : (R : MessageReader) (c : Tracked) (es : List Event) →
     Ordered (all_lines R c.known es) → AreEffects R c es
-unfolding effects opened tracked_at
-are_effects R c [] h = search (arith, nothing_now, nothing_else)
+unfolding effects opened tracked_at lines_at restricted
+are_effects R c [] h = search (arith, nothing_now, nothing_else, or_none)
 are_effects R c (e ∷ es) h =
     let now = tracked_at R c e in
     let ih = are_effects R now es (later_ordered R c.known e es h) in
@@ -266,22 +281,24 @@ are_effects R c (e ∷ es) h =
     record {
       lines = split ∙ rw ih.lines refl;
       still_open = ih.still_open;
+      mixed = or_or c.mixed (mixes e) (list_any mixes es) ∙ ih.mixed;
       known =
           λ i. rw split (one i) ∙ ih.known i;
     }
   where
-    one : (i : ℕ) → kept_after (kept_with c.known (e ∷ es))
-        (lines_at R c.known e ++ sorted_lines R
-        (kept_after (kept_with c.known (e ∷ [])) (lines_at R c.known e)) es) i ≡ kept_after
-        (kept_with (kept_after (kept_with c.known (e ∷ [])) (lines_at R c.known e)) es)
-        (sorted_lines R (kept_after (kept_with c.known (e ∷ [])) (lines_at R c.known e)) es) i
-    one i = unfold kept_after kept_with in
-        rw (
-          any_append (is_last_of i) (lines_at R c.known e)
-              (sorted_lines R (kept_after (kept_with c.known (e ∷ [])) (lines_at R c.known e)) es),
-          joined_append i (e ∷ []) es,
-        )
-        (kept_by (list_any (is_last_of i) (lines_at R c.known e))
-        (list_any (is_last_of i) (sorted_lines R
-        (kept_after (kept_with c.known (e ∷ [])) (lines_at R c.known e)) es)) (c.known i)
-        (joined i (e ∷ [])) (joined i es))
+    first : List StreamLine
+    first = lines_at R c.known e
+
+    over : ℕ → Bool
+    over i = list_any (is_last_of i) first
+
+    later : List StreamLine
+    later = sorted_lines R (kept_after (kept_with c.known e) first) es
+
+    one : (i : ℕ) → kept_after (kept_through c.known (e ∷ es)) (first ++ later) i
+        ≡ kept_after (kept_through (kept_after (kept_with c.known e) first) es) later i
+    one i = unfold kept_after kept_through in
+        rw (any_append (is_last_of i) first later)
+        (kept_by (over i) (list_any (is_last_of i) later) (kept_through (kept_with c.known e) es i)
+        ∙ ap (λ (o : Option Kept). if list_any (is_last_of i) later then None else o)
+        (sym (restricted_through over (kept_with c.known e) es i)))

@@ -9,11 +9,11 @@ use Rattle.giop_message.specs.Headers.{size}
 use Rattle.giop_stream.specs.Rules.{Rules}
 use Rattle.giop_stream.specs.Framing.{CutMessage}
 use Rattle.giop_stream.specs.Kinds.{named_at, refused}
-use Rattle.giop_stream.specs.Events.{EventKind, Begins, Takes, Opens, Closes, Event, Open, message_key, place, key, own, event_of_open, opener_of, fault_events, events_at_name, events_at_end, events_of_octet, now_of, header_events, payload_events, Now}
+use Rattle.giop_stream.specs.Events.{EventKind, Begins, Takes, Opens, Seams, Closes, Event, Before, Open, message_key, place, key, own, event_of_open, opener_of, fault_events, events_at_name, events_at_end, events_of_octet, now_of, header_events, payload_events, pending, Now}
 use Rattle.giop_message.specs.MessageReader.{LineClass, MessageReader}
-use Rattle.giop_stream.specs.Lines.{Start, Started, Said, StreamLine, has_class, line, lines_of_event, classes, by_class, is_last_of, up_to_last_line}
+use Rattle.giop_stream.specs.Lines.{Start, Started, Said, StreamLine, has_class, line, Kept, lines_of_event, classes, by_class, is_last_of, up_to_last_line}
 use Rattle.giop_stream.specs.Stream.{is_start, start_count}
-use Rattle.giop_stream.specs.OpenSlots.{OctetsByNumber}
+use Rattle.giop_stream.specs.OpenSlots.{KeptByNumber}
 use Rattle.giop_stream.specs.Effects.{lines_for, kept_with}
 use Rattle.giop_stream.proofs.StreamLines.EventsTogether.{all_lines, sorted_lines}
 use Rattle.giop_stream.proofs.Events.EventInduction.{IsLater, of_later, either}
@@ -37,39 +37,39 @@ said_none : (e : Event) (s : LineClass) (text : List ℕ) → NoStart (line e (S
 unfolding NoStart line
 said_none e s text = refl
 
-takes_none : (R : MessageReader) (e : Event) (so_far all : List ℕ) (x : ℕ) →
+takes_none : (R : MessageReader) (e : Event) (so_far all : Kept) (x : ℕ) →
     Each NoStart (lines_of_event R e so_far all (Takes x))
 unfolding lines_of_event
 takes_none R e so_far all x = search (arith, each_map, said_none)
 
-closes_none : (R : MessageReader) (e : Event) (so_far all : List ℕ) →
+closes_none : (R : MessageReader) (e : Event) (so_far all : Kept) →
     Each NoStart (lines_of_event R e so_far all Closes)
 unfolding lines_of_event
 closes_none R e so_far all = search (arith, each_map, said_none)
 
 Quiet : Event → Type 0
-Quiet e = (R : MessageReader) (so_far all : List ℕ) →
+Quiet e = (R : MessageReader) (so_far all : Kept) →
     Each NoStart (lines_of_event R e so_far all e.what)
 
-kept_none : (R : MessageReader) (e : Event) (o : Option (List ℕ)) → Quiet e →
+kept_none : (R : MessageReader) (e : Event) (o : Option Kept) → Quiet e →
     Each NoStart (lines_for R e o)
 unfolding lines_for Quiet
 kept_none R e None h = tt
-kept_none R e (Some xs) h = search (arith)
+kept_none R e (Some kept) h = search (arith)
 
-all_lines_none : (R : MessageReader) (K : OctetsByNumber) (es : List Event) → Each Quiet es →
+all_lines_none : (R : MessageReader) (K : KeptByNumber) (es : List Event) → Each Quiet es →
     Each NoStart (all_lines R K es)
 unfolding all_lines
 all_lines_none R K [] h = tt
 all_lines_none R K (e ∷ es) h =
-    each_append NoStart (lines_for R e (K e.subject.number)) (all_lines R (kept_with K (e ∷ [])) es)
-    (kept_none R e (K e.subject.number) h.0) (all_lines_none R (kept_with K (e ∷ [])) es h.1)
+    each_append NoStart (lines_for R e (K e.subject.number)) (all_lines R (kept_with K e) es)
+    (kept_none R e (K e.subject.number) h.0) (all_lines_none R (kept_with K e) es h.1)
 
 -- ---- All events except those at a header's last octet have no start line.
 
 -- an event of this kind has no start line, whatever the message
 Calm : EventKind → Type 0
-Calm what = (R : MessageReader) (e : Event) (so_far all : List ℕ) →
+Calm what = (R : MessageReader) (e : Event) (so_far all : Kept) →
     Each NoStart (lines_of_event R e so_far all what)
 
 quiet_own : (now : Now) (what : EventKind) → Calm what → Each Quiet (own now what)
@@ -91,6 +91,7 @@ unfolding Calm lines_of_event NoStart line
 calm Begins h = absurd h
 calm (Takes x) h = absurd h
 calm (Opens key) h = λ R e so_far all. tt
+calm Seams h = λ R e so_far all. tt
 calm Closes h = search (arith, closes_none)
 calm _ h = λ R e so_far all. (refl, tt)
 
@@ -103,26 +104,27 @@ unfolding payload_events
 quiet_octet now other = search (arith, either, quiet_about, calm_takes, quiet_own)
 
 -- the events of an octet after its first part
-later_part : (most : ℕ) → List Open → CutMessage → List Event
-later_part most still_open m =
-    (if length m.payload == named_at m.header then events_at_name most still_open m else [])
-    ++ (if length m.payload == size m.header then events_at_end still_open m else [])
+later_part : (most : ℕ) → Before → CutMessage → List Event
+later_part most b m =
+    (if length m.payload == named_at m.header then events_at_name most b m else [])
+    ++ (if length m.payload == size m.header then events_at_end b m else [])
 
-quiet_later : (most : ℕ) (still_open : List Open) (m : CutMessage) →
-    Each Quiet (later_part most still_open m)
+quiet_later : (most : ℕ) (b : Before) (m : CutMessage) →
+    Each Quiet (later_part most b m)
 unfolding later_part
-quiet_later most still_open m =
-    of_later most (Each Quiet) (record { none = tt; both = each_append Quiet }) still_open
-    (now_of m) (key m) (opener_of still_open m) (record {
+quiet_later most b m =
+    of_later most (Each Quiet) (record { none = tt; both = each_append Quiet }) b
+    (now_of m) (key m) (opener_of b m) (record {
       mine = λ what later. quiet_own (now_of m) what (calm what later);
-      theirs = λ what later. quiet_about (now_of m) (opener_of still_open m) what (calm what later);
+      theirs = λ what later. quiet_about (now_of m) (opener_of b m) what (calm what later);
+      waiting = λ what later. quiet_about (now_of m) (pending b) what (calm what later);
     })
 
-pub none_later : (R : Rules) (K : OctetsByNumber) (still_open : List Open) (m : CutMessage) →
+pub none_later : (R : Rules) (K : KeptByNumber) (b : Before) (m : CutMessage) →
     0 < length m.payload → start_count (sorted_lines R.reading K
-    (events_of_octet R.most still_open m)) ≡ 0
+    (events_of_octet R.most b m)) ≡ 0
 unfolding sorted_lines by_class events_of_octet later_part
-none_later R K still_open m h = search (
+none_later R K b m h = search (
   arith,
   each_append,
   quiet_octet,
@@ -146,13 +148,13 @@ start_first : (l : StreamLine) (header : List ℕ) (ls : List StreamLine) →
 unfolding by_class classes
 start_first l header ls e h = search (arith, no_start_class)
 
-begun : (R : MessageReader) (K : OctetsByNumber) (m : CutMessage) (e : Event) (xs : List ℕ)
+begun : (R : MessageReader) (K : KeptByNumber) (m : CutMessage) (e : Event) (kept : Kept)
     (rest : List Event) → e.subject ≡ message_key m
-    → e.what ≡ Begins → K m.number ≡ Some xs →
+    → e.what ≡ Begins → K m.number ≡ Some kept →
     all_lines R K (e ∷ rest) ≡ line e (Started m.header) ∷ all_lines R
-    (kept_with K (e ∷ [])) rest
+    (kept_with K e) rest
 unfolding all_lines lines_for lines_of_event
-begun R K m e xs rest w b k = rw (w, b, k) refl
+begun R K m e kept rest w is k = rw (w, is, k) refl
 
 first_start : (e : Event) (header : List ℕ) → is_start (line e (Started header)).content ≡ true
 unfolding line
@@ -173,24 +175,24 @@ first_of_all : (e : Event) (header : List ℕ) (more : List StreamLine) → Each
 unfolding line
 first_of_all e header more h = search (arith, start_first)
 
-pub one_first : (R : Rules) (K : OctetsByNumber) (still_open : List Open) (m : CutMessage)
-    (xs : List ℕ) → m.payload ≡ []
-    → K m.number ≡ Some xs → start_count (sorted_lines R.reading K
-    (events_of_octet R.most still_open m)) ≡ 1
+pub one_first : (R : Rules) (K : KeptByNumber) (b : Before) (m : CutMessage)
+    (kept : Kept) → m.payload ≡ []
+    → K m.number ≡ Some kept → start_count (sorted_lines R.reading K
+    (events_of_octet R.most b m)) ≡ 1
 unfolding sorted_lines events_of_octet header_events own later_part
-one_first R K still_open m xs payload_octet known =
+one_first R K b m kept payload_octet known =
     let e : Event = record { place = place m; subject = message_key m; what = Begins } in
     let rest : List Event = fault_events (now_of m) (refused m.header)
-    ++ later_part R.most still_open m in
-    let more : List StreamLine = all_lines R.reading (kept_with K (e ∷ [])) rest in
+    ++ later_part R.most b m in
+    let more : List StreamLine = all_lines R.reading (kept_with K e) rest in
     let none : Each NoStart more =
-    all_lines_none R.reading (kept_with K (e ∷ [])) rest
+    all_lines_none R.reading (kept_with K e) rest
     (each_append Quiet (fault_events (now_of m) (refused m.header))
-    (later_part R.most still_open m)
-    (quiet_faulted (now_of m) (refused m.header)) (quiet_later R.most still_open m)) in
+    (later_part R.most b m)
+    (quiet_faulted (now_of m) (refused m.header)) (quiet_later R.most b m)) in
     let empty : length m.payload ≡ 0 = rw payload_octet refl in
     let lines_of_messages : all_lines R.reading K (e ∷ rest) ≡ line e (Started m.header) ∷ more =
-    begun R.reading K m e xs rest refl refl known in
+    begun R.reading K m e kept rest refl refl known in
     let calm : Each NoStart (up_to_last_line
     (λ i. false || is_last_of i (line e (Started m.header))) (by_class more)) =
     standing_each NoStart (λ i. false || is_last_of i (line e (Started m.header))) (by_class more)

@@ -4,23 +4,22 @@
 use Rattle.std.proofs.Common.{arith, ◌≡◌, ℕ, List, codes}
 use Rattle.giop_stream.specs.Rules.{Rules}
 use Rattle.giop_stream.specs.Text.{lines_text}
-use Rattle.giop_stream.specs.OpenSlots.{slots_of, is_open, left_open}
+use Rattle.giop_stream.specs.OpenSlots.{slots_of, is_open, before_in, left_open}
 use Rattle.giop_stream.specs.Effects.{lines_at, tracked_at, effects, lines_for, kept_with, kept_after}
-use Rattle.giop_stream.specs.Events.{own, event_of_open, header_events, payload_events, naming_events, message_end_events, events_with_key}
+use Rattle.giop_stream.specs.Events.{own, event_of_open, pending, mixes, header_events, payload_events, naming_events, message_end_events, events_with_key}
 use Rattle.giop_stream.specs.Octet.{octet_in}
 use Rattle.giop_stream.specs.EngineStep.{fresh, octet_at, key_of, other_of, events_at, stepped, ended, held_on, step, run, run_state, left_current, left_over, is_cut_short, final_totals, finish}
-use Rattle.giop_stream.proofs.Worked.Rows.{small, rows, interleaved, id_alone, too_short, not_open, twice, too_many, cancelled, old_fragment, early_fragment, unknown_type, no_room, other_order, order_at_close, order_then_close, cancelled_early, short_fragment}
+use Rattle.giop_stream.proofs.Worked.Rows.{small, rows, interleaved, id_alone, too_short, not_open, twice, too_many, cancelled, old_fragment, early_fragment, unknown_type, no_room, other_order, order_at_close, order_then_close, cancelled_early, short_fragment, joining, old_joined, old_mixed, old_cancelled}
 
 record Runs (R : Rules) (p lines end : List ℕ) : Type 0 where
-  text : lines_text (run R fresh p) ≡ lines
-  closing : finish (run_state R fresh p) ≡ end
+  text : lines_text (run R (fresh R) p) ≡ lines
+  closing : finish (run_state R (fresh R) p) ≡ end
 
 unfoldable pub runs : ℕ
-unfolding slots_of is_open lines_for kept_with kept_after left_open lines_at tracked_at effects
-    octet_in own event_of_open header_events payload_events naming_events message_end_events
-    events_with_key fresh octet_at key_of other_of events_at stepped ended held_on step run
-    run_state
-    left_current left_over is_cut_short final_totals finish
+unfolding slots_of is_open before_in pending mixes lines_for kept_with kept_after left_open lines_at
+    tracked_at effects octet_in own event_of_open header_events payload_events naming_events
+    message_end_events events_with_key fresh octet_at key_of other_of events_at stepped ended
+    held_on step run run_state left_current left_over is_cut_short final_totals finish
 runs = 0
 
 interleaved_runs : Runs (small 0) interleaved
@@ -131,3 +130,24 @@ short_fragment_runs : Runs (small 5) short_fragment
     (codes "total messages 3 faults 2 octets 47\n")
 unfolding rows runs short_fragment
 short_fragment_runs = search (arith)
+
+old_joined_runs : Runs joining old_joined
+    (codes
+    "m1 start 1.1 big Request size 6 more\nm2 start 1.1 big Fragment size 2\nm2 continues m1\nm1 rest @0 aabbccdd\nm1 end\n")
+    (codes "total messages 2 faults 0 octets 32\n")
+unfolding rows runs old_joined
+old_joined_runs = search (arith)
+
+old_mixed_runs : Runs joining old_mixed
+    (codes
+    "m1 start 1.1 big Request size 0 more\nm2 start 1.1 big Request size 0 more\nm2 fault fragment-1.1 at 24\nm3 start 1.1 big Fragment size 0\nm3 fault fragment-1.1 at 36\n")
+    (codes "m1 unfinished\ntotal messages 3 faults 2 octets 36\n")
+unfolding rows runs old_mixed
+old_mixed_runs = search (arith)
+
+old_cancelled_runs : Runs joining old_cancelled
+    (codes
+    "m1 start 1.1 big Request size 4 more\nm2 start 1.1 big CancelRequest size 4\nm2 header.request_id ulong 1\nm1 cancelled by m2\nm2 end\nm3 start 1.1 big Fragment size 0\nm3 fault no-open at 44\n")
+    (codes "total messages 3 faults 1 octets 44\n")
+unfolding rows runs old_cancelled
+old_cancelled_runs = search (arith)

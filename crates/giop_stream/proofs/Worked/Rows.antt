@@ -2,7 +2,7 @@
 -- row holds by computation, with a small reader: it gives a line for the request id, and at the
 -- close a line for the octets after it. `giop_stream_worked` has streams that are read by the reader
 -- of messages itself.
-use Rattle.std.proofs.Common.{arith, ◌≡◌, ℕ, ◌+◌, ◌-◌, ◌*◌, List, [], ◌∷◌, ◌++◌, length, take, drop, codes}
+use Rattle.std.proofs.Common.{arith, ◌≡◌, ℕ, ◌+◌, ◌-◌, ◌*◌, Bool, true, false, List, [], ◌∷◌, ◌++◌, length, take, drop, Some, None, codes}
 use Rattle.std.specs.Prelude.{nat_le, nat_lt, ◌==◌, if◌then◌else◌, ◌&&◌}
 use Rattle.std.specs.Fmt.{decimal, digits}
 use Rattle.giop_cdr.specs.Numbers.{num}
@@ -10,7 +10,7 @@ use Rattle.giop_print.specs.Text.{hex}
 use Rattle.giop_print.specs.Text as print_text
 use Rattle.giop_print.specs.Lines.{type_word, continues_line, cancelled_line, fault_line, stream_fault_line, unfinished_line, total_line}
 use Rattle.giop_print.specs.Lines as print
-use Rattle.giop_stream.specs.Rules.{Rules}
+use Rattle.giop_stream.specs.Rules.{RequestIds, Rules}
 use Rattle.giop_stream.specs.HeaderOctets.{fronts, wrong, first_wrong, first_wrong_octet}
 use Rattle.giop_message.specs.Headers.{minor, kind, order, has_more, size, may_be_fragmented, is_opener, is_fragment, is_cancel, has_name}
 use Rattle.giop_stream.specs.Framing.{with_first, cut_from, limit, limited, cut, messages, read_of}
@@ -19,7 +19,7 @@ use Rattle.giop_stream.specs.Text.{start_line}
 use Rattle.giop_message.specs.Text.{numbered_line, rest_text}
 use Rattle.giop_stream.specs.Stream.{is_inside, is_truncated}
 use Rattle.giop_stream.specs.Kinds.{is_old_opener, is_old_fragment, is_old, has_fragments, is_any_fragment, named_at, is_short, may_be_cancelled, refused}
-use Rattle.giop_stream.specs.Events.{place, own, event_of_open, id, key, opener_of, has_named, goes_past, events_of_octet, events_of, changed, opened, events_from, events, open_after, octet, joined, header_events, payload_events, naming_events, message_end_events}
+use Rattle.giop_stream.specs.Events.{place, own, event_of_open, pending, id, key, opener_of, has_named, goes_past, events_of_octet, events_of, changed, opened, before_by, events_from, events, open_after, octet, joined, phase_from, phase_of, mixes, has_ended, header_events, payload_events, naming_events, message_end_events}
 use Rattle.giop_stream.specs.Lines.{classes, line, lines_of_event, lines_of_events, by_class, in_order, is_last_of, up_to_last_line, lines_of_messages, stop_line, lines}
 use Rattle.giop_stream.specs.Text.{lines_text}
 use Rattle.giop_stream.specs.Stream.{text, start_count, fault_count, tally, is_over, first_messages, unfinished, final, closing}
@@ -55,9 +55,22 @@ small_reading least = record {
       λ phase number. named_closes least;
 }
 
+-- the request id of any message, as if it began with it
+unfoldable pub first_id : RequestIds
+first_id phase number header xs =
+    if nat_le 4 (length xs) then Some (num (order header) (take 4 xs)) else None
+
 -- the rules with the small reader; 16 messages may be open
-unfoldable pub small : ℕ → Rules
-small least = record { reading = small_reading least; most = 16 }
+unfoldable pub small_rules : ℕ → Bool → Rules
+small_rules least joins =
+    record { reading = small_reading least; asks = first_id; most = 16; joins = joins }
+
+abbrev pub small : ℕ → Rules
+small least = small_rules least false
+
+-- the same, by which Fragments of 1.1 are joined
+abbrev pub joining : Rules
+joining = small_rules 0 true
 
 unfoldable pub digit : ℕ → ℕ
 digit c = if nat_lt c 58 then c - 48 else c - 87
@@ -73,17 +86,18 @@ record Writes (R : Rules) (p lines end : List ℕ) : Type 0 where
 
 -- a name for the list of the definitions that the rows unfold
 unfoldable pub rows : ℕ
-unfolding named_reads behind named_closes small_reading small digit octets digits num hex type_word
-    print.start_line continues_line cancelled_line fault_line stream_fault_line unfinished_line
-    total_line fronts wrong first_wrong first_wrong_octet minor kind order has_more size with_first
-    cut_from limit limited cut messages read_of start_line numbered_line id_text rest_text is_inside
-    is_truncated may_be_fragmented is_opener is_fragment is_cancel is_old_opener is_old_fragment
-    is_old has_fragments is_any_fragment named_at is_short may_be_cancelled refused place
-    own event_of_open id key opener_of has_named goes_past header_events payload_events
-    naming_events message_end_events events_of_octet events_of changed opened events_from events
-    open_after octet joined classes line lines_of_event lines_of_events by_class in_order is_last_of
-    up_to_last_line lines_of_messages stop_line lines lines_text text start_count fault_count tally
-    is_over first_messages unfinished final closing
+unfolding named_reads behind named_closes small_reading first_id small_rules digit octets digits num
+    hex type_word print.start_line continues_line cancelled_line fault_line stream_fault_line
+    unfinished_line total_line fronts wrong first_wrong first_wrong_octet minor kind order has_more
+    size with_first cut_from limit limited cut messages read_of start_line numbered_line id_text
+    rest_text is_inside is_truncated may_be_fragmented is_opener is_fragment is_cancel is_old_opener
+    is_old_fragment is_old has_fragments is_any_fragment named_at is_short may_be_cancelled refused
+    place own event_of_open pending id key opener_of has_named goes_past header_events
+    payload_events naming_events message_end_events events_of_octet events_of changed opened
+    before_by events_from events open_after octet joined phase_from phase_of mixes has_ended classes
+    line lines_of_event lines_of_events by_class in_order is_last_of up_to_last_line
+    lines_of_messages stop_line lines lines_text text start_count fault_count tally is_over
+    first_messages unfinished final closing
 rows = 0
 
 -- ---- The rows.
@@ -181,7 +195,7 @@ cancelled_row : Writes (small 0) cancelled
 unfolding rows cancelled
 cancelled_row = search (arith)
 
--- a message of GIOP 1.1 that has fragments
+-- a message of GIOP 1.1 that has fragments, if those aren't joined
 unfoldable pub old_fragment : List ℕ
 old_fragment = octets (codes "47494f50 0101 02 00 00000000")
 
@@ -286,3 +300,45 @@ short_fragment_row : Writes (small 5) short_fragment
     (codes "total messages 3 faults 2 octets 47\n")
 unfolding rows short_fragment
 short_fragment_row = search (arith)
+
+-- ---- Fragments of 1.1 that are joined.
+
+-- a message in two fragments
+unfoldable pub old_joined : List ℕ
+old_joined =
+    octets
+    (codes "47494f50 0101 02 00 00000006 00000001 aabb 47494f50 0101 00 07 00000002 ccdd")
+
+old_joined_row : Writes joining old_joined
+    (codes
+    "m1 start 1.1 big Request size 6 more\nm2 start 1.1 big Fragment size 2\nm2 continues m1\nm1 rest @0 aabbccdd\nm1 end\n")
+    (codes "total messages 2 faults 0 octets 32\n")
+unfolding rows old_joined
+old_joined_row = search (arith)
+
+-- a second message begins before the first is complete: the Fragment may be of either
+unfoldable pub old_mixed : List ℕ
+old_mixed =
+    octets
+    (codes "47494f50 0101 02 00 00000000 47494f50 0101 02 00 00000000 47494f50 0101 00 07 00000000")
+
+old_mixed_row : Writes joining old_mixed
+    (codes
+    "m1 start 1.1 big Request size 0 more\nm2 start 1.1 big Request size 0 more\nm2 fault fragment-1.1 at 24\nm3 start 1.1 big Fragment size 0\nm3 fault fragment-1.1 at 36\n")
+    (codes "m1 unfinished\ntotal messages 3 faults 2 octets 36\n")
+unfolding rows old_mixed
+old_mixed_row = search (arith)
+
+-- a CancelRequest closes a message of 1.1, by the request id that the message has given
+unfoldable pub old_cancelled : List ℕ
+old_cancelled =
+    octets
+    (codes
+    "47494f50 0101 02 00 00000004 00000001 47494f50 0101 00 02 00000004 00000001 47494f50 0101 00 07 00000000")
+
+old_cancelled_row : Writes joining old_cancelled
+    (codes
+    "m1 start 1.1 big Request size 4 more\nm2 start 1.1 big CancelRequest size 4\nm2 header.request_id ulong 1\nm1 cancelled by m2\nm2 end\nm3 start 1.1 big Fragment size 0\nm3 fault no-open at 44\n")
+    (codes "total messages 3 faults 1 octets 44\n")
+unfolding rows old_cancelled
+old_cancelled_row = search (arith)

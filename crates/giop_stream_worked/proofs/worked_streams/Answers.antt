@@ -1,4 +1,4 @@
-use Rattle.giop_stream_worked.proofs.Computing.{close_connection, little_request, interleaved, open_twice, one_open, cancelled, replied, raised, code_sets, code_sets_cut_short, profile}
+use Rattle.giop_stream_worked.proofs.Computing.{close_connection, little_request, interleaved, joined_old, open_twice, one_open, cancelled, replied, raised, code_sets, code_sets_cut_short, profile}
 use Rattle.giop_stream_worked.proofs.Listed.{request_table}
 use Rattle.giop_stream_worked.proofs.worked_streams.Goals as goal
 
@@ -7,6 +7,7 @@ returns c = record {
   closes = close_connection;
   request = little_request;
   interleaved = interleaved;
+  joined = joined_old;
   id = open_twice;
   one_open = one_open;
   cancelled = cancelled;

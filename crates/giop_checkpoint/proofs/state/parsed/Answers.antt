@@ -14,8 +14,8 @@ returns-clause-again c f own h e =
     let p = fields_of c.args.layout f _ h e in
     let limits = c.split_at-2.ensures.back ∙ p.limits in
     let among = among_more f.records (f.most_open + 1) f.owner h.records h.owner in
-    ap Some (fixed_is f _ _ _ _ _ _ _ _ (sym own)
-    (c.open_at.ensures f.most_open f.owner h.most_open limits)
+    ap Some (fixed_is f _ _ _ _ _ _ _ _ _ (sym own)
+    (c.open_at.ensures f.most_open f.owner f.is_mixed h.most_open limits)
     (c.four_at.ensures f.records _ (omega (
       arith,
       h.records,
@@ -26,5 +26,6 @@ returns-clause-again c f own h e =
     (c.eight_at-3.ensures f.faults _ (omega (arith, h.faults)) p.faults)
     (value_of _ _ _ (c.place_at.ensures.again f.place (owner_octet c.args.layout f.owner) _ h.place
     (c.split_at.ensures.back ∙ p.place)) c.in-Some.is)
-    (c.owner_at.ensures f.most_open f.owner h.most_open among (c.octet_at.ensures _ _ p.owner_is)
-    limits))
+    (c.owner_at.ensures f.most_open f.owner f.is_mixed h.most_open among
+    (c.octet_at.ensures _ _ p.owner_is) limits)
+    (c.mixed_at.ensures c.args.layout f.most_open f.owner f.is_mixed h.mixed limits))

@@ -1,6 +1,8 @@
 use Rattle.std.proofs.Common.{refl}
 use Rattle.giop_stream.proofs.SlotSteps.Performing.{does_nothing, performs_on}
 use Rattle.giop_stream.proofs.SlotSteps.Ending.{own_short, ends_short, ends_followed, ends_closed}
+use Rattle.giop_stream.specs.declared.fault.FramingFault.TheVariants.{Short}
+use Rattle.giop_stream.proofs.SlotSteps.OneSlotChanges.{calm_fault}
 use Rattle.giop_stream.proofs.SlotSteps.SlotLists.{room_then}
 use Rattle.giop_stream.proofs.dispatch.at_end.Goals as goal
 
@@ -13,7 +15,8 @@ returns-then-is_short-clause-does g c =
     rw (ends_short c.args.catalogue.now l c.args.slots.now c' m c.args.now h c.if-is_short.ensures)
     (performs_on c.fault_message-faulted.result _ _ refl
     (λ k. c.set_no_owner.ensures.kept C l _ _ k)
-    (c.fault_message-faulted.ensures.does C l c' _ keeps h.current.number h.rising))
+    (c.fault_message-faulted.ensures.does C l c' _ keeps h.current.number h.rising
+    (calm_fault c' c.args.now.place _ Short refl)))
 
 pub returns-then-is_short-clause-room : goal.returns-then-is_short-clause-room
 returns-then-is_short-clause-room g c =

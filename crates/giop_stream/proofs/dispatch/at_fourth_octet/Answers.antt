@@ -5,7 +5,7 @@ use Rattle.giop_stream.proofs.dispatch.at_fourth_octet.Goals as goal
 
 pub returns-then-ends_request_id-clause-does : goal.returns-then-ends_request_id-clause-does
 returns-then-ends_request_id-clause-does g c =
-    λ C l c' m h.
+    λ C l c' m h some.
     let at = sym c.if-ends_request_id.ensures in
     rw (
       id_here C l c.args.slots.now c' m c.args.now h at,
@@ -17,9 +17,9 @@ returns-then-ends_request_id-clause-does g c =
 
 pub returns-clause-does : goal.returns-clause-does
 returns-clause-does g c =
-    λ C l c' m h.
+    λ C l c' m h some.
     let other = sym c.if-ends_request_id.ensures in
     rw (
-      no_id C l c.args.slots.now c' m c.args.now h other,
-      owner_still C l c.args.slots.now c' m c.args.now h other,
+      no_id C l c.args.slots.now c' m c.args.now h other some,
+      owner_still C l c.args.slots.now c' m c.args.now h other some,
     ) (does_nothing _ _ refl h.keeps)

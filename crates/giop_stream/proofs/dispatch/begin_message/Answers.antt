@@ -1,6 +1,6 @@
 use Rattle.std.proofs.Common.{[], arith, sym, ◌∙◌}
 use Rattle.giop_stream.proofs.SlotSteps.Performing.{all_ok, no_faults, wrote_line, line_then, line_failed}
-use Rattle.giop_stream.proofs.SlotSteps.AtHeader.{ready_later, starts_faults, apart, begins, refuses, starts_text, starts_first}
+use Rattle.giop_stream.proofs.SlotSteps.AtHeader.{ready_later, starts_faults, apart, begins, refuses, refuses_calm, starts_text, starts_first}
 use Rattle.giop_stream.proofs.dispatch.begin_message.Goals as goal
 
 pub returns-in_err-start_line-clause-does : goal.returns-in_err-start_line-clause-does
@@ -21,7 +21,9 @@ returns-in-Some-clause-does g c =
     (line_then c.fault_message.result _ _ _ _
     (starts_text c.args.catalogue.now l c.args.slots.now c' who m c.args.now h)
     (starts_faults m _) c.in_ok-start_line.ensures
-    (c.fault_message.ensures.does c.args.catalogue.now l c' _ keeps h.current.number h.rising))
+    (c.fault_message.ensures.does c.args.catalogue.now l c' _ keeps h.current.number h.rising
+    (refuses_calm c.args.catalogue.now l c.args.slots.now c' who m c.args.now h c.in-Some.fault
+    (sym c.in-Some.is ∙ c.refused.ensures))))
 
 pub returns-in-Some-clause-ready : goal.returns-in-Some-clause-ready
 returns-in-Some-clause-ready g c =

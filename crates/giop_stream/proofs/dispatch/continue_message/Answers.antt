@@ -1,7 +1,11 @@
-use Rattle.std.proofs.Common.{[], sym, ◌∙◌}
+use Rattle.std.proofs.Common.{[], refl, sym, ◌∙◌}
 use Rattle.giop_stream.proofs.SlotSteps.Performing.{no_faults, wrote_line, line_then, line_failed}
 use Rattle.giop_stream.proofs.SlotSteps.AtRequestId.{opener_slot}
-use Rattle.giop_stream.proofs.SlotSteps.Continuing.{in_order, out_of_order, goes_text, goes_faults, goes_first, orders}
+use Rattle.giop_stream.proofs.SlotSteps.Continuing.{in_order, out_of_order, goes_text, goes_faults, goes_first, seam_here, seam_rising, orders}
+use Rattle.giop_message.specs.ReaderOfTable.{message_reader}
+use Rattle.giop_stream.specs.declared.fault.FramingFault.TheVariants.{FragmentOrder}
+use Rattle.giop_stream.proofs.SlotSteps.OneSlotChanges.{calm_fault}
+use Rattle.giop_stream.proofs.SlotSteps.Cases.{seam_effect}
 use Rattle.giop_stream.proofs.SlotSteps.SlotLists.{room_then}
 use Rattle.giop_stream.proofs.dispatch.continue_message.Goals as goal
 
@@ -29,7 +33,9 @@ returns-then-same_order-clause-does g c =
     rw (in_order C l c.args.slots.now c' owner m c.args.now h o f e order)
     (wrote_line _ _ _ _ (goes_text C l c.args.slots.now c' owner m c.args.now h o _ number)
     (goes_faults m o [] ∙ no_faults) c.in_ok-continues_line.ensures
-    (c.set_open_owner.ensures.kept C l c' _ o h.keeps here))
+    (rw (seam_here C l c.args.slots.now c' owner m c.args.now h o) at
+    (c.seam_old.ensures.kept C l c' c.args.k o (c.set_open_owner.ensures.kept C l c' _ o h.keeps
+    here) here h.rising)))
 
 pub returns-clause-does : goal.returns-clause-does
 returns-clause-does g c =
@@ -41,12 +47,23 @@ returns-clause-does g c =
     (opener_slot C l c.args.slots.now c' owner h.keeps c.args.k o _ here c.at-opener.ensures).1 in
     let order = orders C l c.args.slots.now c' owner m c.args.now h o _ _ _ _ c.order_of.ensures
     c.order_of-order.ensures header (sym c.if-same_order.ensures) in
-    let passed = c.set_open_owner.ensures.kept C l c' _ o h.keeps here in
+    let passed = rw (seam_here C l c.args.slots.now c' owner m c.args.now h o) at
+    (c.seam_old.ensures.kept C l c' c.args.k o (c.set_open_owner.ensures.kept C l c' _ o h.keeps
+    here) here h.rising) in
+    let seamed = (seam_effect (message_reader C l) c' m o).tracked in
     rw (out_of_order C l c.args.slots.now c' owner m c.args.now h o f e order)
     (line_then c.fault_message.result _ _ _ _
     (goes_text C l c.args.slots.now c' owner m c.args.now h o _ number)
     (goes_faults m o _) c.in_ok-continues_line.ensures
-    (c.fault_message.ensures.does C l c' _ passed number h.rising))
+    (c.fault_message.ensures.does C l seamed _ passed number
+    (seam_rising C l c.args.slots.now c' owner m c.args.now h o)
+    (calm_fault seamed c.args.now.place o.opener FragmentOrder refl)))
 
 pub returns-clause-room : goal.returns-clause-room
-returns-clause-room g c = room_then c.set_open_owner.ensures.room c.fault_message.ensures.room
+returns-clause-room g c =
+    room_then (room_then c.set_open_owner.ensures.room c.seam_old.ensures.room)
+    c.fault_message.ensures.room
+
+pub returns-then-same_order-clause-room : goal.returns-then-same_order-clause-room
+returns-then-same_order-clause-room g c =
+    room_then c.set_open_owner.ensures.room c.seam_old.ensures.room

@@ -7,8 +7,8 @@ use Rattle.giop_stream.specs.Framing.{with_payload}
 use Rattle.giop_stream.specs.Effects.{with_octet}
 use Rattle.giop_stream.specs.Further.{further}
 use Rattle.giop_stream.specs.DoesEffect.{DoesEffect}
-use Rattle.giop_stream.specs.PayloadOwner.{IsBeforeOctets, effect_before, octets_effect, owner_after}
-use Rattle.giop_stream.proofs.SlotSteps.Parts.{in_parts, some_come, come_is, taken_here, after_second, third_owner, at_last, takes_run}
+use Rattle.giop_stream.specs.PayloadOwner.{IsBeforeOctets, before_with, effect_before, octets_effect, owner_after}
+use Rattle.giop_stream.proofs.SlotSteps.Parts.{in_parts, some_come, newest_come, more_come, come_is, taken_here, after_second, third_owner, at_last, takes_run}
 use Rattle.giop_stream.proofs.SlotSteps.Performing.{performs_on, first_failed, call_failed, then_failed, done_then, counts_as}
 use Rattle.giop_stream.proofs.SlotSteps.AtHeader.{ready_later}
 use Rattle.giop_stream.proofs.CodeSteps.OwnerRuns.{if_err}
@@ -41,7 +41,8 @@ returns-in_err-count-clause-does g c = λ a c' m keeps rising agrees.
           let ran = effect_before C a c' m now q in
           let m' = at_last C a most c.args.slots.now c' m now q x h in
           let parts = in_parts (rules_by C a most) ran.tracked (with_octet m' x)
-          (some_come C a most ran.tracked m' now x h.last) in
+          (some_come C a most ran.tracked m' now x h.last)
+          (newest_come C a most ran.tracked m' now x h.last) in
           let behind = takes_run C a most c.args.slots.now c' m now q x h (take t.n octets)
           c.args.before.place split (omega (arith, ap length split, length_push q x)) in
           rw parts (performs_on _ _ _ (sym (append_assoc ran.lines _ _)) (λ k. k)
@@ -68,7 +69,7 @@ returns-in_err-named-clause-does g c = λ a c' m keeps rising agrees.
           (g.O.Out.log c.args.out.now) (g.O.Out.log c.at_fourth_octet.new.out)
           c.at_fourth_octet.new.slots
           (octets_effect C a most c' m now q x)
-          (owner_after (octets_effect C a most c' m now q x).tracked.still_open
+          (owner_after (before_with C a (octets_effect C a most c' m now q x).tracked)
           (with_octet (with_payload m (m.payload ++ q)) x)))
           (c.further-now.ensures ∙ ap (further c.args.before) (omega (
             arith,
@@ -80,7 +81,8 @@ returns-in_err-named-clause-does g c = λ a c' m keeps rising agrees.
           let ran = effect_before C a c' m now q in
           let m' = at_last C a most c.args.slots.now c' m now q x h in
           let parts = in_parts (rules_by C a most) ran.tracked (with_octet m' x)
-          (some_come C a most ran.tracked m' now x h.last) in
+          (some_come C a most ran.tracked m' now x h.last)
+          (newest_come C a most ran.tracked m' now x h.last) in
           let behind = takes_run C a most c.args.slots.now c' m now q x h (take t.n octets)
           c.args.before.place split (omega (
             arith,
@@ -95,7 +97,8 @@ returns-in_err-named-clause-does g c = λ a c' m keeps rising agrees.
           rw parts (performs_on _ _ _ (sym (append_assoc ran.lines _ _)) (λ k. k)
           (then_failed _ c.from_residual-in_err-named.result _ _ _ failed took
           (first_failed _ _ c.from_residual-in_err-named.result _ _ failed
-          (rw c.in_ok-count.ensures.most at (c.in_err-named.ensures.does C a _ _ taken))))));
+          (rw c.in_ok-count.ensures.most at (c.in_err-named.ensures.does C a _ _ taken
+          (more_come C a most ran.tracked m' now x h.last)))))));
     }
 
 pub returns-in_err-ended-clause-does : goal.returns-in_err-ended-clause-does
@@ -118,7 +121,7 @@ returns-in_err-ended-clause-does g c = λ a c' m keeps rising agrees.
           (g.O.Out.log c.args.out.now) (g.O.Out.log c.at_last_octet.new.out)
           c.at_last_octet.new.slots
           (octets_effect C a most c' m now q x)
-          (owner_after (octets_effect C a most c' m now q x).tracked.still_open
+          (owner_after (before_with C a (octets_effect C a most c' m now q x).tracked)
           (with_octet (with_payload m (m.payload ++ q)) x)))
           (c.further-now.ensures ∙ ap (further c.args.before) (omega (
             arith,
@@ -130,7 +133,8 @@ returns-in_err-ended-clause-does g c = λ a c' m keeps rising agrees.
           let ran = effect_before C a c' m now q in
           let m' = at_last C a most c.args.slots.now c' m now q x h in
           let parts = in_parts (rules_by C a most) ran.tracked (with_octet m' x)
-          (some_come C a most ran.tracked m' now x h.last) in
+          (some_come C a most ran.tracked m' now x h.last)
+          (newest_come C a most ran.tracked m' now x h.last) in
           let behind = takes_run C a most c.args.slots.now c' m now q x h (take t.n octets)
           c.args.before.place split (omega (
             arith,
@@ -141,7 +145,8 @@ returns-in_err-ended-clause-does g c = λ a c' m keeps rising agrees.
           let took = rw behind at t.all in
           let taken = taken_here C a most ran.tracked m' now x h.last c.take.new.self
           (rw h.same_owner took.kept) in
-          let named = rw c.in_ok-count.ensures.most at (c.in_ok-named.ensures.does C a _ _ taken) in
+          let named = rw c.in_ok-count.ensures.most at (c.in_ok-named.ensures.does C a _ _ taken
+          (more_come C a most ran.tracked m' now x h.last)) in
           let at = after_second C a most ran.tracked m' now x h.last c.at_fourth_octet.new.slots
           named.kept in
           let failed = c.from_residual-in_err-ended.ensures.0 in
@@ -173,7 +178,7 @@ returns-clause-does g c = λ a c' m keeps rising agrees.
           (g.O.Out.log c.args.out.now) (g.O.Out.log c.at_last_octet.new.out)
           c.at_last_octet.new.slots
           (octets_effect C a most c' m now q x)
-          (owner_after (octets_effect C a most c' m now q x).tracked.still_open
+          (owner_after (before_with C a (octets_effect C a most c' m now q x).tracked)
           (with_octet (with_payload m (m.payload ++ q)) x)))
           (c.further-now.ensures ∙ ap (further c.args.before) (omega (
             arith,
@@ -185,7 +190,8 @@ returns-clause-does g c = λ a c' m keeps rising agrees.
           let ran = effect_before C a c' m now q in
           let m' = at_last C a most c.args.slots.now c' m now q x h in
           let parts = in_parts (rules_by C a most) ran.tracked (with_octet m' x)
-          (some_come C a most ran.tracked m' now x h.last) in
+          (some_come C a most ran.tracked m' now x h.last)
+          (newest_come C a most ran.tracked m' now x h.last) in
           let behind = takes_run C a most c.args.slots.now c' m now q x h (take t.n octets)
           c.args.before.place split (omega (
             arith,
@@ -196,7 +202,8 @@ returns-clause-does g c = λ a c' m keeps rising agrees.
           let took = rw behind at t.all in
           let taken = taken_here C a most ran.tracked m' now x h.last c.take.new.self
           (rw h.same_owner took.kept) in
-          let named = rw c.in_ok-count.ensures.most at (c.in_ok-named.ensures.does C a _ _ taken) in
+          let named = rw c.in_ok-count.ensures.most at (c.in_ok-named.ensures.does C a _ _ taken
+          (more_come C a most ran.tracked m' now x h.last)) in
           let at = after_second C a most ran.tracked m' now x h.last c.at_fourth_octet.new.slots
           named.kept in
           let ended = c.in_ok-ended.ensures.does a _ _ at

@@ -5,7 +5,7 @@ use Rattle.giop_stream.specs.DoesEffect.{one_if}
 use Rattle.giop_stream.proofs.SlotSteps.Performing.{performs_on, line_then, line_failed, first_failed, call_failed, then_failed, done_then, counts_as}
 use Rattle.giop_stream.proofs.SlotSteps.AtHeader.{starts_faults}
 use Rattle.giop_stream.proofs.SlotSteps.Parts.{first, second}
-use Rattle.giop_stream.proofs.SlotSteps.Continuing.{said_faults, continues_at, opener_at, opener_is, behind_id, starts_text, said_text, all_lines, second_does, leaves, come}
+use Rattle.giop_stream.proofs.SlotSteps.Continuing.{said_faults, continues_at, any', opener_at, opener_is, behind_id, starts_text, said_text, all_lines, second_does, leaves, come}
 use Rattle.giop_stream.proofs.fragment.join_fragment.Goals as goal
 
 pub returns-in_err-start_line-clause-does : goal.returns-in_err-start_line-clause-does
@@ -38,7 +38,8 @@ returns-in_err-faulted-clause-does g c =
     let opener = opener_at C l s c' m c.args.now x c.args.found h in
     let named = second_does C l s c' m c.args.now x c.args.found h one_if _ _ _ _
     (c.in_err-faulted.ensures.does C l took _ (with_octet m x) opener.o
-    (continues_at C l s c' m c.args.now x c.args.found h) h.fragment
+    (continues_at C l s c' m c.args.now x c.args.found h)
+    (any' C l s c' m c.args.now x c.args.found h)
     (opener_is C l s c' m c.args.now x c.args.found h) opener.here) in
     line_then c.from_residual-in_err-faulted.result _ _ _ _
     (starts_text C l s c' m c.args.now x c.args.found h)
@@ -66,7 +67,8 @@ returns-in_err-ended-clause-does g c =
     let opener = opener_at C l s c' m c.args.now x c.args.found h in
     let named = second_does C l s c' m c.args.now x c.args.found h one_if _ _ _ _
     (c.in_ok-faulted.ensures.does C l took _ (with_octet m x) opener.o
-    (continues_at C l s c' m c.args.now x c.args.found h) h.fragment
+    (continues_at C l s c' m c.args.now x c.args.found h)
+    (any' C l s c' m c.args.now x c.args.found h)
     (opener_is C l s c' m c.args.now x c.args.found h) opener.here) in
     let ended =
     c.in_err-ended.ensures.does l (second R c' (with_octet m x)).tracked (with_octet m x)
@@ -94,7 +96,8 @@ returns-clause-does g c =
     let opener = opener_at C l s c' m c.args.now x c.args.found h in
     let named = second_does C l s c' m c.args.now x c.args.found h one_if _ _ _ _
     (c.in_ok-faulted.ensures.does C l took _ (with_octet m x) opener.o
-    (continues_at C l s c' m c.args.now x c.args.found h) h.fragment
+    (continues_at C l s c' m c.args.now x c.args.found h)
+    (any' C l s c' m c.args.now x c.args.found h)
     (opener_is C l s c' m c.args.now x c.args.found h) opener.here) in
     let ended =
     c.in_ok-ended.ensures.does l (second R c' (with_octet m x)).tracked (with_octet m x)

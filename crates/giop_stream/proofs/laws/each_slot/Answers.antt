@@ -1,4 +1,4 @@
-use Rattle.giop_stream.proofs.CodeSteps.EngineAlive.{rising_open}
+use Rattle.giop_stream.proofs.Cuts.OpenMessages.{rising_open}
 use Rattle.giop_stream.proofs.SlotSteps.OneSlotChanges.{own_then, others_then}
 use Rattle.giop_stream.proofs.SlotSteps.EventsInSlots.{slot_stays, slots_stay, slot_leaves, slots_left, slot_opens, tracked_stays}
 use Rattle.giop_stream.proofs.laws.each_slot.Goals as goal

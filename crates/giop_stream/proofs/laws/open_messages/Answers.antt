@@ -1,4 +1,4 @@
-use Rattle.giop_stream.proofs.CodeSteps.EngineAlive.{few_open}
+use Rattle.giop_stream.proofs.Cuts.OpenMessages.{few_open}
 use Rattle.giop_stream.proofs.laws.open_messages.Goals as goal
 
 pub returns : goal.returns

@@ -1,4 +1,4 @@
-use Rattle.std.proofs.Common.{◌+◌}
+use Rattle.std.proofs.Common.{◌+◌, Some}
 use Rattle.giop_stream.proofs.Restored.Loaded.{open_not_current, current_not_open, current_not_over}
 use Rattle.giop_stream.proofs.loading.add.Goals as goal
 
@@ -19,8 +19,8 @@ returns-in-Open-clause-one_open c l held is room =
 
 pub returns-in-Open-clause-one_current : goal.returns-in-Open-clause-one_current
 returns-in-Open-clause-one_current c l w xs is =
-    absurd (current_not_open c.args.catalogue.now l (c.args.octets + 1) c.args.first.now w xs _ is
-    c.in-Open.is)
+    absurd (current_not_open c.args.catalogue.now l (c.args.octets + 1) c.args.first.now w xs
+    (Some c.in-Open.id) is c.in-Open.is)
 
 pub returns-in-Over-clause-ready : goal.returns-in-Over-clause-ready
 returns-in-Over-clause-ready c e = c.add_over.ensures.room.ready _ _ c.requires.ready
@@ -33,5 +33,20 @@ returns-in-Over-clause-one_open c l held is room =
 
 pub returns-in-Over-clause-one_current : goal.returns-in-Over-clause-one_current
 returns-in-Over-clause-one_current c l w xs is =
-    absurd (current_not_over c.args.catalogue.now l (c.args.octets + 1) c.args.first.now w xs _ is
-    c.in-Over.is)
+    absurd (current_not_over c.args.catalogue.now l (c.args.octets + 1) c.args.first.now w xs
+    (Some c.in-Over.id) is c.in-Over.is)
+
+pub returns-then-joins-clause-one_open : goal.returns-then-joins-clause-one_open
+returns-then-joins-clause-one_open c l held is room =
+    let made = c.add_open-then-joins.ensures.again l held is c.in-OpenWithoutId.is room in
+    (made.0, made.1, c.add_open-then-joins.ensures.owner)
+
+pub returns-then-joins-2-clause-ready : goal.returns-then-joins-2-clause-ready
+returns-then-joins-2-clause-ready c e =
+    c.add_over-then-joins-2.ensures.room.ready _ _ c.requires.ready
+
+pub returns-then-joins-2-clause-one_open : goal.returns-then-joins-2-clause-one_open
+returns-then-joins-2-clause-one_open c l held is room =
+    let made = c.add_over-then-joins-2.ensures.again c.args.catalogue.now l (c.args.octets + 1) held
+    is c.in-OverWithoutId.is room in
+    (made.0, made.1, c.add_over-then-joins-2.ensures.owner)

@@ -1,7 +1,8 @@
-use Rattle.std.proofs.Common.{◌≡◌, ℕ, List, Option, ◌+◌, ◌-◌}
+use Rattle.std.proofs.Common.{◌≡◌, Option, ◌+◌, ◌-◌}
 use Rattle.giop_message.specs.Signatures.{Answers}
 use Rattle.giop_checkpoint.specs.Records.{AreRecords}
 use Rattle.giop_stream.specs.Events.{MessageKey}
+use Rattle.giop_stream.specs.Lines.{Kept}
 use Rattle.giop_stream.specs.SlotsRepresent.{AreReady}
 use Rattle.giop_stream.proofs.Restored.Loaded.{Completes}
 use Rattle.giop_stream.proofs.loading.add_all.Given as goal
@@ -11,7 +12,7 @@ invariant-loop l = record {
   ready : AreReady l.catalogue (l.octets + 1) l.slots;
   lengths : AreRecords (l.count - l.counter) l.rest;
   most : l.slots.slots.most ≡ l.initial.slots.slots.most;
-  completes : (a : Answers) (w : MessageKey) (xs : Option (List ℕ)) →
+  completes : (a : Answers) (w : MessageKey) (xs : Option Kept) →
       Completes l.catalogue a (l.octets + 1) l.count l.records w xs
       l.initial.slots l.slots
       (l.count - l.counter) l.rest;

@@ -1,4 +1,5 @@
-use Rattle.std.proofs.Common.{◌+◌}
+use Rattle.std.proofs.Common.{◌+◌, ap, arith}
+use Rattle.giop_stream.specs.Reloading.{lacks_key}
 use Rattle.giop_stream.proofs.Restored.Loaded.{open_again, added_one}
 use Rattle.giop_stream.proofs.loading.add_open.Goals as goal
 
@@ -12,7 +13,8 @@ returns-then-is_some-clause-again c l held is opened room =
     let made = open_again c.args.catalogue.now l c.args.octets c.args.first.now held c.args.id
     c.message_of-message.result
     is opened c.message_of-message.ensures.again in
-    let put = c.push.ensures.added room in
+    let put = c.push.ensures.added (omega (arith, room.room))
+    (omega (arith, room.one, ap lacks_key made.1.key)) in
     (put.0, added_one c.args.catalogue.now l _ _ _ held put.1 made.1)
 
 pub returns-else-is_some-clause-again : goal.returns-else-is_some-clause-again

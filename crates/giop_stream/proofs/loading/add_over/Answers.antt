@@ -1,3 +1,5 @@
+use Rattle.std.proofs.Common.{ap, arith}
+use Rattle.giop_stream.specs.Reloading.{lacks_key}
 use Rattle.giop_stream.proofs.Restored.Loaded.{over_again, added_one}
 use Rattle.giop_stream.proofs.loading.add_over.Goals as goal
 
@@ -10,5 +12,6 @@ returns-then-is_zero-clause-room c = record {
 pub returns-then-is_zero-clause-again : goal.returns-then-is_zero-clause-again
 returns-then-is_zero-clause-again c C l n held is over room =
     let made = over_again C l n c.args.first.now held c.args.id is over in
-    let put = c.push.ensures.added room in
+    let put = c.push.ensures.added (omega (arith, room.room))
+    (omega (arith, room.one, ap lacks_key made.2.key)) in
     (put.0, added_one C l _ _ _ held put.1 made.2)

@@ -1,5 +1,4 @@
 use Rattle.std.proofs.Common.{◌≡◌, refl, ℕ, Bool, Some, length, take}
-use Rattle.giop_message.specs.Phases.{unbroken}
 use Rattle.giop_message.specs.HeaderEnds.{AgreesAtEnds, after_ends}
 use Rattle.giop_message.specs.DueOctets.{StaysUndue}
 use Rattle.giop_stream.specs.DoesEffect.{one_if}
@@ -27,7 +26,7 @@ returns-in_err-count-clause-does g c = λ a w o k agrees.
     c.from_residual.ensures.0 (Some c.take.new.self)
     (StaysUndue g.Q.Correspondent.due g.Q.Correspondent.notified c.args.catalogue.now _) _ _ o
     (rw c.in-Some.is at k)
-    (λ s e f. c.in_err-count.ensures.writes a unbroken w.number w.header s f (rw e at agrees))
+    (λ s e f. c.in_err-count.ensures.writes a s.phase w.number w.header s.octets f (rw e at agrees))
 
 pub returns-then-not-is_over-clause-does : goal.returns-then-not-is_over-clause-does
 returns-then-not-is_over-clause-does g c = λ a w o k agrees.
@@ -36,9 +35,9 @@ returns-then-not-is_over-clause-does g c = λ a w o k agrees.
     (StaysUndue g.Q.Correspondent.due g.Q.Correspondent.notified c.args.catalogue.now _) o
     (rw c.in-Some.is at k)
     (λ s e f. rw c.if-not-is_over.true at
-    (c.in_ok-count.ensures.writes a unbroken w.number w.header s f (rw e at agrees)))
+    (c.in_ok-count.ensures.writes a s.phase w.number w.header s.octets f (rw e at agrees)))
     (λ s e f. rw c.if-not-is_over.true at
-    (c.in_ok-count.ensures.took a unbroken w.number w.header s f (rw e at agrees)))
+    (c.in_ok-count.ensures.took a s.phase w.number w.header s.octets f (rw e at agrees)))
 
 pub returns-then-not-is_over-clause-told : goal.returns-then-not-is_over-clause-told
 returns-then-not-is_over-clause-told g c = λ a w o k agrees.
@@ -49,7 +48,8 @@ returns-then-not-is_over-clause-told g c = λ a w o k agrees.
     (g.Q.Correspondent.state c.args.correspondent.now)
     (ends (take c.in_ok-count.count c.args.octets.now)))
     c.args.catalogue.now a c.in-Some.m w o (rw c.in-Some.is at k)
-    (λ s e f agrees. c.in_ok-count.ensures.told a unbroken w.number w.header s f agrees) agrees
+    (λ s e f agrees. c.in_ok-count.ensures.told a s.phase w.number w.header s.octets f agrees)
+    agrees
 
 pub returns-clause-does : goal.returns-clause-does
 returns-clause-does g c = λ a w o k agrees.
@@ -58,10 +58,10 @@ returns-clause-does g c = λ a w o k agrees.
     g.Q.Correspondent.due g.Q.Correspondent.notified _ _ c.in_ok-count.count o
     (rw c.in-Some.is at k)
     (λ s e f. rw c.if-not-is_over.false at
-    (c.in_ok-count.ensures.writes a unbroken w.number w.header s f (rw e at agrees)))
+    (c.in_ok-count.ensures.writes a s.phase w.number w.header s.octets f (rw e at agrees)))
     (λ s e f. rw c.if-not-is_over.false at
-    (c.in_ok-count.ensures.took a unbroken w.number w.header s f (rw e at agrees)))
-    (λ s e f. c.in_ok-count.ensures.told a unbroken w.number w.header s f (rw e at agrees))
+    (c.in_ok-count.ensures.took a s.phase w.number w.header s.octets f (rw e at agrees)))
+    (λ s e f. c.in_ok-count.ensures.told a s.phase w.number w.header s.octets f (rw e at agrees))
     (λ calm. c.in_ok-count.ensures.over calm c.if-not-is_over.false))
 
 pub returns-clause-told : goal.returns-clause-told
@@ -71,5 +71,5 @@ returns-clause-told g c = λ a w o k agrees.
     g.Q.Correspondent.due g.Q.Correspondent.notified _ _ c.in_ok-count.count o
     (rw c.in-Some.is at k)
     (λ s e f. rw c.if-not-is_over.false at
-    (c.in_ok-count.ensures.took a unbroken w.number w.header s f (rw e at agrees)))
-    (λ s e f. c.in_ok-count.ensures.told a unbroken w.number w.header s f (rw e at agrees))
+    (c.in_ok-count.ensures.took a s.phase w.number w.header s.octets f (rw e at agrees)))
+    (λ s e f. c.in_ok-count.ensures.told a s.phase w.number w.header s.octets f (rw e at agrees))

@@ -7,4 +7,4 @@ pub returns-clause-holds : goal.returns-clause-holds
 returns-clause-holds c = λ a.
     let e = c.in_ok-new.field-0 in
     c.answers_agree.ensures.held e (by_list e.request_table) a []
-    (agree_start e.most (by_list e.request_table) a) c.in_ok-new.ensures.holds
+    (agree_start e.table e.most (by_list e.request_table) a) c.in_ok-new.ensures.holds

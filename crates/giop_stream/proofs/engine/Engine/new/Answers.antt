@@ -17,5 +17,6 @@ returns-clause-holds c =
       octets = All-nil (λ x. x < 256);
       shows =
           rw (start_is (rules C l c.in-Ok.framing.slots.slots.most))
-          (c.in-Ok.ensures.shows C (by_list l));
+          (c.in-Ok.ensures.shows C (by_list l) c.in-Ok.framing.slots.slots.most
+          c.joins.ensures);
     }

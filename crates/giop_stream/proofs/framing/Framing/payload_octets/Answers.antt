@@ -1,6 +1,8 @@
-use Rattle.std.proofs.Common.{◌≡◌, ℕ, suc, ◌+◌, length, arith, refl, sym, ap, ◌∙◌}
+use Rattle.std.proofs.Common.{◌≡◌, ℕ, suc, ◌+◌, List, length, take, arith, refl, sym, ap, subst, ◌∙◌}
 use Rattle.std.proofs.lemmas.List.{length_push, length-take-le}
 use Rattle.giop_message.specs.Headers.{size}
+use Rattle.giop_message.specs.DueOctets.{StaysUndue}
+use Rattle.giop_message.specs.HeaderEnds.{HeaderEnd, AgreesAtEnds, after_ends}
 use Rattle.giop_stream.specs.declared.current.Current.{Current}
 use Rattle.giop_stream.specs.Further.{further}
 use Rattle.giop_stream.specs.Rules.{rules_by}
@@ -10,6 +12,7 @@ use Rattle.giop_print.proofs.Writing.{writes_failed}
 use Rattle.giop_stream.proofs.CodeSteps.MessageOctets.{has_current}
 use Rattle.giop_stream.proofs.CodeSteps.MessageEnds.{on_err, ready_settled}
 use Rattle.giop_stream.proofs.CodeSteps.OwnerRuns.{if_err}
+use Rattle.giop_stream.proofs.CodeSteps.HeaderEndSteps.{run_ends}
 use Rattle.giop_stream.proofs.CodeSteps.PayloadRunSteps.{octets_are, run_keeps, parts, taken_before, taken_does, taken_shows}
 use Rattle.giop_stream.proofs.framing.Framing.payload_octets.Goals as goal
 
@@ -22,6 +25,7 @@ returns-in_err-count-clause-does g c a s r h agrees =
     let octets = c.args.octets.now in
     let asks = c.requires in
     let here = has_current C a most s r m h asks.running asks.full in
+    let ends = run_ends C a most s r m h asks.running here.0 here.1 in
     let known = c.current-before.ensures in
     let at : (c.current-before.result.number ≡ m.totals.messages)
     × (c.current-before.result.header ≡ m.header)
@@ -31,7 +35,9 @@ returns-in_err-count-clause-does g c a s r h agrees =
     let whole = taken_before C a most s r m h asks.running here.0 here.1 octets asks.apart asks.few
     asks.limit (length octets) asks.some (omega arith) c.current-before.result at in
     let t = c.in_err-count.ensures.does a (tracked_after (rules_by C a most) r.stream) here.0
-    whole.keeps whole.rising (rw here.1 at agrees) in
+    whole.keeps whole.rising (subst (AgreesAtEnds g.Q.Correspondent.answer
+    g.Q.Correspondent.notified C (g.Q.Correspondent.state c.args.correspondent.now) a)
+    (ends octets) agrees) in
     let failed = c.from_residual.ensures.0 in
     let some = t.some asks.some in
     let p = parts C a most s r m h asks.running here.0 here.1 octets asks.apart asks.few
@@ -43,7 +49,10 @@ returns-in_err-count-clause-does g c a s r h agrees =
       counted = if_err _ c.from_residual.result failed;
       within = t.within;
       some = t.some;
-      fronts = λ k few. rw here.1 (t.fronts k few);
+      fronts = λ k few. subst (λ (of : List ℕ → List HeaderEnd). StaysUndue
+          g.Q.Correspondent.due g.Q.Correspondent.notified C
+          (g.Q.Correspondent.state c.args.correspondent.now) of (take k octets))
+          (λ j xs. sym (ends xs) j) (t.fronts k few);
       all = taken_does C a most s r m h asks.running here.0 here.1 octets asks.apart asks.few
           asks.limit t.n some t.within c.current-before.result at _ _ _ _
           (writes_failed c.from_residual.result (g.O.Out.log c.args.out.now)
@@ -60,6 +69,7 @@ returns-clause-does g c a s r h agrees =
     let octets = c.args.octets.now in
     let asks = c.requires in
     let here = has_current C a most s r m h asks.running asks.full in
+    let ends = run_ends C a most s r m h asks.running here.0 here.1 in
     let known = c.current-before.ensures in
     let at : (c.current-before.result.number ≡ m.totals.messages)
     × (c.current-before.result.header ≡ m.header)
@@ -69,7 +79,9 @@ returns-clause-does g c a s r h agrees =
     let whole = taken_before C a most s r m h asks.running here.0 here.1 octets asks.apart asks.few
     asks.limit (length octets) asks.some (omega arith) c.current-before.result at in
     let t = c.in_ok-count.ensures.does a (tracked_after (rules_by C a most) r.stream) here.0
-    whole.keeps whole.rising (rw here.1 at agrees) in
+    whole.keeps whole.rising (subst (AgreesAtEnds g.Q.Correspondent.answer
+    g.Q.Correspondent.notified C (g.Q.Correspondent.state c.args.correspondent.now) a)
+    (ends octets) agrees) in
     let some = t.some asks.some in
     let p = parts C a most s r m h asks.running here.0 here.1 octets asks.apart asks.few
     asks.limit t.n some t.within c.current-before.result at in
@@ -94,7 +106,10 @@ returns-clause-does g c a s r h agrees =
       counted = t.counted;
       within = t.within;
       some = t.some;
-      fronts = λ k few. rw here.1 (t.fronts k few);
+      fronts = λ k few. subst (λ (of : List ℕ → List HeaderEnd). StaysUndue
+          g.Q.Correspondent.due g.Q.Correspondent.notified C
+          (g.Q.Correspondent.state c.args.correspondent.now) of (take k octets))
+          (λ j xs. sym (ends xs) j) (t.fronts k few);
       all = taken_does C a most s r m h asks.running here.0 here.1 octets asks.apart asks.few
           asks.limit t.n some t.within c.current-before.result at _ _ _ _ does.text
           (taken_shows C a most s r m h asks.running here.0 here.1 octets asks.apart asks.few
@@ -120,8 +135,13 @@ returns-clause-told g c a s r h agrees =
     let octets = c.args.octets.now in
     let asks = c.requires in
     let here = has_current C a most s r m h asks.running asks.full in
+    let ends = run_ends C a most s r m h asks.running here.0 here.1 in
+    let st = g.Q.Correspondent.state c.args.correspondent.now in
     let (q, (x, e)) = octets_are octets asks.some in
     let keeps = run_keeps C a most s r m h asks.running here.0 here.1 octets q x e asks.apart
     asks.few asks.limit in
-    rw here.1 (c.in_ok-count.ensures.told a (tracked_after (rules_by C a most) r.stream) here.0
-    keeps (rw here.1 at agrees))
+    c.in_ok-count.ensures.told a (tracked_after (rules_by C a most) r.stream) here.0 keeps
+    (subst (AgreesAtEnds g.Q.Correspondent.answer g.Q.Correspondent.notified C st a) (ends octets)
+    agrees)
+    ∙ ap (after_ends g.Q.Correspondent.notified C st)
+    (sym (ends (take c.in_ok-count.count octets)))

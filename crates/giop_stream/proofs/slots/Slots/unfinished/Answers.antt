@@ -1,4 +1,4 @@
-use Rattle.std.proofs.Common.{take_all, sym, ◌∙◌}
+use Rattle.std.proofs.Common.{None, take_all, sym, ◌∙◌}
 use Rattle.giop_print.proofs.Writing.{wrote-nil, wrote-append, front-parts, flat_map-take}
 use Rattle.giop_print.proofs.Writing.{writes_failed}
 use Rattle.giop_stream.specs.SlotsRepresent.{OpenEntry}
@@ -11,7 +11,7 @@ returns-in_err-unfinished_line g c = λ C l slots h.
     let items = c.args.self.now.slots.entries in
     let i = c.loop-k.k in
     let below = rw c.len-k-end.ensures.value at c.loop-k-test.true in
-    let none : OpenEntry = record { key = 0; value = c.at-slot.result.now } in
+    let none : OpenEntry = record { key = None; value = c.at-slot.result.now } in
     let text = slot_says items i c.at-slot.result.now none c.at-slot.ensures
     (sym c.is_some.ensures ∙ c.if-is_some.true) in
     rw (slots_left C l items slots h) (writes_failed _ _ _ _ c.from_residual.ensures.0
@@ -23,7 +23,7 @@ loop-k-preserved g c =
     let items = c.args.self.now.slots.entries in
     let i = c.loop-k.k in
     let below = rw c.len-k-end.ensures.value at c.loop-k-test.true in
-    let none : OpenEntry = record { key = 0; value = c.at-slot.result.now } in
+    let none : OpenEntry = record { key = None; value = c.at-slot.result.now } in
     elim c.if-is_some.branch [
       | then-is_some+in_ok-unfinished_line w ↦
           rw (

@@ -1,0 +1,22 @@
+use Rattle.std.proofs.Common.{None}
+use Rattle.giop_stream.proofs.SlotSteps.EventsOnSlots.{open_keeps}
+use Rattle.giop_stream.proofs.SlotSteps.SlotLists.{push_ready}
+use Rattle.giop_stream.proofs.slots.Slots.open_without_id.Goals as goal
+
+pub returns : goal.returns
+returns c = record {
+  kept = λ C l c' w place h apart n f.
+      open_keeps C l c.args.self.now c.add_without_id.new.self c' w place c.args.number
+      c.args.header
+      None c.take_current-message.result c.len.result c.add_without_id.ensures.entries
+      c.take_current-message.ensures c.len.ensures.value h apart n f;
+  room = record {
+    most = c.add_without_id.ensures.most;
+    ready = λ C n h. record {
+      current_ready = tt;
+      each_ready = rw c.add_without_id.ensures.entries
+          (push_ready C n c.args.self.now.slots.entries _
+          (rw c.take_current-message.ensures h.current_ready) h.each_ready);
+    };
+  };
+}
